@@ -27,7 +27,7 @@ pub(crate) fn range(rt: &impl Abort, text: &str) -> (usize, usize) {
     (number(rt, first) as usize, number(rt, last) as usize)
 }
 
-/// A command over an image, and what is wanted of it.
+/// A command over an image, and its expected outcome.
 #[derive(Clone, Copy)]
 pub(crate) struct Case<'a> {
     /// The first line, by which a failure names the case.

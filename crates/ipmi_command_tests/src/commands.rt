@@ -20,6 +20,7 @@ mod long_inventory;
 mod long_listings;
 mod moods;
 mod newest;
+mod objects;
 pub(crate) mod outcome;
 mod outcomes;
 mod outputs;

@@ -1,8 +1,8 @@
 -- What is known after a reading, an info or an inventory was asked for.
-use Rattle.std.proofs.Common.{◌≡◌, inl, ℕ, ◌+◌, ◌≤◌, ◌==◌, Bool, true, false, codes, Option, None, Result, Ok, Err, List, [], ◌∷◌, refl, sym, ap, subst, ◌∙◌, arith, IsErrAnd, IsTrue}
-use Rattle.ipmi_commands.specs.Below.{CodeClass, CursorState, Failure, RefusesRecord, RefusesValue, IsStep, StepLeaves, Ended, FruEnded, EndsUnder, ReadsValue, ReadsInventory, IsRefusedInventory, IsRefusedOverChange, Seen, IsHonest, Store, inventory_of, IsFruText}
+use Rattle.std.proofs.Common.{◌≡◌, ℕ, Bool, false, Result, Err, List, refl, arith, IsErrAnd}
+use Rattle.ipmi_commands.specs.Below.{CodeClass, CursorState, Failure, RefusesRecord, RefusesValue, IsStep, StepLeaves, Ended, Seen, IsHonest}
 use Rattle.ipmi_commands.specs.Run.{MayEndOn}
-use Rattle.ipmi_commands.specs.Prelude.{end_of, ending_of, EndsListing, failure_of, Form, LacksPiece, shelf_of, Unread, cause_of_unread, AtEnd, Cause, NoMemory, CountsSo, IsFine, is_absent, AsksAt, FindsIt, FindsNone, IsInventoryText, Spot, AtRecord, AtInventory}
+use Rattle.ipmi_commands.specs.Prelude.{end_of, ending_of, EndsListing, failure_of, Form, LacksPiece, shelf_of, Unread, AtEnd, Cause, CountsSo, IsFine, AsksAt, Spot}
 use Rattle.ipmi_commands.proofs.CountLemmas.{ends_as, ends_here}
 
 -- why it failed is passed up

@@ -1,12 +1,12 @@
 mod AskLemmas
 mod CallLemmas
 mod CountLemmas
-mod EventsLemmas
 mod ExistenceLemmas
 mod ItemLemmas
 mod LastLemmas
 mod ListingLemmas
 mod NameLemmas
+mod NamedLemmas
 mod PageLemmas
 mod PagesLaw
 mod PerformLemmas

@@ -5,11 +5,11 @@ use Rattle.std.specs.FinSet as set
 use Rattle.std.specs.FinSet.{len-empty}
 use Rattle.std.specs.Ordering.{nat_cmp}
 use Rattle.ipmi_commands.specs.Below.{step_call_bound, digits, End, First, first_row, KeepsReservations, len_of, look, Shelf, current, Place, Ended, Row, Store, rows_of, MayFail, WalkEnd, WalkStep, Done, CycleAt, MissingAt, place_after, place_after_rows, Seen, IsHonest, AsksNothing, CursorState, CursorHoldsCurrent, StandsAt, FailsAt, IsStep, NotGivenUpOrRefused, StepAnswers, StepIsHonest, StepLeaves, asked_at, TakesPart, Ending, Failure, CommandState, start_of}
-use Rattle.ipmi_commands.specs.Prelude.{AsksAt, AtEnd, AtRecord, CallsAlong, calls_for, Cause, cause_of, cause_of_unread, Change, change, CountsSo, end_of, spots_at_walk_end, ending_of, EndsFor, failure_of, FindsIt, FindsNone, first_end, first_rows, Form, HasFirstItems, IsAllowed, IsAmong, IsFine, IsFresh, IsOnWalk, is_reached, most_on_walk, OnWalk, walk_call_bound, IsTextOver, IsRowText, listing, listing_plan, Lists, ListsAlong, ListsHonestly, Item, IsStopAmong, most_after, most_for_one, OnEachWalk, Plan, Printed, row_items, rows_end, shelf_of, Spot, spots_because_of, StopsAt, Unread}
+use Rattle.ipmi_commands.specs.Prelude.{AsksAt, AtEnd, AtRecord, CallsAlong, calls_for, Cause, cause_of, cause_of_unread, Change, change, CountsSo, end_of, spots_at_walk_end, ending_of, EndsFor, failure_of, FindsIt, FindsNone, first_end, first_rows, Form, HasFirstItems, IsAllowed, IsAmong, IsFine, IsFresh, IsOnWalk, is_reached, OnWalk, walk_call_bound, IsTextOver, IsRowText, listing, listing_plan, Lists, ListsAlong, ListsHonestly, Item, IsStopAmong, most_after, most_for_one, OnEachWalk, Plan, Printed, row_items, rows_end, shelf_of, Spot, spots_because_of, StopsAt, Unread}
 use Rattle.ipmi_commands.proofs.AskLemmas.{asks_as}
 use Rattle.ipmi_commands.proofs.CallLemmas.{HasCalled, IsWithin, at_limit, called_ended, called_more, called_stopped, calls_ended, digits_some, first_end-all, first_end-none, first_row-first_rows, first_rows-all, next_calls, next_one, none_left, not_at_limit, place_after_rows-append, within_more}
-use Rattle.ipmi_commands.proofs.CountLemmas.{between, ends_here, ends_since}
-use Rattle.ipmi_commands.proofs.ItemLemmas.{cut_after, none_printed, one_printed, printed_joined, row_item, row_items-next, row_items-split, stops_after}
+use Rattle.ipmi_commands.proofs.CountLemmas.{between, ends_since}
+use Rattle.ipmi_commands.proofs.ItemLemmas.{cut_after, one_printed, printed_joined, row_item, row_items-next, row_items-split, stops_after}
 use Rattle.ipmi_commands.proofs.NameLemmas.{end_of-wrote, Wrote, wrote_more}
 use Rattle.ipmi_commands.proofs.SpotLemmas.{asked_first, end_spot, spots_at_walk_end-joined}
 

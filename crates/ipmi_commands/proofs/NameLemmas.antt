@@ -1,7 +1,7 @@
 -- Whether a record of a name was found, by whether anything was written.
-use Rattle.std.proofs.Common.{◌≡◌, ℕ, ◌<◌, ◌==◌, ◌||◌, not, Bool, true, false, List, [], ◌∷◌, ◌++◌, length, refl, ap, ◌∙◌, append-nil, arith, length-append}
-use Rattle.ipmi_commands.specs.Below.{Place, Row, Store, Done, place_after}
-use Rattle.ipmi_commands.specs.Prelude.{AreTexts, end_of, ending_of, Form, IsTextOver, Printed, row_items, rows_end, some_has_name, Wording}
+use Rattle.std.proofs.Common.{◌≡◌, ℕ, ◌<◌, ◌==◌, ◌||◌, not, Bool, true, false, Option, Result, Ok, Err, List, [], ◌∷◌, ◌++◌, length, refl, ap, ◌∙◌, append-nil, arith, length-append}
+use Rattle.ipmi_commands.specs.Below.{Place, Reading, Row, SdrFault, SdrView, sdr_view_of, Store, Done, place_after}
+use Rattle.ipmi_commands.specs.Prelude.{AreTexts, end_of, ending_of, Form, IfChosen, IsBlockIn, IsBlockOfName, IsTextOver, Printed, reading_for, row_items, rows_end, some_has_name, view_has_name, Wording}
 
 -- ---- whether anything was written
 
@@ -16,15 +16,38 @@ wrote_more wrote old new more (b ∷ text) has is = grind (arith, ap length is �
 
 -- ---- texts of records with a name
 
+-- a block is not empty, as it begins with the word Record, nor is an object, as it ends with a line feed
+block_some : (wording : Wording) (id : ℕ) (view : SdrView) (reading : Option Reading) (text : List ℕ)
+    → IsBlockIn wording id view reading text → Wrote true [] text
+block_some Wording.Codes id view reading text is = grind (arith, length-append, is)
+block_some Wording.Words id view reading text is = grind (arith, length-append, is)
+block_some (Wording.Json labels) id view reading text is = grind (arith, length-append, is.is_line.line_is)
+
+wrote_both : (a b : Bool) (first rest : List ℕ) → Wrote a [] first → Wrote b [] rest
+    → Wrote (a || b) [] (first ++ rest)
+wrote_both true b first rest x y = omega (arith, length-append first rest, x)
+wrote_both false true first rest x y = omega (arith, length-append first rest, y)
+wrote_both false false first rest x y = rw (x, y) refl
+
 module _ (wording : Wording) (name : List ℕ) (store : Store) where
-  -- a block is not empty, as it begins with the word Record
+  chosen_wrote : (b : Bool) (id : ℕ) (view : SdrView) (text : List ℕ)
+      → IfChosen b (λ t. IsBlockIn wording id view (reading_for store view) t) text → Wrote b [] text
+  chosen_wrote true id view text is = block_some wording id view (reading_for store view) text is
+  chosen_wrote false id view text is = is
+
+  row_wrote : (id : ℕ) (view : Result SdrView SdrFault) (text : List ℕ)
+      → IsBlockOfName wording name store id view text → Wrote (view_has_name name view) [] text
+  row_wrote id (Ok view) text is = chosen_wrote _ id view text is
+  row_wrote id (Err fault) text is = is
+
   -- something is printed where a row has the name
   name_wrote : (start : Place) (rows : List Row) (text : List ℕ)
       → AreTexts (IsTextOver store) (row_items (Form.Block wording name) start rows) text
       → Wrote (some_has_name name rows) [] text
   name_wrote start [] text are = are
   name_wrote start (row ∷ rows) text are =
-      rw are.joined (grind (arith, length-append, are.is_first, name_wrote (place_after row.next) rows are.rest are.is_rest))
+      rw are.joined (wrote_both _ _ are.first are.rest (row_wrote row.id (sdr_view_of row.bytes) are.first are.is_first)
+      (name_wrote (place_after row.next) rows are.rest are.is_rest))
 
 -- what was written tells how the listing of the rows ends
 pub end_of-wrote : (form : Form) (wrote : Bool) (count : ℕ) (store : Store) (start : Place)

@@ -1,5 +1,5 @@
 -- A task of one text, and all inventories: a text and then a listing.
-use Rattle.std.proofs.Common.{◌≡◌, ℕ, ◌+◌, ◌≤◌, IsTrue, Option, None, Some, Result, Ok, Err, String, string_bytes, Global, List, [], ◌∷◌, ◌++◌, option_map, refl, arith}
+use Rattle.std.proofs.Common.{◌≡◌, ℕ, ◌+◌, ◌≤◌, IsTrue, Option, None, Some, Result, Ok, Err, Vec, Global, List, [], ◌∷◌, ◌++◌, option_map, refl, arith}
 use Rattle.ipmi_commands.specs.Below.{fru_call_bound, Shelf, Place, First, Seen, IsHonest, Row, Store, info_of, inventory_of, WalkEnd, Ending, Failure}
 use Rattle.ipmi_commands.specs.Run.{EndsInfo, EndsInventory}
 use Rattle.ipmi_commands.specs.Prelude.{LacksInventory, LacksValue, AtEnd, AtRecord, cause_of, change, ending_of, spots_at_walk_end, EndsFor, EndsListing, failure_of, Finds, Form, info_plan, inventories_plan, AtInventory, inventory_item, inventory_plan, IsInventoryIn, most_on_walk, IsAllowed, IsAmong, IsInfoText, IsPage, IsTextOver, Item, Job, listing, listing_plan, IsStopAmong, OfInfo, OfInventory, Plan, row_items, Runs, Spot, next_spots, Subject, text_plan, Unread, Wording, WritesText}
@@ -30,75 +30,77 @@ none_leaves IsText p text ending may = stops_after IsText p text text ending (ca
 
 -- ---- the info of a shelf
 
-info_leaves : (store : Store) (o : Option (List ℕ)) (text old new : List ℕ) (ending : Ending)
-    → IsInfoText o (Some text) → WritesText text old new ending
-    → IsAllowed (IsTextOver store) (info_plan o) old new ending
-info_leaves store None text old new ending is writes = absurd is
-info_leaves store (Some info) text old new ending is writes =
-    text_leaves (IsTextOver store) (OfInfo info) (AtRecord 0 ∷ []) old new text ending is writes
+info_leaves : (wording : Wording) (shelf : Shelf) (store : Store) (o : Option (List ℕ))
+    (text old new : List ℕ) (ending : Ending)
+    → IsInfoText wording shelf o (Some text) → WritesText text old new ending
+    → IsAllowed (IsTextOver store) (info_plan wording shelf o) old new ending
+info_leaves wording shelf store None text old new ending is writes = absurd is
+info_leaves wording shelf store (Some info) text old new ending is writes =
+    text_leaves (IsTextOver store) (OfInfo wording shelf info) (AtRecord 0 ∷ []) old new text ending is writes
 
-info_spots : (o : Option (List ℕ)) → next_spots (info_plan o).items (info_plan o).end_spots ≡ AtRecord 0 ∷ []
-info_spots o = grind arith
+info_spots : (wording : Wording) (shelf : Shelf) (o : Option (List ℕ))
+    → next_spots (info_plan wording shelf o).items (info_plan wording shelf o).end_spots ≡ AtRecord 0 ∷ []
+info_spots wording shelf o = grind arith
 
 value_ends : (seen : Seen) (unread : Unread) → LacksValue unread seen
     → EndsInfo seen (Err (failure_of unread))
 value_ends seen unread says = grind arith
 
 -- what is said of all that an info may come to
-module _ (shelf : Shelf) (tries : ℕ) (s s' : Seen) (calls : s'.calls ≤ s.calls + (tries + 1)) where
-  abbrev FoundInfo : Result (Option (String Global)) Unread → Type 0
-  FoundInfo result = IsHonest s → Finds (λ store found. IsInfoText (info_of shelf store) (option_map (λ text. string_bytes text) found)) (AtRecord 0 ∷ []) tries s s' result
+module _ (wording : Wording) (shelf : Shelf) (tries : ℕ) (s s' : Seen) (calls : s'.calls ≤ s.calls + (tries + 1)) where
+  abbrev FoundInfo : Result (Option (Vec ℕ Global)) Unread → Type 0
+  FoundInfo result = IsHonest s → Finds (λ store found. IsInfoText wording shelf (info_of shelf store) (option_map (λ text. text.items) found)) (AtRecord 0 ∷ []) tries s s' result
 
-  pub info_found : (old new : List ℕ) (text : String Global) (ending : Ending)
+  pub info_found : (old new : List ℕ) (text : Vec ℕ Global) (ending : Ending)
       → FoundInfo (Ok (Some text))
-      → WritesText (string_bytes text) old new ending
-      → Runs (Job.Info shelf) tries (change s s' old new) ending
+      → WritesText text.items old new ending
+      → Runs (Job.Info wording shelf) tries (change s s' old new) ending
   info_found old new text ending finds writes = record {
     calls = calls;
     ends = grind arith;
-    why = λ h. text_ends tries (IsTrue s.plain) s s' (string_bytes text) old new ending (finds h).asks.ends writes;
-    prints = λ h same. (info_leaves s.store (info_of shelf s.store) (string_bytes text) old new ending ((finds h).is same) writes, calls);
+    why = λ h. text_ends tries (IsTrue s.plain) s s' text.items old new ending (finds h).asks.ends writes;
+    prints = λ h same. (info_leaves wording shelf s.store (info_of shelf s.store) text.items old new ending ((finds h).is same) writes, calls);
   }
 
   pub info_unread : (text : List ℕ) (unread : Unread) → LacksValue unread s'
       → FoundInfo (Err unread)
-      → Runs (Job.Info shelf) tries (change s s' text text) (Err (failure_of unread))
+      → Runs (Job.Info wording shelf) tries (change s s' text text) (Err (failure_of unread))
   info_unread text unread says none = record {
     calls = calls;
     ends = value_ends s' unread says;
     why = λ h. (none h).asks.ends;
-    prints = λ h same. (none_leaves (IsTextOver s.store) (info_plan (info_of shelf s.store)) text (Err (failure_of unread)) (rw info_spots (none h).there), calls);
+    prints = λ h same. (none_leaves (IsTextOver s.store) (info_plan wording shelf (info_of shelf s.store)) text (Err (failure_of unread)) (rw info_spots (none h).there), calls);
   }
 
 -- ---- one inventory
 
-module _ (wording : Wording) (id tries : ℕ) (s s' : Seen) (calls : s'.calls ≤ s.calls + fru_call_bound tries 65535) where
-  abbrev FoundInventory : Result (String Global) Unread → Type 0
-  FoundInventory result = IsHonest s → Finds (λ store text. IsInventoryIn wording id None (inventory_of id store) (string_bytes text)) (AtInventory id ∷ []) tries s s' result
+module _ (wording : Wording) (id : ℕ) (name : Option (List ℕ)) (tries : ℕ) (s s' : Seen) (calls : s'.calls ≤ s.calls + fru_call_bound tries 65535) where
+  abbrev FoundInventory : Result (Vec ℕ Global) Unread → Type 0
+  FoundInventory result = IsHonest s → Finds (λ store text. IsInventoryIn wording id name (inventory_of id store) text.items) (AtInventory id ∷ []) tries s s' result
 
-  pub inventory_found : (old new : List ℕ) (text : String Global) (ending : Ending)
+  pub inventory_found : (old new : List ℕ) (text : Vec ℕ Global) (ending : Ending)
       → FoundInventory (Ok text)
-      → WritesText (string_bytes text) old new ending
-      → Runs (Job.Inventory wording id) tries (change s s' old new) ending
+      → WritesText text.items old new ending
+      → Runs (Job.Inventory wording id name) tries (change s s' old new) ending
   inventory_found old new text ending finds writes = record {
     calls = calls;
     ends = grind arith;
-    why = λ h. text_ends tries (IsTrue s.plain) s s' (string_bytes text) old new ending (finds h).asks.ends writes;
+    why = λ h. text_ends tries (IsTrue s.plain) s s' text.items old new ending (finds h).asks.ends writes;
     prints = λ h same. (
-      text_leaves (IsTextOver s.store) (OfInventory wording id) (AtInventory id ∷ []) old new (string_bytes text) ending ((finds h).is same) writes,
+      text_leaves (IsTextOver s.store) (OfInventory wording id name) (AtInventory id ∷ []) old new text.items ending ((finds h).is same) writes,
       omega (arith, (finds h).asks.calls same),
     );
   }
 
   pub inventory_unread : (text : List ℕ) (unread : Unread) → LacksInventory unread s'
       → FoundInventory (Err unread)
-      → Runs (Job.Inventory wording id) tries (change s s' text text) (Err (failure_of unread))
+      → Runs (Job.Inventory wording id name) tries (change s s' text text) (Err (failure_of unread))
   inventory_unread text unread says none = record {
     calls = calls;
     ends = grind arith;
     why = λ h. (none h).asks.ends;
     prints = λ h same. (
-      none_leaves (IsTextOver s.store) (inventory_plan wording id) text (Err (failure_of unread)) (none h).there,
+      none_leaves (IsTextOver s.store) (inventory_plan wording id name) text (Err (failure_of unread)) (none h).there,
       omega (arith, (none h).asks.calls same),
     );
   }
@@ -106,25 +108,25 @@ module _ (wording : Wording) (id tries : ℕ) (s s' : Seen) (calls : s'.calls �
 -- ---- all inventories
 
 -- it did not come to the end of that of device 0
-first_leaves : (wording : Wording) (store : Store) (walk : List Row) (end : WalkEnd) (old new : List ℕ)
-    (failure : Failure) → IsAllowed (IsTextOver store) (inventory_plan wording 0) old new (Err failure)
-    → IsAllowed (IsTextOver store) (inventories_plan wording walk end) old new (Err failure)
-first_leaves wording store walk end old new failure allowed =
-    leaves_longer (IsTextOver store) (inventory_plan wording 0) (inventories_plan wording walk end) (row_items (Form.Device wording) First walk) refl there old new (Err failure) (cause_of (Err failure))
+first_leaves : (wording : Wording) (name : Option (List ℕ)) (store : Store) (walk : List Row) (end : WalkEnd) (old new : List ℕ)
+    (failure : Failure) → IsAllowed (IsTextOver store) (inventory_plan wording 0 name) old new (Err failure)
+    → IsAllowed (IsTextOver store) (inventories_plan wording name walk end) old new (Err failure)
+first_leaves wording name store walk end old new failure allowed =
+    leaves_longer (IsTextOver store) (inventory_plan wording 0 name) (inventories_plan wording name walk end) (row_items (Form.Device wording) First walk) refl there old new (Err failure) (cause_of (Err failure))
     (λ is all. cc all.1) allowed
   where
     there : (spot : Spot) (rest : List Item) → IsAmong (next_spots rest []) spot
         → IsAmong (next_spots (rest ++ row_items (Form.Device wording) First walk) (spots_at_walk_end First walk end)) spot
     there spot rest among = grind arith
 
-pub first_run : (wording : Wording) (tries : ℕ) (s s' : Seen) (old new : List ℕ) (failure : Failure)
-    → Runs (Job.Inventory wording 0) tries (change s s' old new) (Err failure)
-    → Runs (Job.AllInventories wording) tries (change s s' old new) (Err failure)
-first_run wording tries s s' old new failure runs = record {
+pub first_run : (wording : Wording) (name : Option (List ℕ)) (tries : ℕ) (s s' : Seen) (old new : List ℕ) (failure : Failure)
+    → Runs (Job.Inventory wording 0 name) tries (change s s' old new) (Err failure)
+    → Runs (Job.AllInventories wording name) tries (change s s' old new) (Err failure)
+first_run wording name tries s s' old new failure runs = record {
   calls = omega (arith, runs.calls);
   ends = of_device failure runs.ends;
   why = runs.why;
-  prints = λ h same. λ walk end w ends. let printed = runs.prints h same in (first_leaves wording s.store walk end old new failure printed.0, omega (arith, printed.1));
+  prints = λ h same. λ walk end w ends. let printed = runs.prints h same in (first_leaves wording name s.store walk end old new failure printed.0, omega (arith, printed.1));
 }
   where
     of_device : (failure : Failure) → EndsInventory s' (Err failure)
@@ -133,13 +135,13 @@ first_run wording tries s s' old new failure runs = record {
     of_device failure ends = grind arith
 
 -- that of device 0, and then what a listing of the locators leaves
-pub inventories_run : (wording : Wording) (tries : ℕ) (s s' s'' : Seen) (old text new : List ℕ)
+pub inventories_run : (wording : Wording) (name : Option (List ℕ)) (tries : ℕ) (s s' s'' : Seen) (old text new : List ℕ)
     (next : Result Place Failure) → s''.calls ≤ s'.calls + most_on_walk (Form.Device wording) tries
     → EndsListing (Form.Device wording) s'' (ending_of next)
-    → Runs (Job.Inventory wording 0) tries (change s s' old text) (Ok tt)
+    → Runs (Job.Inventory wording 0 name) tries (change s s' old text) (Ok tt)
     → (IsHonest s' → IsPage (Form.Device wording) First tries None (change s' s'' text new) next)
-    → Runs (Job.AllInventories wording) tries (change s s'' old new) (ending_of next)
-inventories_run wording tries s s' s'' old text new next calls may first page_of = record {
+    → Runs (Job.AllInventories wording name) tries (change s s'' old new) (ending_of next)
+inventories_run wording name tries s s' s'' old text new next calls may first page_of = record {
   calls = omega (arith, first.calls, calls);
   ends = may;
   why = λ h. let ends = first.why h in ends_since ends ends.stays.plain (page_of ends.stays.honest).ends;
@@ -150,7 +152,7 @@ inventories_run wording tries s s' s'' old text new next calls may first page_of
       let printed = first.prints h since.0 in
       λ walk end w ends_.
       let along = (rw (ends.stays.store.stays since.0) at (page.along since.1 walk end)) w ends_ in (
-        leaves_joined (IsTextOver s.store) (inventory_item wording 0 ∷ []) (listing_plan (listing (Form.Device wording) First None) walk end) old text new (ending_of next) (cause_of (ending_of next)) printed.0.0 along.leaves,
+        leaves_joined (IsTextOver s.store) (inventory_item wording 0 name ∷ []) (listing_plan (listing (Form.Device wording) First None) walk end) old text new (ending_of next) (cause_of (ending_of next)) printed.0.0 along.leaves,
         omega (arith, printed.1, along.calls),
       );
 }

@@ -1,31 +1,32 @@
 -- A run over an image, and an image written again.
-use Rattle.std.proofs.Common.{◌≡◌, ◌⊎◌, inl, inr, ℕ, ◌+◌, arith, Bool, true, false, IsTrue, Option, Some, Result, Ok, Err, List, [], refl, subst, sym}
+use Rattle.std.proofs.Common.{◌≡◌, ◌⊎◌, inl, inr, ℕ, ◌+◌, arith, Bool, true, false, IsTrue, Result, Ok, Err, List, [], refl, subst, sym}
 use Rattle.ipmi_commands.specs.Below.{Count, Failure, failure_of_image, ImageFault, Store, Seen, IsHonest, image_text_of, Ending}
-use Rattle.ipmi_commands.specs.Prelude.{after_names, AnswersJob, bytes_of_rows, change, Form, IsAllowed, is_rewrite, IsRewriting, IsTextOver, Job, OfImage, OnNamed, OnPlan, Plan, rewrite_plan, Runs, RunsOver, walk_call_bound, WritesText}
-use Rattle.ipmi_commands.proofs.EventsLemmas.{named_all}
+use Rattle.ipmi_commands.specs.Prelude.{after_names, AnswersJob, bytes_of_rows, change, Form, IsAllowed, is_rewrite, IsRewriting, IsTextOver, Job, Named, OfImage, OnNamed, OnPlan, Plan, rewrite_plan, Runs, RunsOver, walk_call_bound, Wording, WritesText}
+use Rattle.ipmi_commands.proofs.NamedLemmas.{named_all}
 use Rattle.ipmi_commands.proofs.ItemLemmas.{no_items}
 use Rattle.ipmi_commands.proofs.PerformLemmas.{text_leaves}
 
 -- what holds of the plan, whatever the tries
-named_kept : (Holds : Plan → Type 0) (names : Option (List (List ℕ))) (count : Count)
-    (from : Option ℕ) (tries : ℕ) (store : Store) (More : Plan → ℕ → Type 0)
+named_kept : (Holds : Plan → Type 0) (wording : Wording) (records : List (List ℕ)) (named : Named) (tries : ℕ)
+    (store : Store) (More : Plan → ℕ → Type 0)
     → ((plan : Plan) (calls : ℕ) → More plan calls → Holds plan)
-    → OnNamed names count from tries store More
-    → OnNamed names count from 0 store (λ plan calls. Holds plan)
-named_kept Holds names Count.All from tries store More keep on = λ walk end w ends. keep _ _ (on walk end w ends)
-named_kept Holds names (Count.First n) from tries store More keep on = λ walk end w ends. keep _ _ (on walk end w ends)
-named_kept Holds names (Count.Last n) from tries store More keep on = λ walk end w ends. keep _ _ (on walk end w ends)
+    → OnNamed wording records named tries store More
+    → OnNamed wording records named 0 store (λ plan calls. Holds plan)
+named_kept Holds wording records (Named.Events Count.All from) tries store More keep on = λ walk end w ends. keep _ _ (on walk end w ends)
+named_kept Holds wording records (Named.Events (Count.First n) from) tries store More keep on = λ walk end w ends. keep _ _ (on walk end w ends)
+named_kept Holds wording records (Named.Events (Count.Last n) from) tries store More keep on = λ walk end w ends. keep _ _ (on walk end w ends)
+named_kept Holds wording records Named.Devices tries store More keep on = λ walk end w ends. keep _ _ (on walk end w ends)
 
 plan_kept : (Holds : Plan → Type 0) (job : Job) (tries : ℕ) (store : Store) (More : Plan → ℕ → Type 0)
     → ((plan : Plan) (calls : ℕ) → More plan calls → Holds plan)
     → OnPlan job tries store More → OnPlan job 0 store (λ plan calls. Holds plan)
 plan_kept Holds (Job.Records l) tries store More keep on = λ walk end w ends. keep _ _ (on walk end w ends)
-plan_kept Holds (Job.Last names n from) tries store More keep on = λ walk end w ends. keep _ _ (on walk end w ends)
-plan_kept Holds (Job.Events count from) tries store More keep on = λ sensors end w ends.
-    named_kept (λ plan. Holds (after_names sensors end plan)) (Some (bytes_of_rows sensors)) count from tries store
-    (λ plan calls. More (after_names sensors end plan) (walk_call_bound Form.Bytes store tries sensors + calls))
-    (λ plan calls more. keep _ _ more) (on sensors end w ends)
-plan_kept Holds (Job.AllInventories wording) tries store More keep on = λ walk end w ends. keep _ _ (on walk end w ends)
+plan_kept Holds (Job.Last entries n from) tries store More keep on = λ walk end w ends. keep _ _ (on walk end w ends)
+plan_kept Holds (Job.Named wording named) tries store More keep on = λ records end w ends.
+    named_kept (λ plan. Holds (after_names records end plan)) wording (bytes_of_rows records) named tries store
+    (λ plan calls. More (after_names records end plan) (walk_call_bound Form.Bytes store tries records + calls))
+    (λ plan calls more. keep _ _ more) (on records end w ends)
+plan_kept Holds (Job.AllInventories wording name) tries store More keep on = λ walk end w ends. keep _ _ (on walk end w ends)
 plan_kept Holds _ tries store More keep on = keep _ _ on
 
 -- a run over a plain controller with the store of the image
@@ -50,10 +51,10 @@ rewritten store old new ending writes = record { allowed = text_leaves (IsTextOv
 plan_all : (Holds : Plan → Type 0) (job : Job) (store : Store) → ((plan : Plan) → Holds plan)
     → OnPlan job 0 store (λ plan calls. Holds plan)
 plan_all Holds (Job.Records l) store holds = λ walk end w ends. holds _
-plan_all Holds (Job.Last names n from) store holds = λ walk end w ends. holds _
-plan_all Holds (Job.Events count from) store holds = λ sensors end w ends.
-    named_all (Some (bytes_of_rows sensors)) from 0 store (λ plan calls. Holds (after_names sensors end plan)) count (λ plan calls. holds _)
-plan_all Holds (Job.AllInventories wording) store holds = λ walk end w ends. holds _
+plan_all Holds (Job.Last entries n from) store holds = λ walk end w ends. holds _
+plan_all Holds (Job.Named wording named) store holds = λ records end w ends.
+    named_all wording (bytes_of_rows records) 0 store (λ plan calls. Holds (after_names records end plan)) named (λ plan calls. holds _)
+plan_all Holds (Job.AllInventories wording name) store holds = λ walk end w ends. holds _
 plan_all Holds _ store holds = holds _
 
 -- whatever it is, memory may be wanted

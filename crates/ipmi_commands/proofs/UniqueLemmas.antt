@@ -1,7 +1,9 @@
 -- What is printed has one text, and so has a finished run.
-use Rattle.std.proofs.Common.{◌≡◌, ℕ, zero, suc, ◌-◌, Bool, Option, None, Some, Result, List, [], ◌∷◌, length, take, drop, sym, ◌∙◌, arith}
-use Rattle.ipmi_commands.specs.Below.{Count, IsStore, WalkEnd, Shelf, Sdr, Sel, Place, First, start_of, Row, IsShelf, FoundIsRow, AreBytes, Reading, Store, info_of, rows_of, store_shelf, AllOf, WalkExists, place_after, place_after_rows, IsFruLine, IsFruText, SdrFault, SdrView, IsInfoBlock, IsSdrBlock, entry_bytes, sel_view_of, SdrLineIsUnique, ExtendedLineIsUnique, SelLineIsUnique, SelBlockIsUnique, EventInWordsIsUnique, SensorBlockIsUnique, SensorLineIsUnique, Ending}
-use Rattle.ipmi_commands.specs.Prelude.{after_names, bytes_of_rows, OnNamed, PrintsAll, AreOfBytes, first_rows, FinishedRunsAreOne, Form, IfChosen, info_plan, Printed, IsInventoryIn, IsInventoryText, IsLocatorPiece, IsOfBytes, IsRowText, IsTextOver, Item, ItemsHaveOneText, Job, last_items, last_rows, row_items, shelf_of, Spot, spots_of_walk, Subject, with_first_spots, Wording}
+use Rattle.std.proofs.Common.{◌≡◌, ℕ, zero, suc, ◌-◌, Bool, Option, None, Some, Result, Ok, Err, List, [], ◌∷◌, length, take, drop, sym, ◌∙◌, arith}
+use Rattle.ipmi_commands.specs.Below.{Count, IsStore, WalkEnd, Shelf, Sdr, Sel, Place, First, start_of, Row, IsShelf, FoundIsRow, AreBytes, Reading, Store, info_of, rows_of, store_shelf, AllOf, WalkExists, place_after, place_after_rows, IsFruLine, IsFruText, SdrFault, SdrView, IsInfoBlock, IsSdrBlock, entry_bytes, sdr_view_of, SelView, sel_view_of, SdrLineIsUnique, ExtendedLineIsUnique, SelLineIsUnique, SelBlockIsUnique, EventInWordsIsUnique, SensorBlockIsUnique, SensorLineIsUnique, Ending}
+use Rattle.ipmi_json.specs.Sdr.{bytes_members, fault_members}
+use Rattle.ipmi_json.specs.Laws.{DeviceLineIsUnique, EntryLineIsUnique, InfoLineIsUnique, ObjectLineIsUnique, RecordLineIsUnique}
+use Rattle.ipmi_commands.specs.Prelude.{after_names, bytes_of_rows, Named, OnNamed, PrintsAll, AreOfBytes, Detail, Entries, entries_in, first_rows, FinishedRunsAreOne, Form, IfChosen, info_plan, Printed, IsBlockIn, IsBlockOfName, IsEntryLine, IsInfoIn, IsInventoryIn, IsInventoryText, IsLocatorPiece, IsOfBytes, IsRecordLine, IsRowText, IsTextOver, Item, ItemsHaveOneText, Job, last_items, last_rows, reading_for, row_items, shelf_of, Spot, spots_of_walk, Subject, with_first_spots, Wording}
 
 -- there is one such text at most
 abbrev IsOne : (List ℕ → Type 0) → Type 0
@@ -26,7 +28,9 @@ module _ (one_sdr_line : SdrLineIsUnique) (one_extended_line : ExtendedLineIsUni
     (one_fru_text : (bytes : List ℕ) → IsOne (IsFruText bytes))
     (one_fru_line : (id : ℕ) (name inventory : Option (List ℕ)) → IsOne (IsFruLine id name inventory))
     (one_event_in_words : EventInWordsIsUnique) (one_sensor_line : SensorLineIsUnique)
-    (one_sensor_block : SensorBlockIsUnique) where
+    (one_sensor_block : SensorBlockIsUnique) (one_object : ObjectLineIsUnique)
+    (one_record : RecordLineIsUnique) (one_entry : EntryLineIsUnique)
+    (one_info : InfoLineIsUnique) (one_device : DeviceLineIsUnique) where
   one_inventory_text : (o : Option (List ℕ)) → IsOne (IsInventoryText o)
   one_inventory_text None = one_equation _
   one_inventory_text (Some bytes) = one_fru_text bytes
@@ -36,18 +40,62 @@ module _ (one_sdr_line : SdrLineIsUnique) (one_extended_line : ExtendedLineIsUni
   one_inventory Wording.Codes id name inventory a b x y =
       x.text_is ∙ rw (one_inventory_text inventory x.part y.part x.is_part y.is_part) (sym y.text_is)
   one_inventory Wording.Words id name inventory a b x y = one_fru_line id name inventory a b x y
+  one_inventory (Wording.Json labels) id name inventory a b x y = one_device id name inventory labels.now a b x y
 
   one_locator : (wording : Wording) (store : Store) (view : Result SdrView SdrFault)
       → IsOne (IsLocatorPiece wording store view)
-  one_locator wording store view = grind (arith, one_chosen, one_inventory)
+  one_locator wording store view = grind (arith, one_chosen, one_inventory, one_object)
+
+  one_line : (detail : Detail) (store : Store) (row : Row) (view : Result SdrView SdrFault)
+      → IsOne (IsRecordLine detail store row view)
+  one_line Detail.Short store row (Ok view) a b x y = one_sdr_line view (reading_for store view) a b x y
+  one_line Detail.Extended store row (Ok view) a b x y = one_extended_line view (reading_for store view) a b x y
+  one_line Detail.Words store row (Ok view) a b x y = one_sensor_line view (reading_for store view) a b x y
+  one_line (Detail.Json labels) store row (Ok view) a b x y = one_record row.id view (reading_for store view) labels.now a b x y
+  one_line Detail.Short store row (Err fault) a b x y = x ∙ sym y
+  one_line Detail.Extended store row (Err fault) a b x y = x ∙ sym y
+  one_line Detail.Words store row (Err fault) a b x y = x ∙ sym y
+  one_line (Detail.Json labels) store row (Err fault) a b x y = one_object (fault_members row.id fault row.bytes) labels.now a b x y
+
+  one_block : (wording : Wording) (id : ℕ) (view : SdrView) (reading : Option Reading)
+      → IsOne (IsBlockIn wording id view reading)
+  one_block Wording.Codes id view reading a b x y = one_sdr_block id view reading a b x y
+  one_block Wording.Words id view reading a b x y = one_sensor_block id view reading a b x y
+  one_block (Wording.Json labels) id view reading a b x y = one_record id view reading labels.now a b x y
+
+  one_block_of_name : (wording : Wording) (name : List ℕ) (store : Store) (id : ℕ) (view : Result SdrView SdrFault)
+      → IsOne (IsBlockOfName wording name store id view)
+  one_block_of_name wording name store id (Ok view) a b x y =
+      one_chosen _ (IsBlockIn wording id view (reading_for store view)) (one_block wording id view (reading_for store view)) a b x y
+  one_block_of_name wording name store id (Err fault) a b x y = x ∙ sym y
+
+  one_entry_line : (entries : Entries) (id : ℕ) (view : SelView) → AreBytes (entry_bytes view)
+      → IsOne (IsEntryLine entries id view)
+  one_entry_line Entries.Codes id view are a b x y = one_sel_line id view a b are x y
+  one_entry_line (Entries.Words sensors) id view are a b x y = one_event_in_words id view sensors a b are x y
+  one_entry_line (Entries.Json sensors labels) id view are a b x y = one_entry id view (Some sensors) labels.now a b are x y
 
   one_row : (form : Form) (store : Store) (row : Row) → AreBytes row.bytes
       → IsOne (IsRowText store form row)
-  one_row form store row are = grind (arith, one_chosen, one_sdr_line, one_extended_line, one_sdr_block, one_locator, one_sel_line, one_sel_block, one_event_in_words, one_sensor_line, one_sensor_block, entry_are_bytes)
+  one_row Form.Raw store row are a b x y = x ∙ sym y
+  one_row (Form.RawObject labels) store row are a b x y = one_object (bytes_members row.id row.next row.bytes) labels.now a b x y
+  one_row Form.Bytes store row are a b x y = x ∙ sym y
+  one_row (Form.Line detail kind) store row are a b x y =
+      one_chosen _ (IsRecordLine detail store row (sdr_view_of row.bytes)) (one_line detail store row (sdr_view_of row.bytes)) a b x y
+  one_row (Form.Block wording name) store row are a b x y = one_block_of_name wording name store row.id (sdr_view_of row.bytes) a b x y
+  one_row (Form.Device wording) store row are a b x y = one_locator wording store (sdr_view_of row.bytes) a b x y
+  one_row (Form.EntryLine entries) store row are a b x y =
+      one_entry_line entries row.id (sel_view_of row.bytes) (entry_are_bytes row.bytes are) a b x y
+  one_row Form.EntryBlock store row are a b x y = one_sel_block row.id (sel_view_of row.bytes) a b (entry_are_bytes row.bytes are) x y
+  one_row Form.Passed store row are a b x y = x ∙ sym y
+
+  one_info_text : (wording : Wording) (shelf : Shelf) (info : List ℕ) → AreBytes info
+      → IsOne (IsInfoIn wording shelf info)
+  one_info_text wording shelf info are = grind (arith, one_info_block, one_info)
 
   one_item : (store : Store) (subject : Subject) → IsOfBytes subject
       → IsOne (IsTextOver store subject)
-  one_item store subject bytes = grind (arith, one_row, one_inventory, one_info_block)
+  one_item store subject bytes = grind (arith, one_row, one_inventory, one_info_text)
 
   -- texts of items are one text
   pub one_text : ItemsHaveOneText
@@ -83,25 +131,28 @@ module _ (one : ItemsHaveOneText) (exists : WalkExists) (look_row : FoundIsRow) 
       (x.0.new_is ∙ rw (one store items x.0.text y.0.text bytes x.0.are y.0.are) (sym y.0.new_is), x.1 ∙ sym y.1)
 
   -- after the names were read
-  one_named : (store : Store) (old a b : List ℕ) (e f : Ending) (names : Option (List (List ℕ)))
-      (count : Count) (from : Option ℕ) (tries tries' : ℕ) (sensors : List Row) (end : WalkEnd)
-      → IsStore store
-      → OnNamed names count from tries store (λ plan calls. PrintsAll (IsTextOver store) (after_names sensors end plan) old a e)
-      → OnNamed names count from tries' store (λ plan calls. PrintsAll (IsTextOver store) (after_names sensors end plan) old b f)
+  one_named : (store : Store) (old a b : List ℕ) (e f : Ending) (wording : Wording) (records : List (List ℕ)) (named : Named)
+      (tries tries' : ℕ) (rows : List Row) (end : WalkEnd) → IsStore store
+      → OnNamed wording records named tries store (λ plan calls. PrintsAll (IsTextOver store) (after_names rows end plan) old a e)
+      → OnNamed wording records named tries' store (λ plan calls. PrintsAll (IsTextOver store) (after_names rows end plan) old b f)
       → (a ≡ b) × (e ≡ f)
-  one_named store old a b e f names Count.All from tries tries' sensors end ok x y =
+  one_named store old a b e f wording records (Named.Events Count.All from) tries tries' rows end ok x y =
       let there = exists Sel store.sel (start_of from) ok.sel in
-      one_plan store (first_kept _ _ (rows_are_bytes look_row (Form.EntryLine names) Sel store.sel (start_of from) there.0 ok.sel there.2.of_shelf))
+      one_plan store (first_kept _ _ (rows_are_bytes look_row (Form.EntryLine (entries_in wording records)) Sel store.sel (start_of from) there.0 ok.sel there.2.of_shelf))
       (x there.0 there.1 there.2 there.3) (y there.0 there.1 there.2 there.3)
-  one_named store old a b e f names (Count.First n) from tries tries' sensors end ok x y =
+  one_named store old a b e f wording records (Named.Events (Count.First n) from) tries tries' rows end ok x y =
       let there = exists Sel store.sel (start_of from) ok.sel in
-      one_plan store (first_kept _ _ (rows_are_bytes look_row (Form.EntryLine names) Sel store.sel (start_of from) (take n there.0) ok.sel (parts_of_shelf n store.sel there.0 there.2.of_shelf).0))
+      one_plan store (first_kept _ _ (rows_are_bytes look_row (Form.EntryLine (entries_in wording records)) Sel store.sel (start_of from) (take n there.0) ok.sel (parts_of_shelf n store.sel there.0 there.2.of_shelf).0))
       (x there.0 there.1 there.2 there.3) (y there.0 there.1 there.2 there.3)
-  one_named store old a b e f names (Count.Last n) from tries tries' sensors end ok x y =
+  one_named store old a b e f wording records (Named.Events (Count.Last n) from) tries tries' rows end ok x y =
       let start = start_of from in
       let there = exists Sel store.sel start ok.sel in
-      one_plan store (first_kept _ _ (first_kept (spots_of_walk start there.0 there.1) (last_items names n start there.0 there.1)
-      (rows_are_bytes look_row (Form.EntryLine names) Sel store.sel (place_after_rows start (take (length there.0 - n) there.0)) (last_rows n there.0 there.1) ok.sel (grind (arith, parts_of_shelf (length there.0 - n) store.sel there.0 there.2.of_shelf)))))
+      one_plan store (first_kept _ _ (first_kept (spots_of_walk start there.0 there.1) (last_items (entries_in wording records) n start there.0 there.1)
+      (rows_are_bytes look_row (Form.EntryLine (entries_in wording records)) Sel store.sel (place_after_rows start (take (length there.0 - n) there.0)) (last_rows n there.0 there.1) ok.sel (grind (arith, parts_of_shelf (length there.0 - n) store.sel there.0 there.2.of_shelf)))))
+      (x there.0 there.1 there.2 there.3) (y there.0 there.1 there.2 there.3)
+  one_named store old a b e f wording records Named.Devices tries tries' rows end ok x y =
+      let there = exists Sdr store.sdr First ok.sdr in
+      one_plan store (tt, rows_are_bytes look_row (Form.Device wording) Sdr store.sdr First there.0 ok.sdr there.2.of_shelf)
       (x there.0 there.1 there.2 there.3) (y there.0 there.1 there.2 there.3)
 
   pub one_output : FinishedRunsAreOne
@@ -111,19 +162,19 @@ module _ (one : ItemsHaveOneText) (exists : WalkExists) (look_row : FoundIsRow) 
       let there = exists (shelf_of l.form) rows l.start shelf in
       one_plan store (rows_are_bytes look_row l.form (shelf_of l.form) rows l.start (first_rows l.most there.0) shelf (grind (arith, parts_of_shelf, there.2.of_shelf)))
       (x there.0 there.1 there.2 there.3) (y there.0 there.1 there.2 there.3)
-  one_output (Job.Last names n from) tries tries' store old a b e f ok x y =
+  one_output (Job.Last entries n from) tries tries' store old a b e f ok x y =
       let start = start_of from in
       let there = exists Sel store.sel start ok.sel in
-      one_plan store (first_kept (spots_of_walk start there.0 there.1) (last_items names n start there.0 there.1)
-      (rows_are_bytes look_row (Form.EntryLine names) Sel store.sel (place_after_rows start (take (length there.0 - n) there.0)) (last_rows n there.0 there.1) ok.sel (grind (arith, parts_of_shelf (length there.0 - n) store.sel there.0 there.2.of_shelf))))
+      one_plan store (first_kept (spots_of_walk start there.0 there.1) (last_items entries n start there.0 there.1)
+      (rows_are_bytes look_row (Form.EntryLine entries) Sel store.sel (place_after_rows start (take (length there.0 - n) there.0)) (last_rows n there.0 there.1) ok.sel (grind (arith, parts_of_shelf (length there.0 - n) store.sel there.0 there.2.of_shelf))))
       (x there.0 there.1 there.2 there.3) (y there.0 there.1 there.2 there.3)
-  one_output (Job.Events count from) tries tries' store old a b e f ok x y =
+  one_output (Job.Named wording named) tries tries' store old a b e f ok x y =
       let there = exists Sdr store.sdr First ok.sdr in
-      one_named store old a b e f (Some (bytes_of_rows there.0)) count from tries tries' there.0 there.1 ok
+      one_named store old a b e f wording (bytes_of_rows there.0) named tries tries' there.0 there.1 ok
       (x there.0 there.1 there.2 there.3) (y there.0 there.1 there.2 there.3)
-  one_output (Job.Info shelf) tries tries' store old a b e f ok x y = let bytes : AreOfBytes (info_plan (info_of shelf store)).items = grind arith in one_plan store bytes x y
-  one_output (Job.Inventory wording id) tries tries' store old a b e f ok x y = one_plan store (tt, tt) x y
-  one_output (Job.AllInventories wording) tries tries' store old a b e f ok x y =
+  one_output (Job.Info wording shelf) tries tries' store old a b e f ok x y = let bytes : AreOfBytes (info_plan wording shelf (info_of shelf store)).items = grind arith in one_plan store bytes x y
+  one_output (Job.Inventory wording id name) tries tries' store old a b e f ok x y = one_plan store (tt, tt) x y
+  one_output (Job.AllInventories wording name) tries tries' store old a b e f ok x y =
       let there = exists Sdr store.sdr First ok.sdr in
       one_plan store (tt, rows_are_bytes look_row (Form.Device wording) Sdr store.sdr First there.0 ok.sdr there.2.of_shelf)
       (x there.0 there.1 there.2 there.3) (y there.0 there.1 there.2 there.3)

@@ -1,14 +1,16 @@
 -- Requests for a reading, an info or an inventory, and their results: for the contracts of private
 -- functions.
-use Rattle.std.specs.Prelude.{◌≡◌, ℕ, ◌+◌, ◌≤◌, ◌==◌, Bool, false, IsTrue, Option, None, Some, Result, Ok, Err, string_bytes, List}
-use Rattle.ipmi_commands.specs.Below.{Ended, FruEnded, KeepsReservations, LastFailed, LastFruCallSays, NotPresent, Store, IsInfoBlock, Seen, Failure}
+use Rattle.std.specs.Prelude.{◌≡◌, ℕ, ◌+◌, ◌≤◌, ◌==◌, Bool, false, IsTrue, Option, None, Some, Result, Ok, Err, List}
+use Rattle.ipmi_commands.specs.Below.{FruEnded, KeepsReservations, LastFailed, LastFruCallSays, NotPresent, Store, Shelf, Seen, Failure}
 use Rattle.ipmi_commands.specs.declared.job.Form.{Form}
+use Rattle.ipmi_commands.specs.declared.job.Wording.{Wording}
 use Rattle.ipmi_commands.specs.declared.piece.Piece.{Piece}
 use Rattle.ipmi_commands.specs.declared.unread.Unread.{Unread}
 use Rattle.ipmi_commands.specs.Allowed.{AtEnd, Cause, GaveUp, Refused, NoMemory, cause_of, EndsFor, IsAmong}
 use Rattle.ipmi_commands.specs.Calls.{calls_for_spots}
 use Rattle.ipmi_commands.specs.Plan.{Spot}
 use Rattle.ipmi_commands.specs.Run.{LacksValue}
+use Rattle.ipmi_commands.specs.Texts.{IsInfoIn}
 
 -- ---- found, or not
 
@@ -55,18 +57,18 @@ Finds Is spots tries s s' (Err unread) = FindsNone spots tries s s' (cause_of_un
 -- the bytes of a piece; `line` is the contents of the line buffer
 abbrev pub bytes_of : List ℕ → Piece → List ℕ
 bytes_of line Piece.Line = line
-bytes_of line (Piece.Text text) = string_bytes text
+bytes_of line (Piece.Text text) = text.items
 
 -- the controller has no such inventory
 abbrev pub is_absent : FruEnded → Bool
 is_absent (FruEnded.Refused code) = code.0 == 0xCB
 is_absent _ = false
 
--- the block of a shelf's info, if the store has one; otherwise none
-abbrev pub IsInfoText : Option (List ℕ) → Option (List ℕ) → Type 0
-IsInfoText None None = Unit {0}
-IsInfoText (Some info) (Some text) = IsInfoBlock info text
-IsInfoText _ _ = ⊥
+-- the text of a shelf's info, if the store has one; otherwise none
+abbrev pub IsInfoText : Wording → Shelf → Option (List ℕ) → Option (List ℕ) → Type 0
+IsInfoText wording shelf None None = Unit {0}
+IsInfoText wording shelf (Some info) (Some text) = IsInfoIn wording shelf info text
+IsInfoText wording shelf _ _ = ⊥
 
 -- ---- over any controller: the last call agrees with why nothing was found
 

@@ -1,4 +1,5 @@
 -- Re-exports the definitions of lower crates that this crate uses. Declares nothing.
+pub use Rattle.ipmi_text.specs.Appended.{Appends}
 pub use Rattle.ipmi_text.specs.Bytes.{AreBytes}
 pub use Rattle.ipmi_text.specs.declared.reading.Reading.{Reading}
 pub use Rattle.ipmi_fru.specs.Line.{elsewhere_line, IsFruLine}
@@ -16,6 +17,7 @@ pub use Rattle.ipmi_records.specs.declared.sel.SelView.TheVariants.{Event, OemPl
 pub use Rattle.ipmi_events.specs.Sensors.{is_whole_record}
 unfoldable pub use Rattle.ipmi_events.specs.Sensors.{records_in}
 pub use Rattle.ipmi_events.specs.EventLines.{IsEventInWords}
+pub use Rattle.ipmi_events.specs.Name.{device_name}
 pub use Rattle.ipmi_events.specs.Laws.{EventInWordsExists, EventInWordsIsUnique}
 pub use Rattle.ipmi_events.specs.SensorBlocks.{IsSensorBlock}
 pub use Rattle.ipmi_events.specs.SensorLaws.{SensorBlockExists, SensorBlockIsUnique, SensorLineExists, SensorLineIsUnique}

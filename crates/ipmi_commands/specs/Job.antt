@@ -1,11 +1,13 @@
 -- The job of each command.
 use Rattle.std.specs.Prelude.{ℕ, ◌<◌, ◌≤◌, Bool, true, false, Option, None, Some, List}
 use Rattle.std.specs.Option.{ForSome}
-use Rattle.ipmi_commands.specs.Below.{Place, First, Id, End, start_of, Shelf, Sdr, Sel, Count, IsCount, Task}
+use Rattle.ipmi_commands.specs.Below.{Place, First, Id, End, start_of, Shelf, Sdr, Sel, Count, IsCount, Task, device_name}
 use Rattle.ipmi_commands.specs.declared.job.Detail.{Detail}
+use Rattle.ipmi_commands.specs.declared.job.Entries.{Entries}
 use Rattle.ipmi_commands.specs.declared.job.Form.{Form}
 use Rattle.ipmi_commands.specs.declared.job.Job.{Job}
 use Rattle.ipmi_commands.specs.declared.job.Listing.{Listing}
+use Rattle.ipmi_commands.specs.declared.job.Named.{Named}
 use Rattle.ipmi_commands.specs.declared.job.Wording.{Wording}
 
 -- the shelf of the records that are printed in this form
@@ -19,12 +21,25 @@ shelf_of _ = Sdr
 abbrev pub listing : Form → Place → Option ℕ → Listing
 listing form start most = record { form = form; start = start; most = most }
 
--- the job of listing the entries that `count` selects: with `names` in words, without them in codes
-abbrev pub named_job : Option (List (List ℕ)) → Count → Option ℕ → Job
-named_job names Count.All from = Job.Records (listing (Form.EntryLine names) (start_of from) None)
-named_job names (Count.First n) from =
-    Job.Records (listing (Form.EntryLine names) (start_of from) (Some n))
-named_job names (Count.Last n) from = Job.Last names n from
+-- the lines of entries in a wording, with the names of these sensors; in codes, events have no names
+abbrev pub entries_in : Wording → List (List ℕ) → Entries
+entries_in Wording.Codes sensors = Entries.Codes
+entries_in Wording.Words sensors = Entries.Words sensors
+entries_in (Wording.Json labels) sensors = Entries.Json sensors labels
+
+-- the job of listing the entries that `count` selects, each as such a line
+abbrev pub entries_job : Entries → Count → Option ℕ → Job
+entries_job entries Count.All from =
+    Job.Records (listing (Form.EntryLine entries) (start_of from) None)
+entries_job entries (Count.First n) from =
+    Job.Records (listing (Form.EntryLine entries) (start_of from) (Some n))
+entries_job entries (Count.Last n) from = Job.Last entries n from
+
+-- the job of listing with the names in these sensor data records, in this wording
+abbrev pub job_with : Wording → List (List ℕ) → Named → Job
+job_with wording records (Named.Events count from) =
+    entries_job (entries_in wording records) count from
+job_with wording records Named.Devices = Job.AllInventories wording (device_name 0 records)
 
 -- the job of a task; a listing starts at the id `from`, or at the first record if there is none
 abbrev pub job_of : Task → Option ℕ → Job
@@ -35,22 +50,40 @@ job_of (Task.Elist kind) from =
     Job.Records (listing (Form.Line Detail.Extended kind) (start_of from) None)
 job_of (Task.Get name) from =
     Job.Records (listing (Form.Block Wording.Codes name) (start_of from) None)
-job_of (Task.SelList count) from = named_job None count from
+job_of (Task.SelList count) from = entries_job Entries.Codes count from
 job_of (Task.SelGet id) from = Job.Records (listing Form.EntryBlock (Id id) (Some 1))
-job_of (Task.Info shelf) from = Job.Info shelf
-job_of (Task.Fru None) from = Job.AllInventories Wording.Codes
-job_of (Task.Fru (Some id)) from = Job.Inventory Wording.Codes id
+job_of (Task.Info shelf) from = Job.Info Wording.Codes shelf
+job_of (Task.Fru None) from = Job.AllInventories Wording.Codes None
+job_of (Task.Fru (Some id)) from = Job.Inventory Wording.Codes id None
 job_of Task.Rewrite from = Job.Rewrite
 
 -- The job of a task in a wording. With `Words`, it prints the words of the standard's tables, and
--- one line for each device; a task without such a text is printed in codes.
+-- one line for each device; a task without such a text is printed in codes. With `Json`, each task
+-- but `image rewrite` prints objects, and `sel get` is a listing of one entry.
 abbrev pub job_in : Wording → Task → Option ℕ → Job
 job_in Wording.Words (Task.List kind) from =
     Job.Records (listing (Form.Line Detail.Words kind) (start_of from) None)
 job_in Wording.Words (Task.Get name) from =
     Job.Records (listing (Form.Block Wording.Words name) (start_of from) None)
-job_in Wording.Words (Task.SelList count) from = Job.Events count from
-job_in Wording.Words (Task.Fru None) from = Job.AllInventories Wording.Words
+job_in Wording.Words (Task.SelList count) from =
+    Job.Named Wording.Words (Named.Events count from)
+job_in Wording.Words (Task.Fru None) from = Job.Named Wording.Words Named.Devices
+job_in (Wording.Json labels) Task.Hex from =
+    Job.Records (listing (Form.RawObject labels) (start_of from) None)
+job_in (Wording.Json labels) (Task.List kind) from =
+    Job.Records (listing (Form.Line (Detail.Json labels) kind) (start_of from) None)
+job_in (Wording.Json labels) (Task.Elist kind) from =
+    Job.Records (listing (Form.Line (Detail.Json labels) kind) (start_of from) None)
+job_in (Wording.Json labels) (Task.Get name) from =
+    Job.Records (listing (Form.Block (Wording.Json labels) name) (start_of from) None)
+job_in (Wording.Json labels) (Task.SelList count) from =
+    Job.Named (Wording.Json labels) (Named.Events count from)
+job_in (Wording.Json labels) (Task.SelGet id) from =
+    Job.Named (Wording.Json labels) (Named.Events (Count.First 1) (Some id))
+job_in (Wording.Json labels) (Task.Info shelf) from = Job.Info (Wording.Json labels) shelf
+job_in (Wording.Json labels) (Task.Fru None) from = Job.Named (Wording.Json labels) Named.Devices
+job_in (Wording.Json labels) (Task.Fru (Some id)) from =
+    Job.Inventory (Wording.Json labels) id None
 job_in _ task from = job_of task from
 
 -- ---- for the contracts of private functions
@@ -66,11 +99,16 @@ IsPlace End = Unit {0}
 abbrev pub IsFrom : Option ℕ → Type 0
 IsFrom from = ForSome from (λ id. (0 < id) × (id < 65535))
 
+-- the same of what is listed with names
+abbrev pub IsNamed : Named → Type 0
+IsNamed (Named.Events count from) = IsCount count × IsFrom from
+IsNamed Named.Devices = Unit {0}
+
 -- the job starts at such a place or id, and a number of first or last entries is at least 1
 abbrev pub IsJob : Job → Type 0
 IsJob (Job.Records l) = IsPlace l.start
-IsJob (Job.Last names n from) = (1 ≤ n) × IsFrom from
-IsJob (Job.Events count from) = IsCount count × IsFrom from
+IsJob (Job.Last entries n from) = (1 ≤ n) × IsFrom from
+IsJob (Job.Named wording named) = IsNamed named
 IsJob _ = Unit {0}
 
 -- the listing, if the job is `Job.Records`

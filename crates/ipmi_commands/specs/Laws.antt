@@ -1,25 +1,53 @@
--- Laws of plans: what follows from their definitions alone.
+-- Laws of plans. They follow from the definitions of plans.
 use Rattle.std.specs.Prelude.{◌≡◌, ℕ, List, [], ◌∷◌}
 use Rattle.ipmi_commands.specs.Below.{AreBytes, Store, IsStore, Ending}
+use Rattle.ipmi_commands.specs.declared.job.Detail.{Detail}
+use Rattle.ipmi_commands.specs.declared.job.Entries.{Entries}
+use Rattle.ipmi_commands.specs.declared.job.Form.{Form}
 use Rattle.ipmi_commands.specs.declared.job.Job.{Job}
+use Rattle.ipmi_commands.specs.declared.job.Wording.{Wording}
 use Rattle.ipmi_commands.specs.Allowed.{AreTexts, PrintsAll}
 use Rattle.ipmi_commands.specs.Plan.{Item}
 use Rattle.ipmi_commands.specs.Run.{OnPlan}
-use Rattle.ipmi_commands.specs.Texts.{Subject, OfRow, OfInfo, IsTextOver}
+use Rattle.ipmi_commands.specs.Texts.{Subject, OfRow, OfInfo, OfInventory, OfImage, IsTextOver}
 
 -- the numbers in a subject are bytes, as in a well-formed store
 abbrev pub IsOfBytes : Subject → Type 0
 IsOfBytes (OfRow form row) = AreBytes row.bytes
-IsOfBytes (OfInfo info) = AreBytes info
+IsOfBytes (OfInfo wording shelf info) = AreBytes info
 IsOfBytes _ = Unit {0}
+
+-- printed in codes or in words, not as an object
+abbrev pub IsOfText : Wording → Type 0
+IsOfText (Wording.Json labels) = ⊥
+IsOfText _ = Unit {0}
+
+abbrev pub IsRowInText : Form → Type 0
+IsRowInText (Form.RawObject labels) = ⊥
+IsRowInText (Form.Line (Detail.Json labels) kind) = ⊥
+IsRowInText (Form.Block wording name) = IsOfText wording
+IsRowInText (Form.Device wording) = IsOfText wording
+IsRowInText (Form.EntryLine (Entries.Json sensors labels)) = ⊥
+IsRowInText _ = Unit {0}
+
+abbrev pub IsInText : Subject → Type 0
+IsInText (OfRow form row) = IsRowInText form
+IsInText (OfInventory wording id name) = IsOfText wording
+IsInText (OfInfo wording shelf info) = IsOfText wording
+IsInText OfImage = Unit {0}
+
+abbrev pub AreInText : List Item → Type 0
+AreInText [] = Unit {0}
+AreInText (item ∷ items) = IsInText item.subject × AreInText items
 
 abbrev pub AreOfBytes : List Item → Type 0
 AreOfBytes [] = Unit {0}
 AreOfBytes (item ∷ items) = IsOfBytes item.subject × AreOfBytes items
 
--- over a well-formed store, each list of items has a text, so each plan can be printed
+-- over a well-formed store, each list of items that are printed in codes or in words has a text, so
+-- each such plan can be printed
 abbrev pub ItemsHaveAText : Type 0
-ItemsHaveAText = (store : Store) (items : List Item) → IsStore store
+ItemsHaveAText = (store : Store) (items : List Item) → IsStore store → AreInText items
     → (text : List ℕ) × AreTexts (IsTextOver store) items text
 
 -- over a store, a list of items has at most one text

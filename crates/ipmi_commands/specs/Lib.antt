@@ -2,10 +2,10 @@ pub mod Allowed
 pub mod Asking
 pub mod Below
 pub mod Calls
-pub mod Events
 pub mod Job
 pub mod Laws
 pub mod Listing
+pub mod Named
 pub mod Pages
 pub mod Plan
 pub mod Prelude

@@ -2,7 +2,8 @@
 -- contracts of private functions.
 use Rattle.std.specs.Prelude.{◌≡◌, Bool, false, ℕ, ◌+◌, ◌-◌, ◌*◌, ◌<◌, ◌≤◌, ◌==◌, IsTrue, Option, None, Some, IfOk, Result, Ok, Err, List, length, take, drop}
 use Rattle.std.specs.FinSet as set
-use Rattle.ipmi_commands.specs.Below.{step_call_bound, digits, Ended, Place, Row, Shelf, Sel, Store, rows_of, IsWalk, WalkEnd, Done, EndsBy, place_after_rows, Seen, IsHonest, CursorState, StandsAt, CursorHoldsCurrent, Ending, Failure}
+use Rattle.ipmi_commands.specs.Below.{step_call_bound, digits, Place, Row, Shelf, Sel, Store, rows_of, IsWalk, WalkEnd, Done, EndsBy, place_after_rows, Seen, IsHonest, CursorState, StandsAt, CursorHoldsCurrent, Ending, Failure}
+use Rattle.ipmi_commands.specs.declared.job.Entries.{Entries}
 use Rattle.ipmi_commands.specs.declared.job.Form.{Form}
 use Rattle.ipmi_commands.specs.Allowed.{ending_of, IsAllowed, EndsFor, cause_of, Change}
 use Rattle.ipmi_commands.specs.Calls.{calls_for, most_for_one, walk_call_bound}
@@ -113,8 +114,8 @@ abbrev pub Counted : Store → Place → List Row → WalkEnd → List ℕ → L
 Counted store start walk end old new (Ok count) =
     (count ≡ length walk) × (end ≡ Done) × (new ≡ old)
 Counted store start walk end old new (Err failure) =
-    (names : Option (List (List ℕ))) (n : ℕ)
-    → IsAllowed (IsTextOver store) (last_plan names n start walk end) old new (Err failure)
+    (entries : Entries) (n : ℕ)
+    → IsAllowed (IsTextOver store) (last_plan entries n start walk end) old new (Err failure)
 
 pub record CountsEntries (start : Place) (tries : ℕ) (c : Change)
     (result : Result ℕ Failure) : Type 0 where
@@ -126,10 +127,10 @@ pub record CountsEntries (start : Place) (tries : ℕ) (c : Change)
 
 -- `passed` entries were skipped and those after them listed; these are the last entries of a walk
 -- that ends with `Done`
-pub record ListsAfter (names : Option (List (List ℕ))) (start : Place) (passed tries : ℕ)
+pub record ListsAfter (entries : Entries) (start : Place) (passed tries : ℕ)
     (c : Change) (ending : Ending) : Type 0 where
   pub ends : EndsFor tries (IsTrue c.seen.plain) c.seen c.seen' (cause_of ending)
   pub along : c.seen'.stores_added ≡ c.seen.stores_added
       → OnWalk Sel start c.seen.store (λ walk end. (n : ℕ) → end ≡ Done → passed ≡ length walk - n
-      → IsAllowed (IsTextOver c.seen.store) (last_plan names n start walk end) c.old c.new ending
+      → IsAllowed (IsTextOver c.seen.store) (last_plan entries n start walk end) c.old c.new ending
       × (c.seen'.calls ≤ c.seen.calls + walk_call_bound Form.Passed c.seen.store tries walk))

@@ -3,6 +3,7 @@
 use Rattle.std.specs.Prelude.{ℕ, ◌-◌, ◌==◌, nat_le, ◌||◌, Bool, false, if◌then◌else◌, Option, Some, None, is_some, Result, Ok, Err, List, [], ◌∷◌, ◌++◌, length, map, take, drop}
 use Rattle.ipmi_commands.specs.Below.{Place, First, Shelf, Row, Store, rows_of, IsWalk, EndsBy, asked_at, WalkEnd, Done, CycleAt, MissingAt, place_after, place_after_rows, SdrFault, SdrView, Kind, Cycle, Missing, Ending, Failure}
 use Rattle.ipmi_records.specs.Sdr as sdr
+use Rattle.ipmi_commands.specs.declared.job.Entries.{Entries}
 use Rattle.ipmi_commands.specs.declared.job.Form.{Form}
 use Rattle.ipmi_commands.specs.declared.job.Listing.{Listing}
 use Rattle.ipmi_commands.specs.declared.job.Wording.{Wording}
@@ -148,20 +149,20 @@ abbrev pub end_spots_of_last : List Spot → List Item → List Spot → List Sp
 end_spots_of_last spots [] at_end = spots
 end_spots_of_last spots (item ∷ items) at_end = at_end
 
-abbrev pub last_items : Option (List (List ℕ)) → ℕ → Place → List Row → WalkEnd → List Item
-last_items names n start walk end = row_items (Form.EntryLine names)
+abbrev pub last_items : Entries → ℕ → Place → List Row → WalkEnd → List Item
+last_items entries n start walk end = row_items (Form.EntryLine entries)
     (place_after_rows start (take (length walk - n) walk)) (last_rows n walk end)
 
 -- the plan of a listing of the last n entries
-abbrev pub last_plan : Option (List (List ℕ)) → ℕ → Place → List Row → WalkEnd → Plan
-last_plan names n start walk end = record {
-  items = with_first_spots (spots_of_walk start walk end) (last_items names n start walk end);
-  end = rows_end (Form.EntryLine names) walk end;
-  end_spots = end_spots_of_last (spots_of_walk start walk end) (last_items names n start walk end)
+abbrev pub last_plan : Entries → ℕ → Place → List Row → WalkEnd → Plan
+last_plan entries n start walk end = record {
+  items = with_first_spots (spots_of_walk start walk end) (last_items entries n start walk end);
+  end = rows_end (Form.EntryLine entries) walk end;
+  end_spots = end_spots_of_last (spots_of_walk start walk end) (last_items entries n start walk end)
       (spots_at_walk_end start walk end);
 }
 
--- ---- listings after the walk that reads the names of sensors
+-- ---- listings after the walk of the sensor data records that reads names
 
 abbrev pub bytes_of_rows : List Row → List (List ℕ)
 bytes_of_rows rows = map (λ row. row.bytes) rows
@@ -174,8 +175,8 @@ next_spots (item ∷ items) at_end = item.spots
 -- before the first item, or before the end if there are no items, the run may also stop at a spot
 -- of that walk
 abbrev pub spots_before : List Row → WalkEnd → Plan → List Spot
-spots_before sensors sensors_end plan =
-    spots_of_walk First sensors sensors_end ++ next_spots plan.items plan.end_spots
+spots_before records records_end plan =
+    spots_of_walk First records records_end ++ next_spots plan.items plan.end_spots
 
 -- if that walk did not end with `Done`, a run that would succeed fails: names may be missing
 abbrev pub end_after_names : WalkEnd → Ending → Ending
@@ -185,10 +186,10 @@ end_after_names _ ending = ending
 
 -- the plan of a listing after that walk
 abbrev pub after_names : List Row → WalkEnd → Plan → Plan
-after_names sensors sensors_end plan = record {
-  items = with_first_spots (spots_before sensors sensors_end plan) plan.items;
-  end = end_after_names sensors_end plan.end;
-  end_spots = end_spots_of_last (spots_before sensors sensors_end plan) plan.items plan.end_spots;
+after_names records records_end plan = record {
+  items = with_first_spots (spots_before records records_end plan) plan.items;
+  end = end_after_names records_end plan.end;
+  end_spots = end_spots_of_last (spots_before records records_end plan) plan.items plan.end_spots;
 }
 
 -- the plan of one text, after which the run is finished
@@ -199,26 +200,27 @@ text_plan subject spots = record {
   end_spots = [];
 }
 
-abbrev pub inventory_item : Wording → ℕ → Item
-inventory_item wording id =
-    record { subject = OfInventory wording id; spots = AtInventory id ∷ [] }
+abbrev pub inventory_item : Wording → ℕ → Option (List ℕ) → Item
+inventory_item wording id name =
+    record { subject = OfInventory wording id name; spots = AtInventory id ∷ [] }
 
 -- the plan of one inventory, in this wording
-abbrev pub inventory_plan : Wording → ℕ → Plan
-inventory_plan wording id = text_plan (OfInventory wording id) (AtInventory id ∷ [])
+abbrev pub inventory_plan : Wording → ℕ → Option (List ℕ) → Plan
+inventory_plan wording id name = text_plan (OfInventory wording id name) (AtInventory id ∷ [])
 
--- the plan of all inventories: that of device 0, then those of the locators
-abbrev pub inventories_plan : Wording → List Row → WalkEnd → Plan
-inventories_plan wording walk end = record {
-  items = inventory_item wording 0 ∷ row_items (Form.Device wording) First walk;
+-- the plan of all inventories: that of device 0, with this name, then those of the locators
+abbrev pub inventories_plan : Wording → Option (List ℕ) → List Row → WalkEnd → Plan
+inventories_plan wording name walk end = record {
+  items = inventory_item wording 0 name ∷ row_items (Form.Device wording) First walk;
   end = rows_end (Form.Device wording) walk end;
   end_spots = spots_at_walk_end First walk end;
 }
 
--- the plan of a shelf's info: its block, or a failure if there is none
-abbrev pub info_plan : Option (List ℕ) → Plan
-info_plan None = record { items = []; end = Err Failure.NoInfo; end_spots = AtRecord 0 ∷ [] }
-info_plan (Some info) = text_plan (OfInfo info) (AtRecord 0 ∷ [])
+-- the plan of a shelf's info, in this wording: its text, or a failure if there is none
+abbrev pub info_plan : Wording → Shelf → Option (List ℕ) → Plan
+info_plan wording shelf None =
+    record { items = []; end = Err Failure.NoInfo; end_spots = AtRecord 0 ∷ [] }
+info_plan wording shelf (Some info) = text_plan (OfInfo wording shelf info) (AtRecord 0 ∷ [])
 
 -- the plan of `image rewrite` over an image
 abbrev pub rewrite_plan : Plan

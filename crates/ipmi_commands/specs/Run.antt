@@ -1,31 +1,43 @@
 -- The contract of a run: over any controller, over an honest one, in pages, and over an image.
 use Rattle.std.specs.Prelude.{◌≡◌, ◌⊎◌, ℕ, ◌+◌, ◌*◌, ◌<◌, ◌≤◌, Bool, true, false, IsTrue, Option, None, Some, Result, Ok, Err, List, [], ◌++◌, length}
-use Rattle.ipmi_commands.specs.Below.{Count, Ended, fru_call_bound, LastCallSays, LastFailed, LastFruCallSays, NotPresent, RefusesRecord, RefusesValue, Seen, Shelf, start_of, Place, First, Sdr, Sel, Row, Store, info_of, WalkEnd, IsHonest, ImageFault, UsageFault, CommandState, Received, ReceivesText, TakesPart, Ending, Failure, failure_of_usage, said_of, status_of}
+use Rattle.ipmi_commands.specs.Below.{Count, device_name, Ended, fru_call_bound, LastCallSays, LastFailed, LastFruCallSays, NotPresent, RefusesRecord, RefusesValue, Seen, Shelf, start_of, Place, First, Sdr, Sel, Row, Store, info_of, WalkEnd, IsHonest, ImageFault, UsageFault, CommandState, Received, ReceivesText, TakesPart, Ending, Failure, failure_of_usage, said_of, status_of}
+use Rattle.ipmi_commands.specs.declared.job.Entries.{Entries}
 use Rattle.ipmi_commands.specs.declared.job.Form.{Form}
 use Rattle.ipmi_commands.specs.declared.job.Job.{Job}
 use Rattle.ipmi_commands.specs.declared.job.Listing.{Listing}
+use Rattle.ipmi_commands.specs.declared.job.Named.{Named}
 use Rattle.ipmi_commands.specs.declared.job.Wording.{Wording}
 use Rattle.ipmi_commands.specs.declared.unread.Unread.{Unread}
 use Rattle.ipmi_commands.specs.Allowed.{NoMemory, cause_of, EndsFor, IsAllowed, IsFine, Change}
 use Rattle.ipmi_commands.specs.Calls.{calls_for_spot, walk_call_bound, most_on_walk}
-use Rattle.ipmi_commands.specs.Job.{shelf_of, is_rewrite, job_in, job_of, listing}
+use Rattle.ipmi_commands.specs.Job.{entries_in, shelf_of, is_rewrite, job_in, job_of, listing}
 use Rattle.ipmi_commands.specs.Pages.{ArePages, IsOneListing, pages_made}
 use Rattle.ipmi_commands.specs.Plan.{OnWalk, AtInventory, Plan, after_names, bytes_of_rows, first_rows, last_rows, listing_plan, last_plan, inventory_plan, inventories_plan, info_plan, rewrite_plan, no_plan}
 use Rattle.ipmi_commands.specs.Texts.{IsTextOver}
 
 -- ---- over any controller
 
--- the largest number of calls; an inventory has at most 65,535 bytes
+-- the largest number of calls for all inventories; an inventory has at most 65,535 bytes
+abbrev pub most_for_all : Wording → ℕ → ℕ
+most_for_all wording tries =
+    fru_call_bound tries 65535 + most_on_walk (Form.Device wording) tries
+
+-- for what is listed with names, after the walk that reads them
+abbrev pub most_named : Wording → Named → ℕ → ℕ
+most_named wording (Named.Events count from) tries =
+    most_on_walk Form.Passed tries + most_on_walk Form.Passed tries
+most_named wording Named.Devices tries = most_for_all wording tries
+
+-- the largest number of calls of a job
 abbrev pub most_calls : Job → ℕ → ℕ
 most_calls (Job.Records l) tries = most_on_walk l.form tries
-most_calls (Job.Last names n from) tries =
+most_calls (Job.Last entries n from) tries =
     most_on_walk Form.Passed tries + most_on_walk Form.Passed tries
-most_calls (Job.Events count from) tries = most_on_walk Form.Bytes tries
-    + (most_on_walk Form.Passed tries + most_on_walk Form.Passed tries)
-most_calls (Job.Info shelf) tries = tries + 1
-most_calls (Job.Inventory wording id) tries = fru_call_bound tries 65535
-most_calls (Job.AllInventories wording) tries =
-    fru_call_bound tries 65535 + most_on_walk (Form.Device wording) tries
+most_calls (Job.Named wording named) tries =
+    most_on_walk Form.Bytes tries + most_named wording named tries
+most_calls (Job.Info wording shelf) tries = tries + 1
+most_calls (Job.Inventory wording id name) tries = fru_call_bound tries 65535
+most_calls (Job.AllInventories wording name) tries = most_for_all wording tries
 most_calls Job.Rewrite tries = 0
 
 -- an entry of the log has a fixed length, so only a sensor data record can be malformed
@@ -48,12 +60,13 @@ EndsListing form seen (Err Failure.WriteFault) = Unit {0}
 EndsListing form seen (Err Failure.OutOfMemory) = Unit {0}
 EndsListing form seen _ = ⊥
 
--- the possible ends of a listing of entries after a walk of the sensor data records; names may be
--- missing if that walk did not end with `Done`
-abbrev pub EndsEvents : Seen → Ending → Type 0
-EndsEvents seen (Err (Failure.NamesCycle n)) = Unit {0}
-EndsEvents seen (Err (Failure.NamesMissing n)) = Unit {0}
-EndsEvents seen ending = EndsListing Form.Bytes seen ending
+-- the possible ends of a listing after the walk that reads names; names may be missing if that walk
+-- did not end with `Done`
+abbrev pub EndsNamed : Wording → Named → Seen → Ending → Type 0
+EndsNamed wording named seen (Err (Failure.NamesCycle n)) = Unit {0}
+EndsNamed wording named seen (Err (Failure.NamesMissing n)) = Unit {0}
+EndsNamed wording (Named.Events count from) seen ending = EndsListing Form.Bytes seen ending
+EndsNamed wording Named.Devices seen ending = EndsListing (Form.Device wording) seen ending
 
 -- a reading or an info was given up or refused, or out of memory
 abbrev pub LacksValue : Unread → Seen → Type 0
@@ -83,11 +96,11 @@ EndsInventory seen _ = ⊥
 -- the possible ends of a run; over a controller, `image rewrite` does nothing and fails
 abbrev pub MayEnd : Job → Change → Ending → Type 0
 MayEnd (Job.Records l) c ending = EndsListing l.form c.seen' ending
-MayEnd (Job.Last names n from) c ending = EndsListing (Form.EntryLine names) c.seen' ending
-MayEnd (Job.Events count from) c ending = EndsEvents c.seen' ending
-MayEnd (Job.Info shelf) c ending = EndsInfo c.seen' ending
-MayEnd (Job.Inventory wording id) c ending = EndsInventory c.seen' ending
-MayEnd (Job.AllInventories wording) c ending = EndsListing (Form.Device wording) c.seen' ending
+MayEnd (Job.Last entries n from) c ending = EndsListing (Form.EntryLine entries) c.seen' ending
+MayEnd (Job.Named wording named) c ending = EndsNamed wording named c.seen' ending
+MayEnd (Job.Info wording shelf) c ending = EndsInfo c.seen' ending
+MayEnd (Job.Inventory wording id name) c ending = EndsInventory c.seen' ending
+MayEnd (Job.AllInventories wording name) c ending = EndsListing (Form.Device wording) c.seen' ending
 MayEnd Job.Rewrite c ending =
     (ending ≡ Err Failure.Usage) × (c.seen' ≡ c.seen) × (c.new ≡ c.old)
 
@@ -108,37 +121,48 @@ OnListing l tries store Holds =
     OnWalk (shelf_of l.form) l.start store (λ walk end. Holds (listing_plan l walk end)
     (walk_call_bound l.form store tries (first_rows l.most walk)))
 
-abbrev pub OnLast : Option (List (List ℕ)) → ℕ → Option ℕ → ℕ → Store → (Plan → ℕ → Type 0)
-    → Type 0
-OnLast names n from tries store Holds =
-    OnWalk Sel (start_of from) store (λ walk end. Holds (last_plan names n (start_of from) walk end)
-    (last_call_bound n store tries walk end))
+abbrev pub OnLast : Entries → ℕ → Option ℕ → ℕ → Store → (Plan → ℕ → Type 0) → Type 0
+OnLast entries n from tries store Holds =
+    OnWalk Sel (start_of from) store (λ walk end.
+    Holds (last_plan entries n (start_of from) walk end) (last_call_bound n store tries walk end))
 
--- the entries that `count` selects, with the names of these sensors
-abbrev pub OnNamed : Option (List (List ℕ)) → Count → Option ℕ → ℕ → Store → (Plan → ℕ → Type 0)
-    → Type 0
-OnNamed names Count.All from tries store Holds =
-    OnListing (listing (Form.EntryLine names) (start_of from) None) tries store Holds
-OnNamed names (Count.First n) from tries store Holds =
-    OnListing (listing (Form.EntryLine names) (start_of from) (Some n)) tries store Holds
-OnNamed names (Count.Last n) from tries store Holds = OnLast names n from tries store Holds
+-- the entries that `count` selects, each as such a line
+abbrev pub OnEntries : Entries → Count → Option ℕ → ℕ → Store → (Plan → ℕ → Type 0) → Type 0
+OnEntries entries Count.All from tries store Holds =
+    OnListing (listing (Form.EntryLine entries) (start_of from) None) tries store Holds
+OnEntries entries (Count.First n) from tries store Holds =
+    OnListing (listing (Form.EntryLine entries) (start_of from) (Some n)) tries store Holds
+OnEntries entries (Count.Last n) from tries store Holds = OnLast entries n from tries store Holds
+
+-- all inventories, with this name of device 0
+abbrev pub OnInventories : Wording → Option (List ℕ) → ℕ → Store → (Plan → ℕ → Type 0) → Type 0
+OnInventories wording name tries store Holds =
+    OnWalk Sdr First store (λ walk end. Holds (inventories_plan wording name walk end)
+    (calls_for_spot tries store (AtInventory 0)
+    + walk_call_bound (Form.Device wording) store tries walk))
+
+-- what is listed with the names in these sensor data records, in this wording
+abbrev pub OnNamed : Wording → List (List ℕ) → Named → ℕ → Store → (Plan → ℕ → Type 0) → Type 0
+OnNamed wording records (Named.Events count from) tries store Holds =
+    OnEntries (entries_in wording records) count from tries store Holds
+OnNamed wording records Named.Devices tries store Holds =
+    OnInventories wording (device_name 0 records) tries store Holds
 
 -- `Holds` for the job's plan over a store and the largest number of its calls, for each walk from
 -- the start that has an end; `tries` affects only the number of calls
 abbrev pub OnPlan : Job → ℕ → Store → (Plan → ℕ → Type 0) → Type 0
 OnPlan (Job.Records l) tries store Holds = OnListing l tries store Holds
-OnPlan (Job.Last names n from) tries store Holds = OnLast names n from tries store Holds
-OnPlan (Job.Events count from) tries store Holds =
-    OnWalk Sdr First store (λ sensors end. OnNamed (Some (bytes_of_rows sensors)) count from tries
-    store (λ plan calls. Holds (after_names sensors end plan)
-    (walk_call_bound Form.Bytes store tries sensors + calls)))
-OnPlan (Job.Info shelf) tries store Holds = Holds (info_plan (info_of shelf store)) (tries + 1)
-OnPlan (Job.Inventory wording id) tries store Holds =
-    Holds (inventory_plan wording id) (calls_for_spot tries store (AtInventory id))
-OnPlan (Job.AllInventories wording) tries store Holds =
-    OnWalk Sdr First store (λ walk end. Holds (inventories_plan wording walk end)
-    (calls_for_spot tries store (AtInventory 0)
-    + walk_call_bound (Form.Device wording) store tries walk))
+OnPlan (Job.Last entries n from) tries store Holds = OnLast entries n from tries store Holds
+OnPlan (Job.Named wording named) tries store Holds =
+    OnWalk Sdr First store (λ records end. OnNamed wording (bytes_of_rows records) named tries store
+    (λ plan calls. Holds (after_names records end plan)
+    (walk_call_bound Form.Bytes store tries records + calls)))
+OnPlan (Job.Info wording shelf) tries store Holds =
+    Holds (info_plan wording shelf (info_of shelf store)) (tries + 1)
+OnPlan (Job.Inventory wording id name) tries store Holds =
+    Holds (inventory_plan wording id name) (calls_for_spot tries store (AtInventory id))
+OnPlan (Job.AllInventories wording name) tries store Holds =
+    OnInventories wording name tries store Holds
 OnPlan Job.Rewrite tries store Holds = Holds no_plan 0
 
 -- the output agrees with the plan and with how the run ended, and the number of calls is within the

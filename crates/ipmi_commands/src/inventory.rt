@@ -1,15 +1,19 @@
 //! Prints the inventories of FRU devices.
-ghost use Rattle.std.specs.Prelude.{◌≡◌, ℕ, ◌+◌, ◌≤◌, ◌∷◌, [], Some, Err, IfErr, IfOk, option_map, string_bytes};
-ghost use Rattle.ipmi_commands.specs.Below.{AsksAtMost, LastFruCallSays, fru_call_bound, row_of_record, ReadsInventory, Seen, IsHonest, inventory_of, fru_of, printed_name, sdr_view_of};
-ghost use Rattle.ipmi_commands.specs.Prelude.{LacksInventory, elsewhere_in, in_parentheses, is_absent, Finds, IsDevicePiece, IsInventoryIn, IsInventoryPiece, IsInventoryText, IsLocatorPiece, AtInventory, device_spots, locator_spots};
+ghost use Rattle.std.specs.Prelude.{◌≡◌, ℕ, ◌+◌, ◌≤◌, ◌∷◌, [], Some, Err, IfErr, IfOk, OnOk, option_map, string_bytes, ◌++◌};
+ghost use Rattle.ipmi_commands.specs.Below.{Appends, AsksAtMost, LastFruCallSays, fru_call_bound, row_of_record, ReadsInventory, Seen, IsHonest, inventory_of, fru_of, printed_name, sdr_view_of};
+ghost use Rattle.ipmi_commands.specs.Prelude.{LacksInventory, in_parentheses, is_absent, Finds, IsDevicePiece, IsElsewhereIn, IsInventoryIn, IsInventoryPiece, IsInventoryText, IsLocatorPiece, AtInventory, device_spots, locator_spots};
 
 use crate::job::Wording;
 use crate::unread::Unread;
 use ipmi_bus::{Code, Controller, FruEnded, Record, read_fru};
 use ipmi_command_line::Command;
-use ipmi_fru::{elsewhere_line, fru_line, print_fru};
+use ipmi_fru::{elsewhere_line, fru_line, push_fru};
+use ipmi_json::fru_elsewhere_line;
 use ipmi_records::{SdrView, push_name};
 use std::alloc::{AllocError, Global};
+
+/// The capacity for the line of a device with most names.
+const LINE_CAPACITY: usize = 32;
 
 /// Whether the controller has no such inventory.
 fn is_absent(ended: FruEnded) -> bool
@@ -54,25 +58,29 @@ fn read_inventory<C: Controller>(
     }
 }
 
-/// The text of an inventory, or `not present` if there is none.
-fn inventory_text(alloc: Global, inventory: Option<&[u8]>) -> Result<String, AllocError>
-    ensures { IfOk result (λ text. IsInventoryText (option_map (λ bytes. bytes.now) inventory.entry)
-        (string_bytes text)) }
+/// Appends the text of an inventory, or `not present` if there is none.
+fn push_inventory(
+    alloc: Global,
+    text: &mut String,
+    inventory: Option<&[u8]>,
+) -> Result<(), AllocError>
+    ensures { OnOk result (Appends (IsInventoryText (option_map (λ bytes. bytes.now) inventory.entry))
+        (string_bytes text.old) (string_bytes text.new)) }
 {
     match inventory {
-        Some(bytes) => print_fru(alloc, bytes),
-        None => String::from_str(alloc, "not present\n"),
+        Some(bytes) => push_fru(alloc, text, bytes),
+        None => text.push_str("not present\n"),
     }
 }
 
-/// The name of a device in parentheses, after a space. Empty if there is no name.
-fn in_parentheses(alloc: Global, name: Option<&str>) -> Result<String, AllocError>
-    ensures { IfOk result (λ text.
-        string_bytes text ≡ in_parentheses (option_map (λ name. name.now) name.entry)) }
+/// Appends the name of a device in parentheses, after a space. Appends nothing if there is no name.
+fn push_in_parentheses(text: &mut String, name: Option<&str>) -> Result<(), AllocError>
+    ensures { OnOk result (string_bytes text.new ≡ string_bytes text.old ++ in_parentheses
+        (option_map (λ name. name.now) name.entry)) }
 {
     match name {
-        Some(name) => format!(in alloc; " ({name})"),
-        None => Ok(String::new(alloc)),
+        Some(name) => write!(text, " ({name})"),
+        None => Ok(()),
     }
 }
 
@@ -86,25 +94,30 @@ fn inventory_piece(
     ensures { IfOk result (λ text. IsInventoryPiece id (option_map (λ name. name.now) name.entry)
         (option_map (λ bytes. bytes.now) inventory.entry) (string_bytes text)) }
 {
-    let name = in_parentheses(alloc, name)?;
-    let text = inventory_text(alloc, inventory)?;
-    format!(in alloc; "FRU {id}{name}\n{text}\n")
+    let mut text = String::with_capacity(alloc, LINE_CAPACITY)?;
+    write!(text, "FRU {id}")?;
+    push_in_parentheses(&mut text, name)?;
+    text.push_str("\n")?;
+    push_inventory(alloc, &mut text, inventory)?;
+    text.push_str("\n")?;
+    Ok(text)
 }
 
 /// The text of a device with its name and its inventory, in this wording.
 fn text_in(
     alloc: Global,
-    wording: Wording,
+    wording: Wording<'_>,
     id: u8,
     name: Option<&str>,
     inventory: Option<&[u8]>,
-) -> Result<String, AllocError>
-    ensures { IfOk result (λ text. IsInventoryIn wording id (option_map (λ name. name.now) name.entry)
-        (option_map (λ bytes. bytes.now) inventory.entry) (string_bytes text)) }
+) -> Result<Vec<u8>, AllocError>
+    ensures { IfOk result (λ text. IsInventoryIn wording.entry id (option_map (λ name. name.now) name.entry)
+        (option_map (λ bytes. bytes.now) inventory.entry) text.items) }
 {
     match wording {
-        Wording::Codes => inventory_piece(alloc, id, name, inventory),
-        Wording::Words => fru_line(alloc, id, name, inventory),
+        Wording::Codes => Ok(inventory_piece(alloc, id, name, inventory)?.into_bytes()),
+        Wording::Words => Ok(fru_line(alloc, id, name, inventory)?.into_bytes()),
+        Wording::Json(labels) => ipmi_json::fru_line(alloc, id, name, inventory, labels),
     }
 }
 
@@ -113,16 +126,16 @@ pub(crate) fn inventory_in<C: Controller>(
     alloc: Global,
     ctl: &mut C,
     cmd: &Command,
-    wording: Wording,
+    wording: Wording<'_>,
     id: u8,
     name: Option<&str>,
-) -> Result<String, Unread>
+) -> Result<Vec<u8>, Unread>
     ensures calls { (C.seen ctl.new).calls ≤ (C.seen ctl.old).calls + fru_call_bound cmd.now.tries
         65535 }
     ensures asked { AsksAtMost cmd.now.part (C.seen ctl.old) (C.seen ctl.new) }
     ensures says { IfErr result (λ unread. LacksInventory unread (C.seen ctl.new)) }
     ensures honest { let named = option_map (λ name. name.now) name.entry in IsHonest (C.seen ctl.old) →
-        Finds (λ store text. IsInventoryIn wording id named (inventory_of id store) (string_bytes text))
+        Finds (λ store text. IsInventoryIn wording.entry id named (inventory_of id store) text.items)
         (AtInventory id ∷ []) cmd.now.tries (C.seen ctl.old) (C.seen ctl.new) result }
 {
     let inventory = read_inventory(alloc, ctl, cmd, id)?;
@@ -139,12 +152,16 @@ fn name_of(alloc: Global, view: &SdrView<'_>) -> Result<String, AllocError>
 }
 
 /// The text for a device of this name that is reached elsewhere, in this wording.
-fn elsewhere_in(alloc: Global, wording: Wording, name: &str) -> Result<String, AllocError>
-    ensures { IfOk result (λ text. string_bytes text ≡ elsewhere_in wording name.now) }
+fn elsewhere_in(alloc: Global, wording: Wording<'_>, name: &str) -> Result<Vec<u8>, AllocError>
+    ensures { IfOk result (λ text. IsElsewhereIn wording.entry name.now text.items) }
 {
     match wording {
-        Wording::Codes => format!(in alloc; "FRU ({name}): elsewhere, not read\n\n"),
-        Wording::Words => elsewhere_line(alloc, name),
+        Wording::Codes => {
+            let text = format!(in alloc; "FRU ({name}): elsewhere, not read\n\n")?;
+            Ok(text.into_bytes())
+        }
+        Wording::Words => Ok(elsewhere_line(alloc, name)?.into_bytes()),
+        Wording::Json(labels) => fru_elsewhere_line(alloc, Some(name), labels),
     }
 }
 
@@ -154,22 +171,22 @@ fn device_piece<C: Controller>(
     alloc: Global,
     ctl: &mut C,
     cmd: &Command,
-    wording: Wording,
+    wording: Wording<'_>,
     view: &SdrView<'_>,
-) -> Result<String, Unread>
+) -> Result<Vec<u8>, Unread>
     ensures calls { (C.seen ctl.new).calls ≤ (C.seen ctl.old).calls + fru_call_bound cmd.now.tries
         65535 }
     ensures asked { AsksAtMost cmd.now.part (C.seen ctl.old) (C.seen ctl.new) }
     ensures says { IfErr result (λ unread. LacksInventory unread (C.seen ctl.new)) }
     ensures honest { IsHonest (C.seen ctl.old) →
-        Finds (λ store text. IsDevicePiece wording store (printed_name view.now) (fru_of view.now)
-        (string_bytes text)) (device_spots (fru_of view.now)) cmd.now.tries (C.seen ctl.old)
+        Finds (λ store text. IsDevicePiece wording.entry store (printed_name view.now) (fru_of view.now)
+        text.items) (device_spots (fru_of view.now)) cmd.now.tries (C.seen ctl.old)
         (C.seen ctl.new) result }
 {
     let name = name_of(alloc, view)?;
     match view.fru_of() {
         None => Ok(elsewhere_in(alloc, wording, &name)?),
-        Some(0) => Ok(String::new(alloc)),
+        Some(0) => Ok(Vec::new(alloc)),
         Some(id) => inventory_in(alloc, ctl, cmd, wording, id, Some(&name)),
     }
 }
@@ -180,23 +197,23 @@ pub(crate) fn locator_piece<C: Controller>(
     alloc: Global,
     ctl: &mut C,
     cmd: &Command,
-    wording: Wording,
+    wording: Wording<'_>,
     lent: &Record<'_>,
-) -> Result<String, Unread>
+) -> Result<Vec<u8>, Unread>
     ensures calls { (C.seen ctl.new).calls ≤ (C.seen ctl.old).calls + fru_call_bound cmd.now.tries
         65535 }
     ensures asked { AsksAtMost cmd.now.part (C.seen ctl.old) (C.seen ctl.new) }
     ensures says { IfErr result (λ unread. LacksInventory unread (C.seen ctl.new)) }
     ensures honest { let row = row_of_record lent.now in IsHonest (C.seen ctl.old) →
-        Finds (λ store text. IsLocatorPiece wording store (sdr_view_of row.bytes) (string_bytes text))
+        Finds (λ store text. IsLocatorPiece wording.entry store (sdr_view_of row.bytes) text.items)
         (locator_spots (sdr_view_of row.bytes)) cmd.now.tries (C.seen ctl.old) (C.seen ctl.new)
         result }
 {
     let Ok(view) = SdrView::read(lent.bytes) else {
-        return Ok(String::new(alloc));
+        return Ok(Vec::new(alloc));
     };
     match &view {
         SdrView::Fru(_) => device_piece(alloc, ctl, cmd, wording, &view),
-        _ => Ok(String::new(alloc)),
+        _ => Ok(Vec::new(alloc)),
     }
 }

@@ -5,12 +5,11 @@ ghost use Rattle.ipmi_commands.specs.declared.job.Form.{Form};
 ghost use Rattle.ipmi_commands.specs.declared.job.Job.{Job};
 ghost use Rattle.ipmi_commands.specs.Prelude.{change, CountsEntries, ending_of, EndsListing, IsFrom, ListsAfter, most_on_walk, Runs};
 
-use crate::job::Form;
+use crate::job::{Entries, Form};
 use crate::listing::list_records;
 use crate::pages::start_cursor;
 use ipmi_bus::Controller;
 use ipmi_command_line::Command;
-use ipmi_events::Sensors;
 use ipmi_output::{Failure, Sink};
 use std::alloc::Global;
 
@@ -42,7 +41,7 @@ fn list_after<'a, C: Controller, O: Sink>(
     alloc: Global,
     ctl: &mut C,
     cmd: &Command,
-    names: Option<Sensors>,
+    entries: Entries<'a>,
     from: Option<u16>,
     passed: u32,
     out: &mut O,
@@ -50,11 +49,11 @@ fn list_after<'a, C: Controller, O: Sink>(
     requires { IsFrom from }
     ensures faults { O.faults out.new ≡ O.faults out.old + write_faults result }
     ensures asked { AsksAtMost cmd.now.part (C.seen ctl.old) (C.seen ctl.new) }
-    ensures ends { EndsListing (Form.EntryLine names) (C.seen ctl.new) result }
+    ensures ends { EndsListing (Form.EntryLine entries.entry) (C.seen ctl.new) result }
     ensures calls { (C.seen ctl.new).calls ≤ (C.seen ctl.old).calls + most_on_walk Form.Passed
         cmd.now.tries }
     ensures honest { IsHonest (C.seen ctl.old) →
-        ListsAfter names (start_of from) passed cmd.now.tries (change (C.seen ctl.old) (C.seen ctl.new)
+        ListsAfter entries.entry (start_of from) passed cmd.now.tries (change (C.seen ctl.old) (C.seen ctl.new)
         (O.taken out.old) (O.taken out.new)) result }
 {
     let mut cursor = start_cursor(alloc, cmd, &Form::Passed, from)?;
@@ -67,7 +66,7 @@ fn list_after<'a, C: Controller, O: Sink>(
         &mut cursor,
         ctl,
         cmd,
-        &Form::EntryLine(names),
+        &Form::EntryLine(entries),
         None,
         out,
     )?;
@@ -75,12 +74,11 @@ fn list_after<'a, C: Controller, O: Sink>(
 }
 
 /// Lists the last `wanted` entries. The first walk counts all entries, the second skips those before the last ones.
-/// With `names`, events are in words, with the names of these sensors.
 pub(crate) fn list_last<'a, C: Controller, O: Sink>(
     alloc: Global,
     ctl: &mut C,
     cmd: &Command,
-    names: Option<Sensors>,
+    entries: Entries<'a>,
     wanted: u16,
     from: Option<u16>,
     out: &mut O,
@@ -89,14 +87,14 @@ pub(crate) fn list_last<'a, C: Controller, O: Sink>(
     requires from { IsFrom from }
     ensures faults { O.faults out.new ≡ O.faults out.old + write_faults result }
     ensures asked { AsksAtMost cmd.now.part (C.seen ctl.old) (C.seen ctl.new) }
-    ensures runs { Runs (Job.Last names wanted from) cmd.now.tries
+    ensures runs { Runs (Job.Last entries.entry wanted from) cmd.now.tries
         (change (C.seen ctl.old) (C.seen ctl.new) (O.taken out.old) (O.taken out.new)) result }
 {
     match count_entries(alloc, ctl, cmd, from, out) {
         Ok(0) => Ok(()),
         Ok(count) => {
             let passed = count.saturating_sub(u32::from(wanted));
-            list_after(alloc, ctl, cmd, names, from, passed, out)
+            list_after(alloc, ctl, cmd, entries, from, passed, out)
         }
         Err(failure) => Err(failure),
     }

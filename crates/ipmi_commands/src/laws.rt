@@ -1,8 +1,7 @@
-//! Laws of plans: what follows from their definitions alone. Each law is the contract of a function that does
-//! nothing.
+//! Laws of plans. They follow from the definitions of plans. Each law is the contract of a function that does nothing.
 ghost use Rattle.ipmi_commands.specs.Prelude.{FinishedRunsAreOne, ItemsHaveAText, ItemsHaveOneText};
 
-/// Over a well-formed store, each list of items has a text.
+/// Over a well-formed store, each list of items in codes and in words has a text.
 pub fn items_have_a_text()
     ensures { ItemsHaveAText }
 {
@@ -31,6 +30,11 @@ pub fn items_have_one_text()
     ipmi_events::laws::one_event_in_words();
     ipmi_events::sensor_laws::one_sensor_line();
     ipmi_events::sensor_laws::one_sensor_block();
+    ipmi_json::laws::one_object_line();
+    ipmi_json::laws::one_record_line();
+    ipmi_json::laws::one_entry_line();
+    ipmi_json::laws::one_info_line();
+    ipmi_json::laws::one_fru_line();
 }
 
 /// Over a well-formed store, a finished run has only one possible output and one possible end.

@@ -1,13 +1,13 @@
 //! Runs the commands of `ipmitool` over any controller or over a saved image.
 #![tactic(auto)]
 
-mod events;
 mod info;
 mod inventory;
 mod job;
 mod last;
 pub mod laws;
 mod listing;
+mod named;
 mod pages;
 mod perform;
 mod piece;

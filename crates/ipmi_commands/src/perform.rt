@@ -1,20 +1,19 @@
 //! Runs commands over any controller.
-ghost use Rattle.std.specs.Prelude.{◌≡◌, ◌+◌, true};
+ghost use Rattle.std.specs.Prelude.{◌≡◌, ◌+◌, true, option_map};
 ghost use Rattle.ipmi_commands.specs.Below.{AsksAtMost, IsCount, is_listing, write_faults};
 ghost use Rattle.ipmi_commands.specs.declared.job.Job.{Job};
 ghost use Rattle.ipmi_commands.specs.declared.job.Listing.{Listing};
-ghost use Rattle.ipmi_commands.specs.Prelude.{change, IsFrom, IsPlace, job_of_command, job_of_command_in, named_job, Runs, RunsPaged, WritesText};
+ghost use Rattle.ipmi_commands.specs.Prelude.{change, entries_job, IsFrom, IsPlace, job_of_command, job_of_command_in, Runs, RunsPaged, WritesText};
 
-use crate::events::list_events;
 use crate::info::info_text;
 use crate::inventory::inventory_in;
-use crate::job::{Form, Job, Listing, Wording};
+use crate::job::{Entries, Form, Job, Listing, Wording};
 use crate::last::list_last;
+use crate::named::list_named;
 use crate::pages::{list_page, list_pages};
 use ipmi_bus::{Controller, Place, Shelf};
 use ipmi_command_line::{Command, Count};
-use ipmi_events::Sensors;
-use ipmi_output::{Failure, Sink, write_all};
+use ipmi_output::{Failure, Name, Sink, write_all};
 use std::alloc::Global;
 
 /// Writes a text.
@@ -51,13 +50,12 @@ fn list<'a, C: Controller, O: Sink>(
     Ok(())
 }
 
-/// Lists the entries that `count` selects, starting at the id `from` or at the first entry. With `names`, events are
-/// in words, with the names of these sensors.
-pub(crate) fn list_named<'a, C: Controller, O: Sink>(
+/// Lists the entries that `count` selects, starting at the id `from` or at the first entry.
+pub(crate) fn list_entries<'a, C: Controller, O: Sink>(
     alloc: Global,
     ctl: &mut C,
     cmd: &Command,
-    names: Option<Sensors>,
+    entries: Entries<'a>,
     count: Count,
     from: Option<u16>,
     out: &mut O,
@@ -66,73 +64,88 @@ pub(crate) fn list_named<'a, C: Controller, O: Sink>(
     requires from { IsFrom from }
     ensures faults { O.faults out.new ≡ O.faults out.old + write_faults result }
     ensures asked { AsksAtMost cmd.now.part (C.seen ctl.old) (C.seen ctl.new) }
-    ensures runs { Runs (named_job names count from) cmd.now.tries
+    ensures runs { Runs (entries_job entries.entry count from) cmd.now.tries
         (change (C.seen ctl.old) (C.seen ctl.new) (O.taken out.old) (O.taken out.new)) result }
 {
     match count {
         Count::All => {
-            let listing = Listing::new(Form::EntryLine(names), from, None);
+            let listing = Listing::new(Form::EntryLine(entries), from, None);
             list(alloc, ctl, cmd, &listing, out)
         }
         Count::First(n) => {
-            let listing = Listing::new(Form::EntryLine(names), from, Some(u32::from(n)));
+            let listing = Listing::new(Form::EntryLine(entries), from, Some(u32::from(n)));
             list(alloc, ctl, cmd, &listing, out)
         }
-        Count::Last(n) => list_last(alloc, ctl, cmd, names, n, from, out),
+        Count::Last(n) => list_last(alloc, ctl, cmd, entries, n, from, out),
     }
 }
 
-/// Prints the info of the shelf.
+/// Prints the info of the shelf, in this wording.
 fn print_info<'a, C: Controller, O: Sink>(
     alloc: Global,
     ctl: &mut C,
     cmd: &Command,
+    wording: Wording<'_>,
     shelf: Shelf,
     out: &mut O,
 ) -> Result<(), Failure<'a>>
     ensures faults { O.faults out.new ≡ O.faults out.old + write_faults result }
     ensures asked { AsksAtMost cmd.now.part (C.seen ctl.old) (C.seen ctl.new) }
-    ensures runs { Runs (Job.Info shelf) cmd.now.tries
+    ensures runs { Runs (Job.Info wording.entry shelf) cmd.now.tries
         (change (C.seen ctl.old) (C.seen ctl.new) (O.taken out.old) (O.taken out.new)) result }
 {
-    match info_text(alloc, ctl, shelf, cmd.tries())? {
-        Some(text) => write_text(text.as_bytes(), out),
+    match info_text(alloc, ctl, wording, shelf, cmd.tries())? {
+        Some(text) => write_text(text.as_slice(), out),
         None => Err(Failure::NoInfo),
     }
 }
 
-/// Prints the inventory of one device, in this wording.
+/// The text of a name, if there is one.
+fn text_of<'a>(name: &Option<Name<'a>>) -> Option<&'a str>
+    ensures { option_map (λ text. text.now) result ≡ name.now }
+{
+    match name {
+        Some(name) => Some(name.as_str()),
+        None => None,
+    }
+}
+
+/// Prints the inventory of one device with this name, in this wording.
 fn print_inventory<'a, C: Controller, O: Sink>(
     alloc: Global,
     ctl: &mut C,
     cmd: &Command,
-    wording: Wording,
+    wording: Wording<'_>,
     id: u8,
+    name: Option<&str>,
     out: &mut O,
 ) -> Result<(), Failure<'a>>
     ensures faults { O.faults out.new ≡ O.faults out.old + write_faults result }
     ensures asked { AsksAtMost cmd.now.part (C.seen ctl.old) (C.seen ctl.new) }
-    ensures runs { Runs (Job.Inventory wording id) cmd.now.tries
+    ensures runs { let named = option_map (λ name. name.now) name.entry in
+        Runs (Job.Inventory wording.entry id named) cmd.now.tries
         (change (C.seen ctl.old) (C.seen ctl.new) (O.taken out.old) (O.taken out.new)) result }
 {
-    let text = inventory_in(alloc, ctl, cmd, wording, id, None)?;
-    write_text(text.as_bytes(), out)
+    let text = inventory_in(alloc, ctl, cmd, wording, id, name)?;
+    write_text(text.as_slice(), out)
 }
 
-/// Prints all inventories, in this wording: that of device 0, then those of the locators.
-fn print_inventories<'a, C: Controller, O: Sink>(
+/// Prints all inventories, in this wording: that of device 0 with this name, then those of the locators.
+pub(crate) fn print_inventories<'a, C: Controller, O: Sink>(
     alloc: Global,
     ctl: &mut C,
     cmd: &Command,
-    wording: Wording,
+    wording: Wording<'a>,
+    name: Option<&str>,
     out: &mut O,
 ) -> Result<(), Failure<'a>>
     ensures faults { O.faults out.new ≡ O.faults out.old + write_faults result }
     ensures asked { AsksAtMost cmd.now.part (C.seen ctl.old) (C.seen ctl.new) }
-    ensures runs { Runs (Job.AllInventories wording) cmd.now.tries
+    ensures runs { let named = option_map (λ name. name.now) name.entry in
+        Runs (Job.AllInventories wording.entry named) cmd.now.tries
         (change (C.seen ctl.old) (C.seen ctl.new) (O.taken out.old) (O.taken out.new)) result }
 {
-    print_inventory(alloc, ctl, cmd, wording, 0, out)?;
+    print_inventory(alloc, ctl, cmd, wording, 0, name, out)?;
     let form = Form::Device(wording);
     list_page(alloc, ctl, cmd, &form, Place::First, None, out)?;
     Ok(())
@@ -159,21 +172,25 @@ pub fn execute_in<'a, C: Controller, O: Sink>(
     alloc: Global,
     ctl: &mut C,
     cmd: &'a Command,
-    wording: Wording,
+    wording: Wording<'a>,
     out: &mut O,
 ) -> Result<(), Failure<'a>>
     ensures faults { O.faults out.new ≡ O.faults out.old + write_faults result }
     ensures asked { AsksAtMost cmd.now.part (C.seen ctl.old) (C.seen ctl.new) }
-    ensures runs { Runs (job_of_command_in wording cmd.now) cmd.now.tries
+    ensures runs { Runs (job_of_command_in wording.entry cmd.now) cmd.now.tries
         (change (C.seen ctl.old) (C.seen ctl.new) (O.taken out.old) (O.taken out.new)) result }
 {
     match Job::of(cmd, wording) {
         Job::Records(listing) => list(alloc, ctl, cmd, &listing, out),
-        Job::Last(names, wanted, from) => list_last(alloc, ctl, cmd, names, wanted, from, out),
-        Job::Events(count, from) => list_events(alloc, ctl, cmd, count, from, out),
-        Job::Info(shelf) => print_info(alloc, ctl, cmd, shelf, out),
-        Job::Inventory(wording, id) => print_inventory(alloc, ctl, cmd, wording, id, out),
-        Job::AllInventories(wording) => print_inventories(alloc, ctl, cmd, wording, out),
+        Job::Last(entries, wanted, from) => list_last(alloc, ctl, cmd, entries, wanted, from, out),
+        Job::Named(wording, named) => list_named(alloc, ctl, cmd, wording, named, out),
+        Job::Info(wording, shelf) => print_info(alloc, ctl, cmd, wording, shelf, out),
+        Job::Inventory(wording, id, name) => {
+            print_inventory(alloc, ctl, cmd, wording, id, text_of(&name), out)
+        }
+        Job::AllInventories(wording, name) => {
+            print_inventories(alloc, ctl, cmd, wording, text_of(&name), out)
+        }
         Job::Rewrite => Err(Failure::Usage),
     }
 }

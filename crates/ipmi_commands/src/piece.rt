@@ -3,18 +3,19 @@
 ghost use Rattle.std.specs.Prelude.{◌≡◌, ◌+◌, ◌≤◌, IfErr, IfOk, length, Ok, option_map, string_bytes};
 ghost use Rattle.ipmi_commands.specs.Below.{AsksAtMost, row_of_record, IsHonest, largest_len, whole_len, sdr_view_of};
 ghost use Rattle.ipmi_records.specs.Sdr.{name_of};
-ghost use Rattle.ipmi_commands.specs.Prelude.{LacksPiece, LacksValue, bytes_of, Finds, is_name, is_of_kind, IsBlockIn, IsBlockOfName, IsEntryLine, IsLineOf, IsListedOfKind, IsRowText, listed_spots, most_after, named_spots, reading_for, reading_spots, shelf_of, spots_because_of};
+ghost use Rattle.ipmi_commands.specs.Prelude.{LacksPiece, LacksValue, bytes_of, Finds, is_name, is_of_kind, IsBlockIn, IsBlockOfName, IsEntryLine, IsFaultLine, IsLineOf, IsListedOfKind, IsRowText, listed_spots, most_after, named_spots, reading_for, reading_spots, shelf_of, spots_because_of};
 
 use crate::inventory::locator_piece;
-use crate::job::{Detail, Form, Wording};
+use crate::job::{Detail, Entries, Form, Wording};
 use crate::unread::Unread;
 use ipmi_bus::{Controller, Record, SEL_ENTRY_LEN, read_reading};
 use ipmi_command_line::{Command, Kind};
-use ipmi_events::{Sensors, event_line, sensor_block, sensor_line};
+use ipmi_events::{event_line, sensor_block, sensor_line};
 use ipmi_image::{LineBuffer, record_line};
+use ipmi_json::{sdr_raw_line, sdr_record_line, sel_entry_line};
 use ipmi_records::{
-    COMPACT_TYPE, CONTROLLER_TYPE, EVENT_ONLY_TYPE, FRU_TYPE, FULL_TYPE, GENERIC_TYPE, SdrView,
-    SelView, sdr_block, sdr_eline, sdr_fault_line, sdr_line, sel_block, sel_line,
+    COMPACT_TYPE, CONTROLLER_TYPE, EVENT_ONLY_TYPE, FRU_TYPE, FULL_TYPE, GENERIC_TYPE, SdrFault,
+    SdrView, SelView, sdr_block, sdr_eline, sdr_fault_line, sdr_line, sel_block, sel_line,
 };
 use ipmi_text::Reading;
 use std::alloc::{AllocError, Global};
@@ -66,16 +67,38 @@ fn reading_for<C: Controller>(
 /// The line of a record with its reading, in this form.
 fn line_of(
     alloc: Global,
-    detail: Detail,
+    detail: Detail<'_>,
+    id: u16,
     view: &SdrView<'_>,
     reading: Option<Reading>,
-) -> Result<String, AllocError>
-    ensures { IfOk result (λ text. IsLineOf detail view.now reading (string_bytes text)) }
+) -> Result<Vec<u8>, AllocError>
+    ensures { IfOk result (λ text. IsLineOf detail.entry id view.now reading text.items) }
 {
     match detail {
-        Detail::Short => sdr_line(alloc, view, reading),
-        Detail::Extended => sdr_eline(alloc, view, reading),
-        Detail::Words => sensor_line(alloc, view, reading),
+        Detail::Short => Ok(sdr_line(alloc, view, reading)?.into_bytes()),
+        Detail::Extended => Ok(sdr_eline(alloc, view, reading)?.into_bytes()),
+        Detail::Words => Ok(sensor_line(alloc, view, reading)?.into_bytes()),
+        Detail::Json(labels) => sdr_record_line(alloc, id, view, reading, labels),
+    }
+}
+
+/// The line of a record's fault, in this form.
+fn fault_line_of(
+    alloc: Global,
+    detail: Detail<'_>,
+    lent: &Record<'_>,
+    fault: SdrFault,
+) -> Result<Vec<u8>, AllocError>
+    ensures { let row = row_of_record lent.now in
+        IfOk result (λ text. IsFaultLine detail.entry row.id fault row.bytes text.items) }
+{
+    match detail {
+        Detail::Short | Detail::Extended | Detail::Words => {
+            Ok(sdr_fault_line(alloc, lent.id, fault)?.into_bytes())
+        }
+        Detail::Json(labels) => {
+            ipmi_json::sdr_fault_line(alloc, lent.id, fault, lent.bytes, labels)
+        }
     }
 }
 
@@ -83,28 +106,28 @@ fn line_of(
 fn listed_line<C: Controller>(
     alloc: Global,
     ctl: &mut C,
-    detail: Detail,
+    detail: Detail<'_>,
     kind: Kind,
     tries: u8,
     lent: &Record<'_>,
-) -> Result<String, Unread>
+) -> Result<Vec<u8>, Unread>
     requires { 5 ≤ length lent.now.bytes.now }
     ensures calls { (C.seen ctl.new).calls ≤ (C.seen ctl.old).calls + (tries + 1) }
     ensures asked { AsksAtMost 0 (C.seen ctl.old) (C.seen ctl.new) }
     ensures says { IfErr result (λ unread. LacksValue unread (C.seen ctl.new)) }
     ensures honest { let row = row_of_record lent.now in IsHonest (C.seen ctl.old) →
-        Finds (λ store text. IsListedOfKind detail kind store row (string_bytes text))
+        Finds (λ store text. IsListedOfKind detail.entry kind store row text.items)
         (listed_spots kind row) tries (C.seen ctl.old) (C.seen ctl.new) result }
 {
     if !is_of_kind(kind, lent.bytes[3]) {
-        return Ok(String::new(alloc));
+        return Ok(Vec::new(alloc));
     }
     let view = match SdrView::read(lent.bytes) {
         Ok(view) => view,
-        Err(fault) => return Ok(sdr_fault_line(alloc, lent.id, fault)?),
+        Err(fault) => return Ok(fault_line_of(alloc, detail, lent, fault)?),
     };
     let reading = reading_for(ctl, lent.id, &view, tries)?;
-    Ok(line_of(alloc, detail, &view, reading)?)
+    Ok(line_of(alloc, detail, lent.id, &view, reading)?)
 }
 
 /// Whether a record with the printed name `own` has this name.
@@ -120,31 +143,33 @@ fn is_name(name: &str, own: &Option<String>) -> bool
 /// The block of a record with its reading, in this wording.
 fn block_of(
     alloc: Global,
-    wording: Wording,
+    wording: Wording<'_>,
     id: u16,
     view: &SdrView<'_>,
     reading: Option<Reading>,
-) -> Result<String, AllocError>
-    ensures { IfOk result (λ text. IsBlockIn wording id view.now reading (string_bytes text)) }
+) -> Result<Vec<u8>, AllocError>
+    ensures { IfOk result (λ text. IsBlockIn wording.entry id view.now reading text.items) }
 {
     match wording {
-        Wording::Codes => sdr_block(alloc, id, view, reading),
-        Wording::Words => sensor_block(alloc, id, view, reading),
+        Wording::Codes => Ok(sdr_block(alloc, id, view, reading)?.into_bytes()),
+        Wording::Words => Ok(sensor_block(alloc, id, view, reading)?.into_bytes()),
+        Wording::Json(labels) => sdr_record_line(alloc, id, view, reading, labels),
     }
 }
 
-/// The line of an entry. With `names`, it is in words, with the names of these sensors; without, it is in codes.
+/// The line of an entry.
 fn entry_line(
     alloc: Global,
-    names: &Option<Sensors>,
+    entries: &Entries<'_>,
     id: u16,
     entry: &SelView<'_>,
-) -> Result<String, AllocError>
-    ensures { IfOk result (λ text. IsEntryLine names.now id entry.now (string_bytes text)) }
+) -> Result<Vec<u8>, AllocError>
+    ensures { IfOk result (λ text. IsEntryLine entries.now id entry.now text.items) }
 {
-    match names {
-        None => sel_line(alloc, id, entry),
-        Some(sensors) => event_line(alloc, id, entry, sensors),
+    match entries {
+        Entries::Codes => Ok(sel_line(alloc, id, entry)?.into_bytes()),
+        Entries::Words(sensors) => Ok(event_line(alloc, id, entry, sensors)?.into_bytes()),
+        Entries::Json(sensors, labels) => sel_entry_line(alloc, id, entry, Some(sensors), labels),
     }
 }
 
@@ -152,25 +177,25 @@ fn entry_line(
 fn named_block<C: Controller>(
     alloc: Global,
     ctl: &mut C,
-    wording: Wording,
+    wording: Wording<'_>,
     name: &str,
     tries: u8,
     lent: &Record<'_>,
-) -> Result<String, Unread>
+) -> Result<Vec<u8>, Unread>
     ensures calls { (C.seen ctl.new).calls ≤ (C.seen ctl.old).calls + (tries + 1) }
     ensures asked { AsksAtMost 0 (C.seen ctl.old) (C.seen ctl.new) }
     ensures says { IfErr result (λ unread. LacksValue unread (C.seen ctl.new)) }
     ensures honest { let row = row_of_record lent.now in IsHonest (C.seen ctl.old) →
-        Finds (λ store text. IsBlockOfName wording name.now store row.id (sdr_view_of row.bytes)
-        (string_bytes text)) (named_spots name.now row.id (sdr_view_of row.bytes)) tries (C.seen ctl.old)
+        Finds (λ store text. IsBlockOfName wording.entry name.now store row.id (sdr_view_of row.bytes)
+        text.items) (named_spots name.now row.id (sdr_view_of row.bytes)) tries (C.seen ctl.old)
         (C.seen ctl.new) result }
 {
     let Ok(view) = SdrView::read(lent.bytes) else {
-        return Ok(String::new(alloc));
+        return Ok(Vec::new(alloc));
     };
     let own = view.name(alloc)?;
     if !is_name(name, &own) {
-        return Ok(String::new(alloc));
+        return Ok(Vec::new(alloc));
     }
     let id = lent.id;
     let reading = reading_for(ctl, id, &view, tries)?;
@@ -183,7 +208,7 @@ pub(crate) enum Piece {
     /// The contents of the line buffer.
     Line,
     /// A text of its own.
-    Text(String),
+    Text(Vec<u8>),
 }
 
 impl Piece {
@@ -193,7 +218,7 @@ impl Piece {
     {
         match self {
             Piece::Line => line.as_slice(),
-            Piece::Text(text) => text.as_bytes(),
+            Piece::Text(text) => text.as_slice(),
         }
     }
 }
@@ -232,6 +257,10 @@ pub(crate) fn record_piece<C: Controller>(
             record_line(lent, line);
             Ok(Piece::Line)
         }
+        Form::RawObject(labels) => {
+            let (id, next) = (lent.id, lent.next);
+            Ok(Piece::Text(sdr_raw_line(alloc, id, next, lent.bytes, labels)?))
+        }
         Form::Bytes => {
             copy_bytes(lent, line);
             Ok(Piece::Line)
@@ -246,14 +275,15 @@ pub(crate) fn record_piece<C: Controller>(
         Form::Device(wording) => {
             Ok(Piece::Text(locator_piece(alloc, ctl, cmd, *wording, lent)?))
         }
-        Form::EntryLine(names) => {
+        Form::EntryLine(entries) => {
             let entry = SelView::read(entry_bytes(lent.bytes));
-            Ok(Piece::Text(entry_line(alloc, names, lent.id, &entry)?))
+            Ok(Piece::Text(entry_line(alloc, entries, lent.id, &entry)?))
         }
         Form::EntryBlock => {
             let entry = SelView::read(entry_bytes(lent.bytes));
-            Ok(Piece::Text(sel_block(alloc, lent.id, &entry)?))
+            let block = sel_block(alloc, lent.id, &entry)?;
+            Ok(Piece::Text(block.into_bytes()))
         }
-        Form::Passed => Ok(Piece::Text(String::new(alloc))),
+        Form::Passed => Ok(Piece::Text(Vec::new(alloc))),
     }
 }

@@ -85,12 +85,12 @@ pub fn execute_image<'a, O: Sink>(
 pub fn execute_image_in<'a, O: Sink>(
     alloc: Global,
     cmd: &'a Command,
-    wording: Wording,
+    wording: Wording<'a>,
     image: &[u8],
     out: &mut O,
 ) -> Result<(), Failure<'a>>
     ensures faults { O.faults out.new ≡ O.faults out.old + write_faults result }
-    ensures answers { AnswersJob (job_of_command_in wording cmd.now) (store_of_image image.now) (O.taken out.old)
+    ensures answers { AnswersJob (job_of_command_in wording.entry cmd.now) (store_of_image image.now) (O.taken out.old)
         (O.taken out.new) result }
 {
     let image = Image::read(alloc, image)?;

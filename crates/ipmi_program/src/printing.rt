@@ -39,13 +39,13 @@ fn hand_on<'a, W: Write + Drop>(
 pub fn print<'a, W: Write + Drop>(
     alloc: Global,
     cmd: &'a Command,
-    wording: Wording,
+    wording: Wording<'a>,
     image: &[u8],
     out: &mut Written<BufWriter<W>>,
 ) -> Result<(), Failure<'a>>
     ensures faults { ⟦<Written<BufWriter<W>> as Sink>⟧.faults out.new ≡
         ⟦<Written<BufWriter<W>> as Sink>⟧.faults out.old + write_faults result }
-    ensures prints { EndsBy (λ ending. AnswersJob (job_of_command_in wording cmd.now) (store_of_image image.now)
+    ensures prints { EndsBy (λ ending. AnswersJob (job_of_command_in wording.entry cmd.now) (store_of_image image.now)
         (⟦<Written<BufWriter<W>> as Sink>⟧.taken out.old)
         (⟦<Written<BufWriter<W>> as Sink>⟧.taken out.new) ending) result }
     ensures handed_on { IsHandedOn (writer_buffer (writer_of out.new)) result }
@@ -59,13 +59,13 @@ pub fn print_live<'a, C: Controller, W: Write + Drop>(
     alloc: Global,
     ctl: &mut C,
     cmd: &'a Command,
-    wording: Wording,
+    wording: Wording<'a>,
     out: &mut Written<BufWriter<W>>,
 ) -> Result<(), Failure<'a>>
     ensures faults { ⟦<Written<BufWriter<W>> as Sink>⟧.faults out.new ≡
         ⟦<Written<BufWriter<W>> as Sink>⟧.faults out.old + write_faults result }
     ensures asked { AsksAtMost cmd.now.part (C.seen ctl.old) (C.seen ctl.new) }
-    ensures prints { EndsBy (λ ending. Runs (job_of_command_in wording cmd.now) cmd.now.tries (change (C.seen ctl.old) (C.seen ctl.new)
+    ensures prints { EndsBy (λ ending. Runs (job_of_command_in wording.entry cmd.now) cmd.now.tries (change (C.seen ctl.old) (C.seen ctl.new)
         (⟦<Written<BufWriter<W>> as Sink>⟧.taken out.old)
         (⟦<Written<BufWriter<W>> as Sink>⟧.taken out.new)) ending) result }
     ensures handed_on { IsHandedOn (writer_buffer (writer_of out.new)) result }

@@ -157,13 +157,12 @@ enum SerialError {
     Memory(#[from] AllocError),
 }
 
-/// The serial number of the board of device 0: the third field of its board area.
+/// The serial number of the board of device 0.
 fn board_serial<C: Controller>(alloc: Global, ctl: &mut C) -> Result<String, SerialError> {
     let bytes = read_fru(alloc, ctl, 0, DEFAULT_PART, DEFAULT_TRIES)?;
     let board = FruView::read(&bytes)?.board().ok_or(SerialError::Missing)??;
-    let language = *board.head().first().ok_or(SerialError::Missing)?;
-    let serial = board.field(2).ok_or(SerialError::Missing)?;
-    Ok(fru_text(alloc, serial.code, language, serial.bytes)?)
+    let serial = board.serial_number().ok_or(SerialError::Missing)?;
+    Ok(fru_text(alloc, serial.code, board.language(), serial.bytes)?)
 }
 
 /// Prints why the listing is incomplete.

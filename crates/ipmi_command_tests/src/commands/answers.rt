@@ -1,4 +1,4 @@
-//! The answer to a command line over the bytes of an image, and how it is compared with what is wanted.
+//! The answer to a command line over the bytes of an image, and how it is compared with the expected one.
 use super::outcome::text_of;
 use super::saved::THREE_ROWS;
 use crate::cases::first_line;
@@ -74,7 +74,7 @@ pub(super) fn assert_answer(
     assert_answer_outcome(rt, alloc, outcome, wanted, case);
 }
 
-/// Asserts that a command line over three records is answered with the usage line alone.
+/// Asserts that a command line over three records prints only the usage line.
 pub(crate) fn assert_usage_answer(
     rt: &impl Abort,
     alloc: Global,

@@ -20,30 +20,30 @@ fn assert_outputs_in_words(rt: &impl Abort, alloc: Global, cases: &str) {
 
 /// `words|image|moods`, then the outcome.
 const LINES: &str = "fru|inventories|
-0 10
+0 16
 --
 0 | - | present | - | - | -
 1 | PSU1 | faulty | - | - | -
 ====
 fru|products|
-0 10
+0 15
 --
-0 | - | present | 123- | PQ | SX
+0 | AB | present | 123- | PQ | SX
 1 | PSU1 | present | CD | - | -
 ====
 fru|one inventory|
-0 9
+0 15
 --
 0 | - | present | - | - | -
 1 | PSU1 | not present | - | - | -
 ====
 fru|empty|
-0 3
+0 5
 --
 0 | - | not present | - | - | -
 ====
 fru|elsewhere in three ways|
-0 8
+0 15
 --
 0 | - | not present | - | - | -
 - | AB | elsewhere | - | - | -
@@ -51,15 +51,22 @@ fru|elsewhere in three ways|
 - | EF | elsewhere | - | - | -
 ====
 fru|locators of each sort|
-0 17
+0 29
 --
-0 | - | present | - | - | -
+0 | AB | present | - | - | -
 - | CD | elsewhere | - | - | -
 2 | - | faulty | - | - | -
 255 | EF | not present | - | - | -
+====
+fru|two names of device 0|
+0 18
+--
+0 | CD | faulty | - | - | -
+- | AB | elsewhere | - | - | -
 ";
 
-// The calls are those of the inventories. Device 0 is left out at its locator, where it has one.
+// The calls are those of the inventories, after a walk of the records for the name of device 0. Its first locator has
+// it. At its locators the device is left out.
 #[test]
 fn each_device_has_a_line(rt: HostRuntime) {
     assert_outputs_in_words(&rt, rt.alloc(), LINES);
@@ -67,30 +74,47 @@ fn each_device_has_a_line(rt: HostRuntime) {
 
 /// `words|image|moods`, then the outcome.
 const ENDED: &str = "fru|locator to nowhere|
-1 7
+1 11
 record 0009h not present
 --
 0 | - | not present | - | - | -
 1 | PSU1 | faulty | - | - | -
 ====
-fru|two locators|R
-1 1
-fru 0 refused with code D4h
+fru|cycle|
+1 7
+cycle at 0007h
+--
+0 | - | not present | - | - | -
+====
+fru|two locators|.R
+1 2
+record 0000h refused with code D4h
+--
+====
+--tries 0 fru|two locators|...B
+1 4
+gave up at 0002h
 --
 ====
 fru|two locators|.....R
 1 6
+fru 0 refused with code D4h
+--
+====
+fru|two locators|..........R
+1 11
 fru 1 refused with code D4h
 --
 0 | - | present | - | - | -
 ====
---tries 1 fru|two locators|.....BB
-1 7
+--tries 1 fru|two locators|..........BB
+1 12
 fru 1 gave up
 --
 0 | - | present | - | - | -
 ";
 
+// A walk that is not whole ends the run after the devices that it names.
 #[test]
 fn lines_are_printed_before_a_run_ends(rt: HostRuntime) {
     assert_outputs_in_words(&rt, rt.alloc(), ENDED);

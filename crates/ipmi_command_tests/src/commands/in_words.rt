@@ -96,15 +96,16 @@ end
 --
 ";
 
-/// The outcome of a command in words over the controller.
-fn outcome_in_words<C: Controller + Drop>(
+/// The outcome of a command in this wording over the controller.
+pub(super) fn outcome_in<C: Controller + Drop>(
     alloc: Global,
     mut ctl: Counting<C>,
     command: Command,
+    wording: Wording<'_>,
 ) -> Outcome {
     let mut out = Written::new(Vec::new(alloc));
     let mut err = Vec::new(alloc);
-    let ending = execute_in(alloc, &mut ctl, &command, Wording::Words, &mut out);
+    let ending = execute_in(alloc, &mut ctl, &command, wording, &mut out);
     let status = report(ending, &mut err);
     let calls = ctl.calls;
     drop(ctl);
@@ -125,7 +126,8 @@ pub(super) fn assert_output_in_words_over(
     case: Case<'_>,
 ) {
     let ctl = scripted(rt, alloc, image, case.more);
-    let outcome = outcome_in_words(alloc, ctl, command_of_case(rt, alloc, case.words));
+    let command = command_of_case(rt, alloc, case.words);
+    let outcome = outcome_in(alloc, ctl, command, Wording::Words);
     assert_outcome(rt, alloc, outcome, case.wanted, case.line);
 }
 

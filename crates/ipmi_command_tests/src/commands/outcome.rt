@@ -1,4 +1,4 @@
-//! The outcome of a command over a controller, and how it is compared with what is wanted.
+//! The outcome of a command over a controller, and how it is compared with the expected one.
 use crate::controllers::Counting;
 use ipmi_bus::Controller;
 use ipmi_command_line::Command;

@@ -8,7 +8,7 @@ use ipmi_image::{Image, ImageController, Mood, Scripted};
 use std::alloc::Global;
 use std::process::Abort;
 
-/// The image of a text, in which `CPU_TEMP` stands for the bytes of that record.
+/// The image of a text, in which `CPU_TEMP` is replaced by the bytes of that record.
 pub(crate) fn image_of(rt: &impl Abort, alloc: Global, text: &str) -> Image {
     let image = with_record(alloc, text).expect(rt, "memory");
     Image::read(alloc, image.as_bytes()).expect(rt, text)

@@ -36,7 +36,7 @@ sdr 0001 0009 010051c000
 end
 ";
 
-/// Each image comes after a line with its name and before a line of dashes. `CPU_TEMP` stands for the bytes of that
+/// Each image comes after a line with its name and before a line of dashes. `CPU_TEMP` is replaced by the bytes of that
 /// record, and the locators are of FRU devices. The fault is a full sensor record that is too short. In a cycle the
 /// next id of each row is that of the other row. Nowhere is a next id that no row has. An image that is called another
 /// has the ids and lengths of the one whose place it takes.
@@ -261,6 +261,15 @@ fru 00 010319c24142c0c25051c25631c25358c100000000000004
 fru 01 01000000010000fe010219c24142c24344c1000000000095
 end
 --
+two names of device 0
+ipmi-image 1
+sdr 0001 0002 0100511100
+sdr 0002 0003 020051110d220080000000000a0100c24142
+sdr 0003 0004 030051110d200080000000000a0100c24344
+sdr 0004 ffff 040051110d200080000000000a0100c24546
+fru 00 01
+end
+--
 two locators
 ipmi-image 1
 sdr 0001 0002 010051110f200180000000000a0100c450535531
@@ -313,7 +322,7 @@ pub(super) fn image_in(rt: &impl Abort, images: &'static str, name: &str) -> &'s
     panic!(rt; "no image {name}")
 }
 
-/// The text of an image in which `CPU_TEMP` stands for the bytes of that record.
+/// The text of an image in which `CPU_TEMP` is replaced by the bytes of that record.
 pub(super) fn with_record(alloc: Global, image: &str) -> Result<String, AllocError> {
     let digits = hex::encode(alloc, &CPU_TEMP)?;
     image.replace(alloc, "CPU_TEMP", digits.as_str())

@@ -16,15 +16,15 @@ returns-in-Ok-clause-runs g c =
           let first = counts h in
           let lists = rw (c.saturating_sub-passed.ensures, c.from.ensures) at (c.list_after.ensures.honest first.ends.stays.honest) in
           let since = between _ _ _ first.ends.stays lists.ends.stays same in
-          last_prints c.args.names c.args.wanted c.args.from _ c.requires.some _ _ _ _ _ _ c.in-Ok.count _ c.in-Ok.count-test.1 first.ends.stays since.0 since.1 first lists;
+          last_prints c.args.entries c.args.wanted c.args.from _ c.requires.some _ _ _ _ _ _ c.in-Ok.count _ c.in-Ok.count-test.1 first.ends.stays since.0 since.1 first lists;
     }
 
-pub returns-in-Err-clause-runs : goal.returns-in-Err-clause-runs
-returns-in-Err-clause-runs g c =
+pub returns-clause-runs : goal.returns-clause-runs
+returns-clause-runs g c =
     let counts = rw c.in-Err.is at c.count_entries.ensures.honest in
     record {
       calls = omega (arith, c.count_entries.ensures.calls);
-      ends = passed_ends c.args.names _ (Err c.in-Err.failure) (rw c.in-Err.is at c.count_entries.ensures.ends);
+      ends = passed_ends c.args.entries _ (Err c.in-Err.failure) (rw c.in-Err.is at c.count_entries.ensures.ends);
       why = λ h. (counts h).ends;
-      prints = λ h same. last_prints_none c.args.names c.args.wanted c.args.from _ c.requires.some _ _ _ _ (Err c.in-Err.failure) tt same (counts h);
+      prints = λ h same. last_prints_none c.args.entries c.args.wanted c.args.from _ c.requires.some _ _ _ _ (Err c.in-Err.failure) tt same (counts h);
     }

@@ -1,0 +1,281 @@
+-- Listings with names: a walk of the sensor data records into memory, and then what is listed with the names.
+use Rattle.std.proofs.Common.{◌≡◌, inl, inr, ℕ, ◌+◌, ◌≤◌, true, IsTrue, Option, None, Some, Result, Ok, Err, List, [], ◌∷◌, ◌++◌, length, refl, sym, ap, ◌∙◌, arith}
+use Rattle.std.specs.List.{AllPass, concat}
+use Rattle.std.proofs.lemmas.Bool.Decides.{nat_tests}
+use Rattle.ipmi_text.specs.SdrHeader.{sdr_len}
+use Rattle.std.proofs.lemmas.List.Elements.{All-cons, All-nil}
+use Rattle.ipmi_commands.specs.Below.{AllOf, Count, CycleAt, Done, Ending, Failure, First, FoundIsRow, IsHonest, IsShelf, IsStore, is_whole_record, MissingAt, Place, place_after, records_in, Row, Sdr, Seen, Store, WalkEnd}
+use Rattle.ipmi_commands.specs.Named.{end_after, walk_of}
+use Rattle.ipmi_commands.specs.declared.named.Walked.{Walked}
+use Rattle.ipmi_commands.specs.Prelude.{after_names, AreTexts, AtEnd, bytes_of_rows, Cause, cause_of, Change, change, Dishonest, end_after_names, ending_of, end_spots_of_last, EndsNamed, EndsFor, EndsListing, Entries, entries_in, Form, GaveUp, HasFirstItems, IsAllowed, IsAmong, IsPage, IsTextOver, Item, Job, job_with, Leaves, listing, listing_plan, MayEnd, most_calls, most_named, most_on_walk, Named, next_spots, NoMemory, NoOutput, OnNamed, OnPlan, Plan, Printed, Refused, row_items, rows_end, Runs, Spot, spots_at_walk_end, spots_before, spots_of_walk, with_first_spots, Wording}
+use Rattle.ipmi_commands.proofs.CountLemmas.{between, ends_here, ends_since}
+use Rattle.ipmi_commands.proofs.ItemLemmas.{no_items}
+use Rattle.ipmi_commands.proofs.LastLemmas.{leaves_wide}
+use Rattle.ipmi_commands.proofs.SpotLemmas.{among_after, quiet_there}
+
+-- ---- the bytes of the records
+
+bytes_text : (store : Store) (rows : List Row) (start : Place) (text : List ℕ)
+    → AreTexts (IsTextOver store) (row_items Form.Bytes start rows) text
+    → text ≡ concat (bytes_of_rows rows)
+bytes_text store [] start text are = are
+bytes_text store (row ∷ rows) start text are =
+    are.joined ∙ rw (are.is_first, bytes_text store rows (place_after row.next) are.rest are.is_rest) refl
+
+whole_record : (bytes : List ℕ) → length bytes ≡ sdr_len bytes → is_whole_record bytes ≡ true
+whole_record bytes is = grind (arith, nat_tests)
+
+whole_rows : FoundIsRow → (rows walk : List Row) → IsShelf Sdr rows → AllOf rows walk
+    → AllPass is_whole_record (bytes_of_rows walk)
+whole_rows look_row rows [] ok all = All-nil _
+whole_rows look_row rows (row ∷ walk) ok all =
+    All-cons (λ bytes. is_whole_record bytes ≡ true) row.bytes (bytes_of_rows walk) (whole_record row.bytes (look_row Sdr rows row.id row ok all.0).whole) (whole_rows look_row rows walk ok all.1)
+
+-- records that are put one after another are found again
+abbrev pub RecordsAreFound : Type 0
+RecordsAreFound = (records : List (List ℕ)) → AllPass is_whole_record records → records_in (concat records) ≡ records
+
+-- what was listed are they
+pub read_records : FoundIsRow → RecordsAreFound → (store : Store) (walk : List Row) (text : List ℕ)
+    → IsStore store → AllOf store.sdr walk
+    → Printed (IsTextOver store) (row_items Form.Bytes First walk) [] text
+    → records_in text ≡ bytes_of_rows walk
+read_records look_row split store walk text ok all printed =
+    ap records_in (printed.new_is ∙ bytes_text store walk First printed.text printed.are)
+    ∙ split (bytes_of_rows walk) (whole_rows look_row store.sdr walk ok.sdr all)
+
+-- what an output over a list holds
+pub some_is : (a b : List ℕ) → Some a ≡ Some b → a ≡ b
+some_is a b is = cc is
+
+-- ---- spots
+
+among_before : (spots more : List Spot) (spot : Spot) → IsAmong spots spot
+    → IsAmong (spots ++ more) spot
+among_before (first ∷ spots) more spot among = elim among [ inl at ↦ inl at | inr later ↦ inr (among_before spots more spot later) ]
+among_before [] more spot among = absurd among
+
+-- the first item, or the end, has them
+next_spots-first : (spots : List Spot) (items : List Item) (at_end : List Spot)
+    → next_spots (with_first_spots spots items) (end_spots_of_last spots items at_end) ≡ spots
+next_spots-first spots [] at_end = refl
+next_spots-first spots (item ∷ items) at_end = refl
+
+-- ---- what is listed with the names
+
+-- where it has its plan
+module _ (wording : Wording) (records : List (List ℕ)) (tries : ℕ) (store : Store)
+    (Holds : Plan → ℕ → Type 0) where
+  named_map : (More : Plan → ℕ → Type 0) (named : Named)
+      → ((plan : Plan) (calls : ℕ) → Holds plan calls → More plan calls)
+      → OnPlan (job_with wording records named) tries store Holds → OnNamed wording records named tries store More
+  named_map More (Named.Events Count.All from) keep on = λ walk end w ends. keep _ _ (on walk end w ends)
+  named_map More (Named.Events (Count.First n) from) keep on = λ walk end w ends. keep _ _ (on walk end w ends)
+  named_map More (Named.Events (Count.Last n) from) keep on = λ walk end w ends. keep _ _ (on walk end w ends)
+  named_map More Named.Devices keep on = λ walk end w ends. keep _ _ (on walk end w ends)
+
+  pub named_all : (named : Named) → ((plan : Plan) (calls : ℕ) → Holds plan calls)
+      → OnNamed wording records named tries store Holds
+  named_all (Named.Events Count.All from) holds = λ walk end w ends. holds _ _
+  named_all (Named.Events (Count.First n) from) holds = λ walk end w ends. holds _ _
+  named_all (Named.Events (Count.Last n) from) holds = λ walk end w ends. holds _ _
+  named_all Named.Devices holds = λ walk end w ends. holds _ _
+
+  with_all : (named : Named) → ((plan : Plan) (calls : ℕ) → Holds plan calls)
+      → OnPlan (job_with wording records named) tries store Holds
+  with_all (Named.Events Count.All from) holds = λ walk end w ends. holds _ _
+  with_all (Named.Events (Count.First n) from) holds = λ walk end w ends. holds _ _
+  with_all (Named.Events (Count.Last n) from) holds = λ walk end w ends. holds _ _
+  with_all Named.Devices holds = λ walk end w ends. holds _ _
+
+named_calls : (wording : Wording) (records : List (List ℕ)) (named : Named) (tries : ℕ)
+    → most_calls (job_with wording records named) tries ≤ most_named wording named tries
+named_calls wording records (Named.Events Count.All from) tries = omega arith
+named_calls wording records (Named.Events (Count.First n) from) tries = omega arith
+named_calls wording records (Named.Events (Count.Last n) from) tries = omega arith
+named_calls wording records Named.Devices tries = omega arith
+
+entries_end : (wording : Wording) (entries : Entries) (count : Count) (from : Option ℕ) (seen : Seen) (ending : Ending)
+    → EndsListing (Form.EntryLine entries) seen ending → EndsNamed wording (Named.Events count from) seen ending
+entries_end wording entries count from seen ending ends = grind arith
+
+devices_end : (wording : Wording) (seen : Seen) (ending : Ending) → EndsListing (Form.Device wording) seen ending
+    → EndsNamed wording Named.Devices seen ending
+devices_end wording seen ending ends = grind arith
+
+named_ends : (wording : Wording) (records : List (List ℕ)) (named : Named) (c : Change) (ending : Ending)
+    → MayEnd (job_with wording records named) c ending → EndsNamed wording named c.seen' ending
+named_ends wording records (Named.Events Count.All from) c ending ends = entries_end wording (entries_in wording records) Count.All from c.seen' ending ends
+named_ends wording records (Named.Events (Count.First n) from) c ending ends = entries_end wording (entries_in wording records) (Count.First n) from c.seen' ending ends
+named_ends wording records (Named.Events (Count.Last n) from) c ending ends = entries_end wording (entries_in wording records) (Count.Last n) from c.seen' ending ends
+named_ends wording records Named.Devices c ending ends = devices_end wording c.seen' ending ends
+
+-- there is no memory for a table of the sensors, or for the name
+with_end : (wording : Wording) (records : List (List ℕ)) (named : Named) (c : Change)
+    → MayEnd (job_with wording records named) c (Err Failure.OutOfMemory)
+with_end wording records (Named.Events Count.All from) c = tt
+with_end wording records (Named.Events (Count.First n) from) c = tt
+with_end wording records (Named.Events (Count.Last n) from) c = tt
+with_end wording records Named.Devices c = tt
+
+pub with_without_memory : (wording : Wording) (records : List (List ℕ)) (named : Named) (tries : ℕ) (s : Seen) (text : List ℕ)
+    → Runs (job_with wording records named) tries (change s s text text) (Err Failure.OutOfMemory)
+with_without_memory wording records named tries s text = record {
+  calls = omega arith;
+  ends = with_end wording records named (change s s text text);
+  why = λ h. ends_here h refl tt;
+  prints = λ h same. with_all wording records tries s.store _ named (λ plan calls. (no_items (IsTextOver s.store) plan text text refl, omega arith));
+}
+
+-- ---- the walk of the records did not come to its end
+
+abbrev records_plan : List Row → WalkEnd → Plan
+records_plan records end = listing_plan (listing Form.Bytes First None) records end
+
+-- a listing that ends so was not at the end of its plan
+not_at_end : (records : List Row) (end : WalkEnd) (result : Result Place Failure) (failure : Failure)
+    → walk_of result ≡ Err failure → ending_of result ≡ rows_end Form.Bytes records end → ⊥
+not_at_end records Done result failure is at = grind arith
+not_at_end records (CycleAt n) result failure is at = grind arith
+not_at_end records (MissingAt n) result failure is at = grind arith
+
+module _ (store : Store) (records : List Row) (end : WalkEnd) (plan : Plan) (kept text : List ℕ) where
+  abbrev q : Plan
+  q = after_names records end plan
+
+  -- at a spot of that walk
+  stop_there : (first : HasFirstItems (IsTextOver store) (records_plan records end) [] kept) (spot : Spot)
+      → IsAmong (next_spots first.rest (spots_at_walk_end First records end)) spot
+      → IsAmong (next_spots q.items q.end_spots) spot
+  stop_there first spot there =
+      rw (next_spots-first (spots_before records end plan) plan.items plan.end_spots)
+      (among_before (spots_of_walk First records end) (next_spots plan.items plan.end_spots) spot
+      (quiet_there Form.Bytes (λ row. refl) None First records first.done first.rest (spots_at_walk_end First records end) spot first.items_are there))
+
+  -- why the walk ended early is why the run does, but that memory for the records is wanted in place of room in an output
+  cause_kept : (result : Result Place Failure) (failure : Failure) → walk_of result ≡ Err failure
+      → (cause_of (ending_of result) ≡ NoOutput → ⊥)
+      → cause_of (Err failure) ≡ cause_of (ending_of result)
+  cause_kept result failure is some = grind arith
+
+  cause_of-memory : (result : Result Place Failure) (failure : Failure) → walk_of result ≡ Err failure
+      → cause_of (ending_of result) ≡ NoOutput → cause_of (Err failure) ≡ NoMemory
+  cause_of-memory result failure is at = grind arith
+
+  stop_by : (result : Result Place Failure) (failure : Failure) → walk_of result ≡ Err failure
+      → (cause : Cause) → cause_of (ending_of result) ≡ cause
+      → Leaves (IsTextOver store) (records_plan records end) [] kept (ending_of result) cause
+      → IsAllowed (IsTextOver store) q text text (Err failure)
+  stop_by result failure is AtEnd at leaves = absurd (not_at_end records end result failure is leaves.1)
+  stop_by result failure is (GaveUp spot) at leaves =
+      rw (cause_kept result failure is (λ e. cc (sym at ∙ e)) ∙ at)
+      (record { first = no_items (IsTextOver store) q text text refl; there = stop_there leaves.first spot leaves.there })
+  stop_by result failure is (Refused spot code) at leaves =
+      rw (cause_kept result failure is (λ e. cc (sym at ∙ e)) ∙ at)
+      (record { first = no_items (IsTextOver store) q text text refl; there = stop_there leaves.first spot leaves.there })
+  stop_by result failure is NoMemory at leaves =
+      rw (cause_kept result failure is (λ e. cc (sym at ∙ e)) ∙ at) (no_items (IsTextOver store) q text text refl)
+  stop_by result failure is NoOutput at leaves =
+      rw (cause_of-memory result failure is at) (no_items (IsTextOver store) q text text refl)
+  stop_by result failure is Dishonest at leaves = absurd leaves
+
+-- a walk of which the end is known was at the end of its plan
+walked_at_end : (result : Result Place Failure) (walked : Walked) → walk_of result ≡ Ok walked
+    → cause_of (ending_of result) ≡ AtEnd
+walked_at_end result walked is = grind arith
+
+-- and ends so
+walked_end : (records : List Row) (end : WalkEnd) (result : Result Place Failure) (walked : Walked)
+    → walk_of result ≡ Ok walked → ending_of result ≡ rows_end Form.Bytes records end
+    → end_after walked ≡ end_after_names end (Ok tt)
+walked_end records Done result walked is at = grind arith
+walked_end records (CycleAt n) result walked is at = grind arith
+walked_end records (MissingAt n) result walked is at = grind arith
+
+-- the run ends by this before anything is printed
+module _ (tries : ℕ) (s s' : Seen) (kept : List ℕ) (wording : Wording) (named : Named)
+    (calls : s'.calls ≤ s.calls + most_on_walk Form.Bytes tries) where
+  failed_ends : (named : Named) (result : Result Place Failure) (failure : Failure)
+      → walk_of result ≡ Err failure → EndsListing Form.Bytes s' (ending_of result)
+      → EndsNamed wording named s' (Err failure)
+  failed_ends (Named.Events count from) result failure is ends = grind arith
+  failed_ends Named.Devices result failure is ends = grind arith
+
+  failed_for : (IsPlain : Type 0) (result : Result Place Failure) (failure : Failure)
+      → walk_of result ≡ Err failure → EndsFor tries IsPlain s s' (cause_of (ending_of result))
+      → EndsFor tries IsPlain s s' (cause_of (Err failure))
+  failed_for IsPlain result failure is ends = grind arith
+
+  pub names_failed : (text : List ℕ) (result : Result Place Failure) (failure : Failure)
+      → walk_of result ≡ Err failure → EndsListing Form.Bytes s' (ending_of result)
+      → (IsHonest s → IsPage Form.Bytes First tries None (change s s' [] kept) result)
+      → Runs (Job.Named wording named) tries (change s s' text text) (Err failure)
+  names_failed text result failure is ends page_of = record {
+    calls = omega (arith, calls);
+    ends = failed_ends named result failure is ends;
+    why = λ h. failed_for (IsTrue s.plain) result failure is (page_of h).ends;
+    prints = λ h same records end w ends_.
+        let along = (page_of h).along same records end w ends_ in
+        named_all wording (bytes_of_rows records) tries s.store _ named (λ plan calls. (
+          stop_by s.store records end plan kept text result failure is (cause_of (ending_of result)) refl along.leaves,
+          omega (arith, along.calls),
+        ));
+  }
+
+-- ---- what follows the walk
+
+-- how it ends, by how the listing with names did
+abbrev pub ending_then : Ending → Walked → Ending
+ending_then (Ok done) walked = end_after walked
+ending_then (Err failure) walked = Err failure
+
+then_ends : (wording : Wording) (named : Named) (seen : Seen) (ending : Ending) (walked : Walked)
+    → EndsNamed wording named seen ending → EndsNamed wording named seen (ending_then ending walked)
+then_ends wording (Named.Events count from) seen ending walked ends = grind arith
+then_ends wording Named.Devices seen ending walked ends = grind arith
+
+then_for : (ending : Ending) (walked : Walked) → cause_of (ending_then ending walked) ≡ cause_of ending
+then_for ending walked = grind arith
+
+then_allowed : (store : Store) (records : List Row) (end : WalkEnd) (plan : Plan) (old new : List ℕ)
+    (ending : Ending) (walked : Walked) → end_after walked ≡ end_after_names end (Ok tt)
+    → IsAllowed (IsTextOver store) plan old new ending
+    → IsAllowed (IsTextOver store) (after_names records end plan) old new (ending_then ending walked)
+then_allowed store records end plan old new ending walked end_is allowed =
+    rw (then_for ending walked) (leaves_wide (IsTextOver store) (spots_before records end plan) plan plan.end_spots (end_after_names end plan.end) refl
+    (λ spot among. among_after (spots_of_walk First records end) (next_spots plan.items plan.end_spots) spot among)
+    old new ending (ending_then ending walked) (cause_of ending) (λ is. then_end ending plan.end is) allowed)
+  where
+    then_end : (e p : Ending) → e ≡ p → ending_then e walked ≡ end_after_names end p
+    then_end e p is = grind arith
+
+pub named_run : FoundIsRow → RecordsAreFound → (tries : ℕ) (s s' s'' : Seen)
+    (kept old new : List ℕ) (wording : Wording) (named : Named) (result : Result Place Failure)
+    (walked : Walked) (ending : Ending)
+    → s'.calls ≤ s.calls + most_on_walk Form.Bytes tries → walk_of result ≡ Ok walked
+    → (IsHonest s → IsPage Form.Bytes First tries None (change s s' [] kept) result)
+    → Runs (job_with wording (records_in kept) named) tries (change s' s'' old new) ending
+    → Runs (Job.Named wording named) tries (change s s'' old new) (ending_then ending walked)
+named_run look_row split tries s s' s'' kept old new wording named result walked ending calls is page_of runs = record {
+  calls = omega (arith, calls, runs.calls, named_calls wording (records_in kept) named tries);
+  ends = then_ends wording named s'' ending walked (named_ends wording (records_in kept) named (change s' s'' old new) ending runs.ends);
+  why = λ h.
+      let ends = rw (walked_at_end result walked is) at (page_of h).ends in
+      rw (then_for ending walked) (ends_since ends ends.stays.plain (runs.why ends.stays.honest));
+  prints = λ h same.
+      let page = page_of h in
+      let ends = rw (walked_at_end result walked is) at page.ends in
+      let later = runs.why ends.stays.honest in
+      let since = between s s' s'' ends.stays later.stays same in
+      let stays = ends.stays.store.stays since.0 in
+      let printed = rw stays at (runs.prints ends.stays.honest since.1) in
+      λ records end w ends_.
+      let along = page.along since.0 records end w ends_ in
+      let all = rw (walked_at_end result walked is) at along.leaves in
+      let records_are = read_records look_row split s.store records kept h.store w.of_shelf all.0 in
+      let on = rw records_are at printed in
+      named_map wording (bytes_of_rows records) tries s.store _ _ named (λ plan calls_. λ both. (
+        then_allowed s.store records end plan old new ending walked (walked_end records end result walked is all.1) both.0,
+        omega (arith, both.1, along.calls),
+      )) on;
+}

@@ -1,0 +1,114 @@
+//! Lists events and FRU devices with names from the sensor data records.
+ghost use Rattle.std.specs.Prelude.{◌≡◌, ◌+◌};
+ghost use Rattle.ipmi_commands.specs.Below.{AsksAtMost, records_in, write_faults};
+ghost use Rattle.ipmi_commands.specs.Named.{end_after, walk_of};
+ghost use Rattle.ipmi_commands.specs.declared.job.Job.{Job};
+ghost use Rattle.ipmi_commands.specs.Prelude.{change, IsNamed, job_with, Runs};
+
+use crate::job::{Entries, Form, Named, Wording};
+use crate::pages::list_page;
+use crate::perform::{list_entries, print_inventories};
+use ipmi_bus::{Controller, Ended, Place};
+use ipmi_command_line::Command;
+use ipmi_events::{Sensors, device_name};
+use ipmi_output::{Failure, Sink, Written};
+use std::alloc::Global;
+
+/// How a walk of the sensor data records ended.
+#[derive(Clone, Copy)]
+pub(crate) enum Walked {
+    /// After the last record.
+    Whole,
+    /// With a cycle at this id.
+    Cycle(u16),
+    /// At this id, which no record has.
+    Missing(u16),
+}
+
+impl Walked {
+    /// The end of a finished listing after this walk: names may be missing if it was not whole.
+    fn end<'a>(self) -> Result<(), Failure<'a>>
+        ensures { result ≡ end_after self }
+    {
+        match self {
+            Walked::Whole => Ok(()),
+            Walked::Cycle(id) => Err(Failure::NamesCycle(id)),
+            Walked::Missing(id) => Err(Failure::NamesMissing(id)),
+        }
+    }
+}
+
+/// How the walk ended, from the result of listing the records into memory. A write fault of that listing means out of
+/// memory.
+fn walk_of<'a>(listed: Result<Place, Failure<'a>>) -> Result<Walked, Failure<'a>>
+    ensures { result ≡ walk_of listed.entry }
+{
+    match listed {
+        Ok(_) => Ok(Walked::Whole),
+        Err(Failure::Ended(Ended::Cycle(id))) => Ok(Walked::Cycle(id)),
+        Err(Failure::Ended(Ended::Missing(id))) => Ok(Walked::Missing(id)),
+        Err(Failure::WriteFault) => Err(Failure::OutOfMemory),
+        Err(failure) => Err(failure),
+    }
+}
+
+/// Lists with the names in these concatenated sensor data records, in this wording. Of the records it keeps a table with
+/// one slot for each possible sensor, or one name.
+fn list_with<'a, C: Controller, O: Sink>(
+    alloc: Global,
+    ctl: &mut C,
+    cmd: &Command,
+    wording: Wording<'a>,
+    records: Vec<u8>,
+    named: Named,
+    out: &mut O,
+) -> Result<(), Failure<'a>>
+    requires { IsNamed named }
+    ensures faults { O.faults out.new ≡ O.faults out.old + write_faults result }
+    ensures asked { AsksAtMost cmd.now.part (C.seen ctl.old) (C.seen ctl.new) }
+    ensures runs { Runs (job_with wording.entry (records_in records.items) named) cmd.now.tries
+        (change (C.seen ctl.old) (C.seen ctl.new) (O.taken out.old) (O.taken out.new)) result }
+{
+    match named {
+        Named::Events(count, from) => {
+            let entries = Entries::of(wording, Sensors::of(alloc, records)?);
+            list_entries(alloc, ctl, cmd, entries, count, from, out)
+        }
+        Named::Devices => {
+            let name = device_name(alloc, &records, 0)?;
+            print_inventories(alloc, ctl, cmd, wording, name.as_deref(), out)
+        }
+    }
+}
+
+/// Reads all sensor data records into memory, then lists with the names in them, in this wording.
+pub(crate) fn list_named<'a, C: Controller, O: Sink>(
+    alloc: Global,
+    ctl: &mut C,
+    cmd: &Command,
+    wording: Wording<'a>,
+    named: Named,
+    out: &mut O,
+) -> Result<(), Failure<'a>>
+    requires { IsNamed named }
+    ensures faults { O.faults out.new ≡ O.faults out.old + write_faults result }
+    ensures asked { AsksAtMost cmd.now.part (C.seen ctl.old) (C.seen ctl.new) }
+    ensures runs { Runs (Job.Named wording.entry named) cmd.now.tries
+        (change (C.seen ctl.old) (C.seen ctl.new) (O.taken out.old) (O.taken out.new)) result }
+{
+    ipmi_bus::laws::what_is_found_is_a_row();
+    ipmi_events::laws::records_are_found_again();
+    let mut records = Written::new(Vec::new(alloc));
+    let listed = list_page(
+        alloc,
+        ctl,
+        cmd,
+        &Form::Bytes,
+        Place::First,
+        None,
+        &mut records,
+    );
+    let walked = walk_of(listed)?;
+    list_with(alloc, ctl, cmd, wording, records.into_inner(), named, out)?;
+    walked.end()
+}
