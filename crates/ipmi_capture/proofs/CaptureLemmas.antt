@@ -1,6 +1,6 @@
 -- All parts of a capture, one after the other.
 use Rattle.std.proofs.Common.{Option, None, Some, ◌≡◌, ℕ, zero, suc, ◌<◌, true, false, IsTrue, List, [], ◌∷◌, length, take, get_or, map, ◌⊎◌, inl, inr, refl, sym, ap, subst, ◌∙◌, arith, All, Bool, slice_index_or}
-use Rattle.std.proofs.lemmas.List.{append-nil, length-map}
+use Rattle.std.proofs.lemmas.List.{length-map}
 use Rattle.std.proofs.lemmas.List.Folds.{list_all_at}
 use Rattle.std.proofs.lemmas.Bool.Decides.{nat_tests}
 use Rattle.std.proofs.Math.ListN.{get_or-map}
@@ -13,7 +13,7 @@ use Rattle.ipmi_capture.specs.declared.left.Left.{Left}
 use Rattle.std.specs.List.{Any, list_all}
 use Rattle.std.proofs.lemmas.List.Elements.{All-append, All-cons, All-nil}
 use Rattle.ipmi_capture.proofs.FoundLemmas.{is_marked, no_device}
-use Rattle.ipmi_capture.proofs.ReadLemmas.{adds_weaker, any_of_one, captures_with, Lasts, same_more, walk_more}
+use Rattle.ipmi_capture.proofs.ReadLemmas.{adds_weaker, any_of_one, captures_with, Lasts, nothing_left, same_more, walk_more}
 use Rattle.ipmi_capture.proofs.WalkLemmas.{same_walk}
 
 module _ (left : List Left) (image store : Store) where
@@ -197,14 +197,8 @@ captures_walk {s = s} {s' = s'} shelf rows ended stays walks = record {
 -- and of which there are no more
 pub captures_whole_walk : {tries : ℕ} {s s' : Seen} (shelf : Shelf) (rows : List Row) (left : List Left)
     → Walks shelf tries s s' rows None → Captures tries s s' left left (AreWalk shelf left s.store rows)
-captures_whole_walk {s = s} shelf rows left walks = record {
-  more = [];
-  grows = sym (append-nil left);
-  counts = walks.counts;
-  fact = λ same walk end is ends. let came = walks.along same walk end is ends in inl (came.0, inl came.1);
-  told = λ same. All-nil (IsTrueOf s.store);
-  plain = λ p all. all;
-}
+captures_whole_walk shelf rows left walks =
+    nothing_left left walks.counts (λ same walk end is ends. let came = walks.along same walk end is ends in inl (came.0, inl came.1))
 
 -- ---- all parts, where each of them stays honest
 

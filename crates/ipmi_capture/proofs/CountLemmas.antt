@@ -5,7 +5,7 @@ use Rattle.std.proofs.lemmas.List.Elements.{All-append, All-cons, All-nil}
 use Rattle.std.proofs.lemmas.Bool.Decides.{nat_tests}
 use Rattle.std.proofs.lemmas.List.Sums.{sum_by-append}
 use Rattle.ipmi_capture.specs.Below.{Code, Cycle, CursorState, Ended, FruEnded, GaveUp, InventoryCounts, IsRefusedWith, Malformed, Missing, Refused, Seen, Shelf, Stalled, StepAnswers, Store, ValueIs, WithinTries}
-use Rattle.ipmi_capture.specs.Left.{AreCounted, HasCode, refusals_for, troubles_for, unread_in, unread_of}
+use Rattle.ipmi_capture.specs.Left.{AreCounted, HasCode, refusals_for, refusals_in, troubles_for, unread_in, unread_of}
 use Rattle.ipmi_capture.specs.Phases.{IsNotPlain}
 use Rattle.ipmi_capture.specs.declared.left.Left.{Left}
 use Rattle.ipmi_capture.specs.declared.left.Unread.{Unread}
@@ -18,12 +18,20 @@ code_of_none last None none = tt
 code_of_none last (Some Unread.GaveUp) none = tt
 code_of_none last (Some (Unread.Refused code)) none = absurd (omega (arith, none))
 
-codes_of_none : (last : ℕ) (left : List Left) → sum_by (λ l. refusals_for (unread_in l)) left ≡ 0
+code_of_left : (last : ℕ) (l : Left) → refusals_in l ≡ 0 → HasCode last (unread_in l)
+code_of_left last (Left.Records shelf ended) none = code_of_none last (unread_in (Left.Records shelf ended)) none
+code_of_left last (Left.Info shelf unread) none = code_of_none last (Some unread) none
+code_of_left last (Left.Reading lun number unread) none = code_of_none last (Some unread) none
+code_of_left last (Left.Size id code) none = absurd (omega (arith, none))
+code_of_left last (Left.Empty id) none = tt
+code_of_left last (Left.Inventory id ended) none = code_of_none last (unread_in (Left.Inventory id ended)) none
+
+codes_of_none : (last : ℕ) (left : List Left) → sum_by refusals_in left ≡ 0
     → All (λ l. HasCode last (unread_in l)) left
 codes_of_none last [] none = All-nil (λ l. HasCode last (unread_in l))
 codes_of_none last (l ∷ left) none =
-    let sum = sum_by-append (λ l. refusals_for (unread_in l)) (l ∷ []) left in
-    All-cons (λ l. HasCode last (unread_in l)) l left (code_of_none last (unread_in l) (omega (arith, sum, none))) (codes_of_none last left (omega (arith, sum, none)))
+    let sum = sum_by-append refusals_in (l ∷ []) left in
+    All-cons (λ l. HasCode last (unread_in l)) l left (code_of_left last l (omega (arith, sum, none))) (codes_of_none last left (omega (arith, sum, none)))
 
 module _ {tries : ℕ} where
   -- where nothing was left out
@@ -50,7 +58,7 @@ module _ {tries : ℕ} where
       → AreCounted tries more s' s'' → AreCounted tries (left ++ more) s s''
   counted_then {s = s} {s' = s'} {s'' = s''} left more before later = record {
     troubles = omega (arith, sum_by-append (λ l. troubles_for tries (unread_in l)) left more, before.troubles, later.troubles);
-    refusals = omega (arith, sum_by-append (λ l. refusals_for (unread_in l)) left more, before.refusals, later.refusals);
+    refusals = omega (arith, sum_by-append refusals_in left more, before.refusals, later.refusals);
     none = λ none. later.none (omega (arith, before.refusals, later.refusals, none)) ∙ before.none (omega (arith, before.refusals, later.refusals, none));
     one = λ one. by one (which s'.refusals s.refusals s''.refusals (omega (arith, before.refusals)) (omega (arith, later.refusals)) one);
   }
@@ -75,64 +83,73 @@ module _ {tries : ℕ} {s s' : Seen} where
   -- what was asked for in vain
   counted_one : (l : Left) (o : Option Unread) → unread_in l ≡ o
       → s.troubles + troubles_for tries o ≤ s'.troubles
-      → s.refusals + refusals_for o ≤ s'.refusals
+      → s.refusals + refusals_in l ≤ s'.refusals
       → (s'.refusals ≡ s.refusals → s'.last_code ≡ s.last_code)
       → (s'.refusals ≡ s.refusals + 1 → HasCode s'.last_code o)
       → AreCounted tries (l ∷ []) s s'
   counted_one l o is troubles refusals none one = record {
     troubles = rw is (omega (arith, troubles));
-    refusals = rw is (omega (arith, refusals));
+    refusals = omega (arith, refusals);
     none = none;
     one = λ e. All-cons (λ l. HasCode s'.last_code (unread_in l)) l [] (rw is (one e)) (All-nil (λ l. HasCode _ (unread_in l)));
   }
 
-  pub counted_nothing : (l : Left) → unread_in l ≡ None → AreCounted tries [] s s'
+  pub counted_nothing : (l : Left) → unread_in l ≡ None → refusals_in l ≡ 0 → AreCounted tries [] s s'
       → AreCounted tries (l ∷ []) s s'
-  counted_nothing l is counts = counted_one l None is (omega (arith, counts.troubles)) (omega (arith, counts.refusals)) counts.none (λ e. tt)
+  counted_nothing l is once counts = counted_one l None is (omega (arith, counts.troubles)) (omega (arith, counts.refusals, once)) counts.none (λ e. tt)
 
-  counted_refused : (l : Left) (code : Code) → unread_in l ≡ Some (Unread.Refused code)
+  counted_refused : (l : Left) (code : Code) → unread_in l ≡ Some (Unread.Refused code) → refusals_in l ≡ 1
       → IsRefusedWith tries code.0 s s' → AreCounted tries (l ∷ []) s s'
-  counted_refused l code is refused =
-      counted_one l (Some (Unread.Refused code)) is (omega (arith, refused.grows)) (omega (arith, refused.refusals))
+  counted_refused l code is once refused =
+      counted_one l (Some (Unread.Refused code)) is (omega (arith, refused.grows)) (omega (arith, refused.refusals, once))
       (λ none. absurd (omega (arith, none, refused.refusals))) (λ e. sym refused.last_code)
 
-  counted_given_up : (l : Left) → unread_in l ≡ Some Unread.GaveUp
+  counted_given_up : (l : Left) → unread_in l ≡ Some Unread.GaveUp → refusals_in l ≡ 0
       → s'.troubles ≡ s.troubles + tries + 1 → s'.refusals ≡ s.refusals
       → s'.last_code ≡ s.last_code → AreCounted tries (l ∷ []) s s'
-  counted_given_up l is troubles refusals last =
-      counted_one l (Some Unread.GaveUp) is (omega (arith, troubles)) (omega (arith, refusals)) (λ none. last) (λ e. tt)
+  counted_given_up l is once troubles refusals last =
+      counted_one l (Some Unread.GaveUp) is (omega (arith, troubles)) (omega (arith, refusals, once)) (λ none. last) (λ e. tt)
 
   -- a value
   pub counted_value : {V : Type 0} (value : Store → Option V) (l : Left) (ended : Ended)
-      → unread_in l ≡ Some (unread_of ended) → ValueIs value tries s s' (Err ended)
-      → AreCounted tries (l ∷ []) s s'
-  counted_value value l (GaveUp n) is up = counted_given_up l is up.troubles up.refusals up.last_code
-  counted_value value l (Refused n code) is refused = counted_refused l code is refused
-  counted_value value l (Cycle n) is never = absurd never
-  counted_value value l (Missing n) is never = absurd never
-  counted_value value l (Stalled n) is never = absurd never
-  counted_value value l (Malformed n) is never = absurd never
+      → unread_in l ≡ Some (unread_of ended) → refusals_in l ≡ refusals_for (Some (unread_of ended))
+      → ValueIs value tries s s' (Err ended) → AreCounted tries (l ∷ []) s s'
+  counted_value value l (GaveUp n) is once up = counted_given_up l is once up.troubles up.refusals up.last_code
+  counted_value value l (Refused n code) is once refused = counted_refused l code is once refused
+  counted_value value l (Cycle n) is once never = absurd never
+  counted_value value l (Missing n) is once never = absurd never
+  counted_value value l (Stalled n) is once never = absurd never
+  counted_value value l (Malformed n) is once never = absurd never
 
   -- a record
   pub counted_record : (shelf : Shelf) (c : CursorState) (ended : Ended) → c.tries ≡ tries
       → StepAnswers c s s' (Err ended) → AreCounted tries (Left.Records shelf ended ∷ []) s s'
   counted_record shelf c (Cycle n) same is =
-      counted_nothing (Left.Records shelf (Cycle n)) refl (subst (λ (x : Seen). AreCounted tries [] s x) (sym is) (counted_none s))
-  counted_record shelf c (Missing n) same is = counted_nothing (Left.Records shelf (Missing n)) refl (counted_within is.0)
+      counted_nothing (Left.Records shelf (Cycle n)) refl refl (subst (λ (x : Seen). AreCounted tries [] s x) (sym is) (counted_none s))
+  counted_record shelf c (Missing n) same is = counted_nothing (Left.Records shelf (Missing n)) refl refl (counted_within is.0)
   counted_record shelf c (GaveUp n) same is =
-      counted_given_up (Left.Records shelf (GaveUp n)) refl (omega (arith, is.troubles, same)) is.refusals is.last_code
-  counted_record shelf c (Refused n code) same is = counted_refused (Left.Records shelf (Refused n code)) code refl (rw same at is)
+      counted_given_up (Left.Records shelf (GaveUp n)) refl refl (omega (arith, is.troubles, same)) is.refusals is.last_code
+  counted_record shelf c (Refused n code) same is = counted_refused (Left.Records shelf (Refused n code)) code refl refl (rw same at is)
   counted_record shelf c (Stalled n) same is = absurd is
   counted_record shelf c (Malformed n) same is = absurd is
 
-  -- an inventory
-  pub counted_inventory : (id : ℕ) (l : Left) (ended : FruEnded)
-      → unread_in l ≡ unread_in (Left.Inventory id ended) → IsNotPlain ended
-      → InventoryCounts id tries s s' (Err ended) → AreCounted tries (l ∷ []) s s'
-  counted_inventory id l FruEnded.Memory is not counts = absurd (not tt)
-  counted_inventory id l FruEnded.GaveUp is not counts = counted_given_up l is counts.troubles counts.refusals counts.last_code
-  counted_inventory id l (FruEnded.Refused code) is not counts =
-      let other : (code.0 == 0xCB) ≡ false = grind (arith, nat_tests, not) in
-      counted_refused l code is (rw other at counts)
-  counted_inventory id l FruEnded.Stalled is not counts = absurd counts
-  counted_inventory id l FruEnded.Words is not counts = absurd counts
+-- an inventory, whose size may have been refused once more after that
+pub counted_inventory : {tries : ℕ} {s s' s'' : Seen} (id : ℕ) (l : Left) (ended : FruEnded)
+    → unread_in l ≡ unread_in (Left.Inventory id ended) → IsNotPlain ended
+    → InventoryCounts id tries s s' (Err ended) → AreCounted 0 [] s' s''
+    → s'.refusals + refusals_in l ≤ s''.refusals + refusals_for (unread_in l) → AreCounted tries (l ∷ []) s s''
+counted_inventory id l FruEnded.Memory is not counts after again = absurd (not tt)
+counted_inventory id l FruEnded.GaveUp is not counts after again =
+    counted_one l (Some Unread.GaveUp) is (omega (arith, counts.troubles, after.troubles)) (omega (arith, counts.refusals, rw is at again))
+    (λ none. after.none (omega (arith, none, counts.refusals)) ∙ counts.last_code) (λ e. tt)
+counted_inventory {tries = tries} {s = s} {s' = s'} {s'' = s''} id l (FruEnded.Refused code) is not counts after again =
+    let other : (code.0 == 0xCB) ≡ false = grind (arith, nat_tests, not) in
+    by (rw other at counts)
+  where
+    by : IsRefusedWith tries code.0 s s' → AreCounted tries (l ∷ []) s s''
+    by refused =
+        counted_one l (Some (Unread.Refused code)) is (omega (arith, refused.grows, after.troubles)) (omega (arith, refused.refusals, rw is at again))
+        (λ none. absurd (omega (arith, none, refused.refusals, after.refusals)))
+        (λ one. sym (after.none (omega (arith, one, refused.refusals)) ∙ refused.last_code))
+counted_inventory id l FruEnded.Stalled is not counts after again = absurd counts
+counted_inventory id l FruEnded.Words is not counts after again = absurd counts

@@ -10,7 +10,7 @@ Among [] row = ⊥
 Among (x ∷ xs) row = (row ≡ x) ⊎ Among xs row
 
 -- a row of a walk is found by its id
-look_at : (rows walk : List Row) (row : Row) → AllOf rows walk → Among walk row
+pub look_at : (rows walk : List Row) (row : Row) → AllOf rows walk → Among walk row
     → look rows row.id ≡ Some row
 look_at rows [] row all among = absurd among
 look_at rows (x ∷ xs) row all (inl is) = rw is all.0

@@ -1,150 +1,128 @@
 -- What is printed over a capture is what is printed over the controller's store.
-use Rattle.std.proofs.Common.{◌≡◌, ℕ, suc, ◌-◌, Bool, true, false, cond, nat_eq, Option, None, Some, Result, Ok, Err, List, [], ◌∷◌, length, take, inl, inr, refl, sym, ap, subst, ◌∙◌, arith, All, filter_map}
-use Rattle.std.specs.List.{cons_option}
-use Rattle.std.proofs.lemmas.List.Elements.{All-cons, All-head, All-nil, All-tail}
+use Rattle.std.proofs.Common.{◌≡◌, ℕ, ◌-◌, Bool, true, false, cond, nat_eq, ◌⊎◌, get_or, Option, None, Some, Result, Ok, Err, List, [], ◌∷◌, length, take, inl, inr, refl, sym, ap, subst, ◌∙◌, arith, All, filter_map}
+use Rattle.std.specs.List.{Any, cons_option, filter}
+use Rattle.std.proofs.lemmas.Bool.{true≢false}
+use Rattle.std.proofs.lemmas.List.Elements.{All-cons, All-contains, All-contains_itself, All-head, All-nil, All-tail}
 use Rattle.std.proofs.lemmas.Option.{none-some}
-use Rattle.ipmi_capture.specs.Below.{AllOf, End, EndsBy, First, first_row, FoundIsRow, Id, info_of, inventory_of, IsStore, IsWalk, look, Place, place_after, place_after_rows, Reading, Row, row_with_id, rows_of, Sdr, SdrFault, SdrView, sdr_view_of, Sel, Shelf, start_of, Store, store_shelf, WalkEnd, WalkExists, WalkIsUnique}
-use Rattle.ipmi_capture.specs.Capture.{device_named, IsCaptureOf, SameInventory, SameReading, SameWalk, sensor_named}
-use Rattle.ipmi_capture.specs.Laws.{CapturesPrintTheSame, IsKnownPlace, IsOfCapture, SameText}
-use Rattle.ipmi_commands.specs.Prelude.{after_names, AtInventory, bytes_of_rows, IfChosen, info_plan, inventories_plan, is_name, IsBlockIn, IsBlockOfName, IsDevicePiece, IsInventoryIn, IsLocatorPiece, IsRowText, IsTextOver, Item, job_in, job_of, last_rows, OfInventory, OnNamed, OnPlan, OnWalk, reading_by, reading_for, row_is_of_kind, row_items, Spot, with_first_spots}
-use Rattle.ipmi_command_line.specs.declared.task.Count.{Count}
-use Rattle.ipmi_command_line.specs.declared.task.Task.{Task}
+use Rattle.ipmi_capture.specs.Below.{End, EndsBy, First, first_row, FoundIsRow, Id, info_of, inventory_of, IsStore, IsWalk, look, Place, place_after, place_after_rows, Reading, reading_of, Row, row_with_id, rows_of, Sdr, SdrFault, SdrView, sdr_view_of, Sel, Shelf, start_of, Store, store_shelf, WalkEnd, WalkExists, WalkIsUnique}
+use Rattle.ipmi_capture.specs.Capture.{device_named, devices_of, HasWalk, InventoryOrLeft, IsCaptureBut, IsCaptureOf, ReadingOrLeft, SameInventory, SameReading, SameWalk, sensor_named, sensors_of, WalkOrLeft}
+use Rattle.ipmi_capture.specs.Laws.{CapturesPrintTheSame, CapturesPrintWhatTheyHave, devices_asked, is_walked, IsKnownPlace, IsOfCapture, IsUnneeded, PrintsTheSame, SameText, sensors_asked}
+use Rattle.ipmi_capture.specs.Left.{EndIsNoted, LacksInfo, LacksInventory, LacksReading, LacksRecords, SameOrLeft}
+use Rattle.ipmi_capture.specs.declared.left.Left.{Left}
+use Rattle.ipmi_commands.specs.Prelude.{after_names, AtInventory, bytes_of_rows, entries_in, IfChosen, info_plan, inventories_plan, inventory_plan, is_name, IsBlockIn, IsBlockOfName, IsDevicePiece, IsInventoryIn, IsLocatorPiece, IsRowText, Item, last_rows, listing, listing_plan, OfInventory, OnEntries, OnInventories, OnWalk, reading_by, reading_for, row_is_of_kind, row_items, Spot, spots_before, view_has_name, with_first_spots}
 use Rattle.ipmi_commands.specs.declared.job.Wording.{Wording}
+use Rattle.ipmi_command_line.specs.declared.task.Count.{Count}
+use Rattle.ipmi_command_line.specs.declared.task.Kind.{Kind}
+use Rattle.ipmi_command_line.specs.declared.task.Task.{Task}
+use Rattle.ipmi_events.specs.Name.{device_name}
 use Rattle.ipmi_events.specs.SensorLines.{IsSensorLine}
+use Rattle.ipmi_json.specs.Object.{IsLineOf}
+use Rattle.ipmi_json.specs.Sdr as json
 use Rattle.ipmi_records.specs.SdrText.{fault_line, IsExtendedLine, IsSdrLine, printed_name}
 use Rattle.ipmi_records.specs.Sdr as sdr
-use Rattle.ipmi_capture.proofs.FromLemmas.{Among, from_end, from_id}
+use Rattle.ipmi_capture.proofs.FromLemmas.{Among, from_end, from_id, look_at}
 
--- ---- what a record is printed from
+-- ---- texts
 
--- the reading and the inventory that are asked for on account of a record are the same in both stores
-record Agree (a b : Store) (view : SdrView) : Type 0 where
-  reading : reading_for a view ≡ reading_for b view
-  inventory : (id : ℕ) → sdr.fru_of view ≡ Some id → inventory_of id a ≡ inventory_of id b
+-- the same texts
+abbrev Same : (List ℕ → Type 0) → (List ℕ → Type 0) → Type 0
+Same P Q = (text : List ℕ) → (P text → Q text) × (Q text → P text)
 
-abbrev AgreeOn : Store → Store → Result SdrView SdrFault → Type 0
-AgreeOn a b (Ok view) = Agree a b view
-AgreeOn a b (Err fault) = Unit {0}
+itself : (P : List ℕ → Type 0) → Same P P
+itself P text = (λ is. is, λ is. is)
 
-chosen : (P Q : List ℕ → Type 0) (b : Bool) → ((t : List ℕ) → P t → Q t) → (text : List ℕ)
-    → IfChosen b P text → IfChosen b Q text
-chosen P Q true to text is = to text is
-chosen P Q false to text is = is
+chosen : (P Q : List ℕ → Type 0) (b : Bool) → (b ≡ true → Same P Q)
+    → Same (λ text. IfChosen b P text) (λ text. IfChosen b Q text)
+chosen P Q true same = same refl
+chosen P Q false same = itself (λ text. text ≡ [])
 
 -- the line of a record in one of its forms, or that of its fault
-abbrev LineBy : (SdrView → Option Reading → List ℕ → Type 0) → Store → ℕ
+abbrev LineBy : (SdrView → Option Reading → List ℕ → Type 0) → (SdrFault → List ℕ → Type 0) → Store
     → Result SdrView SdrFault → List ℕ → Type 0
-LineBy IsLine store id (Ok view) text = IsLine view (reading_for store view) text
-LineBy IsLine store id (Err fault) text = text ≡ fault_line id fault
+LineBy IsLine IsFault store (Ok view) text = IsLine view (reading_for store view) text
+LineBy IsLine IsFault store (Err fault) text = IsFault fault text
 
-record_line : (IsLine : SdrView → Option Reading → List ℕ → Type 0) (a b : Store) (id : ℕ)
-    (r : Result SdrView SdrFault) → AgreeOn a b r → (text : List ℕ)
-    → LineBy IsLine a id r text → LineBy IsLine b id r text
-record_line IsLine a b id (Ok view) agree text is = subst (λ r. IsLine view r text) agree.reading is
-record_line IsLine a b id (Err fault) agree text is = is
+-- the line of a fault in each text
+abbrev fault_is : ℕ → SdrFault → List ℕ → Type 0
+fault_is id fault text = text ≡ fault_line id fault
 
-block : (a b : Store) (wording : Wording) (name : List ℕ) (id : ℕ) (r : Result SdrView SdrFault)
-    → AgreeOn a b r → (text : List ℕ) → IsBlockOfName wording name a id r text
-    → IsBlockOfName wording name b id r text
-block a b wording name id (Ok view) agree text is =
-    subst (λ r. IfChosen (is_name name (sdr.name_of view)) (λ t. IsBlockIn wording id view r t) text) agree.reading is
-block a b wording name id (Err fault) agree text is = is
+module _ (a b : Store) where
+  -- the reading that is asked for on account of a record is the same in both stores
+  abbrev SameFor : Result SdrView SdrFault → Type 0
+  SameFor (Ok view) = reading_for a view ≡ reading_for b view
+  SameFor (Err fault) = Unit {0}
 
-piece : (a b : Store) (wording : Wording) (id : ℕ) (name : Option (List ℕ))
-    → inventory_of id a ≡ inventory_of id b → (text : List ℕ)
-    → IsInventoryIn wording id name (inventory_of id a) text
-    → IsInventoryIn wording id name (inventory_of id b) text
-piece a b wording id name same text is =
-    subst (λ inventory. IsInventoryIn wording id name inventory text) same is
+  record_line : (IsLine : SdrView → Option Reading → List ℕ → Type 0) (IsFault : SdrFault → List ℕ → Type 0)
+      (r : Result SdrView SdrFault) → SameFor r
+      → Same (λ text. LineBy IsLine IsFault a r text) (λ text. LineBy IsLine IsFault b r text)
+  record_line IsLine IsFault (Ok view) same =
+      subst (λ (o : Option Reading). Same (λ text. IsLine view (reading_for a view) text) (λ text. IsLine view o text)) same (itself _)
+  record_line IsLine IsFault (Err fault) same = itself _
 
-device : (a b : Store) (wording : Wording) (name : List ℕ) (o : Option ℕ)
-    → ((id : ℕ) → o ≡ Some id → inventory_of id a ≡ inventory_of id b) → (text : List ℕ)
-    → IsDevicePiece wording a name o text → IsDevicePiece wording b name o text
-device a b wording name None same text is = is
-device a b wording name (Some id) same text is = chosen _ _ _ (piece a b wording id (Some name) (same id refl)) text is
+  block : (wording : Wording) (name : List ℕ) (id : ℕ) (r : Result SdrView SdrFault)
+      → (view_has_name name r ≡ true → SameFor r)
+      → Same (λ text. IsBlockOfName wording name a id r text) (λ text. IsBlockOfName wording name b id r text)
+  block wording name id (Ok view) same =
+      chosen _ _ (is_name name (sdr.name_of view)) (λ has.
+      subst (λ (o : Option Reading). Same (λ text. IsBlockIn wording id view (reading_for a view) text) (λ text. IsBlockIn wording id view o text)) (same has) (itself _))
+  block wording name id (Err fault) same = itself _
 
-locator : (wording : Wording) (a b : Store) (r : Result SdrView SdrFault) → AgreeOn a b r
-    → (text : List ℕ) → IsLocatorPiece wording a r text → IsLocatorPiece wording b r text
-locator wording a b (Ok (SdrView.Fru bytes)) agree text is = device a b wording (printed_name (SdrView.Fru bytes)) (sdr.fru_of (SdrView.Fru bytes)) agree.inventory text is
-locator wording a b (Ok (SdrView.Full bytes)) agree text is = is
-locator wording a b (Ok (SdrView.Compact bytes)) agree text is = is
-locator wording a b (Ok (SdrView.EventOnly bytes)) agree text is = is
-locator wording a b (Ok (SdrView.Generic bytes)) agree text is = is
-locator wording a b (Ok (SdrView.Controller bytes)) agree text is = is
-locator wording a b (Ok (SdrView.Other bytes)) agree text is = is
-locator wording a b (Err fault) agree text is = is
+  piece : (wording : Wording) (id : ℕ) (name : Option (List ℕ)) → inventory_of id a ≡ inventory_of id b
+      → Same (λ text. IsInventoryIn wording id name (inventory_of id a) text) (λ text. IsInventoryIn wording id name (inventory_of id b) text)
+  piece wording id name same =
+      subst (λ (o : Option (List ℕ)). Same (λ text. IsInventoryIn wording id name (inventory_of id a) text) (λ text. IsInventoryIn wording id name o text)) same (itself _)
 
--- ---- items
+  device : (wording : Wording) (name : List ℕ) (o : Option ℕ)
+      → ((id : ℕ) → o ≡ Some id → inventory_of id a ≡ inventory_of id b)
+      → Same (λ text. IsDevicePiece wording a name o text) (λ text. IsDevicePiece wording b name o text)
+  device wording name None same = itself _
+  device wording name (Some id) same = chosen _ _ _ (λ other. piece wording id (Some name) (same id refl))
 
--- a text of each item over one store is one over the other
-abbrev AllSame : Store → Store → List Item → Type 0
-AllSame a b [] = Unit {0}
-AllSame a b (item ∷ items) =
-    ((text : List ℕ) → IsTextOver a item.subject text → IsTextOver b item.subject text)
-    × AllSame a b items
+  locator : (wording : Wording) (r : Result SdrView SdrFault)
+      → ((id : ℕ) → device_named r ≡ Some id → inventory_of id a ≡ inventory_of id b)
+      → Same (λ text. IsLocatorPiece wording a r text) (λ text. IsLocatorPiece wording b r text)
+  locator wording (Ok (SdrView.Fru bytes)) same = device wording (printed_name (SdrView.Fru bytes)) (sdr.fru_of (SdrView.Fru bytes)) same
+  locator wording (Ok (SdrView.Full bytes)) same = itself _
+  locator wording (Ok (SdrView.Compact bytes)) same = itself _
+  locator wording (Ok (SdrView.EventOnly bytes)) same = itself _
+  locator wording (Ok (SdrView.Generic bytes)) same = itself _
+  locator wording (Ok (SdrView.Controller bytes)) same = itself _
+  locator wording (Ok (SdrView.Other bytes)) same = itself _
+  locator wording (Err fault) same = itself _
 
-both : (a b : Store) (items : List Item) → AllSame a b items → AllSame b a items
-    → All (SameText a b) items
-both a b [] to from = All-nil (SameText a b)
-both a b (item ∷ items) to from = All-cons (SameText a b) item items (λ text. (to.0 text, from.0 text)) (both a b items to.1 from.1)
+  -- ---- items
 
--- the inventory of a device, and other items
-inventory_both : (a b : Store) (wording : Wording) (id : ℕ) (items : List Item) (spots : List Spot)
-    → inventory_of id a ≡ inventory_of id b → AllSame a b items → AllSame b a items
-    → All (SameText a b) (record { subject = OfInventory wording id; spots = spots } ∷ items)
-inventory_both a b wording id items spots same to from =
-    both a b (record { subject = OfInventory wording id; spots = spots } ∷ items) (piece a b wording id None same, to) (piece b a wording id None (sym same), from)
+  rows_same : (form : _) (start : Place) (rows : List Row)
+      → ((row : Row) → Among rows row → Same (λ text. IsRowText a form row text) (λ text. IsRowText b form row text))
+      → All (SameText a b) (row_items form start rows)
+  rows_same form start [] same = All-nil (SameText a b)
+  rows_same form start (row ∷ rows) same =
+      All-cons (SameText a b) _ _ (same row (inl refl)) (rows_same form (place_after row.next) rows (λ r among. same r (inr among)))
 
--- other spots of the first item
-first_texts : (a b : Store) (spots : List Spot) (items : List Item) → All (SameText a b) items
-    → All (SameText a b) (with_first_spots spots items)
-first_texts a b spots [] same = same
-first_texts a b spots (item ∷ items) same =
-    All-cons (SameText a b) (record { subject = item.subject; spots = spots }) items (All-head (SameText a b) item items same) (All-tail (SameText a b) item items same)
+  -- the inventory of a device, and other items
+  inventory_same : (wording : Wording) (id : ℕ) (name : Option (List ℕ)) (items : List Item) (spots : List Spot)
+      → inventory_of id a ≡ inventory_of id b → All (SameText a b) items
+      → All (SameText a b) (record { subject = OfInventory wording id name; spots = spots } ∷ items)
+  inventory_same wording id name items spots same others =
+      All-cons (SameText a b) _ _ (piece wording id name same) others
 
--- ---- rows
+  -- other spots of the first item
+  first_texts : (spots : List Spot) (items : List Item) → All (SameText a b) items
+      → All (SameText a b) (with_first_spots spots items)
+  first_texts spots [] same = same
+  first_texts spots (item ∷ items) same =
+      All-cons (SameText a b) (record { subject = item.subject; spots = spots }) items (All-head (SameText a b) item items same) (All-tail (SameText a b) item items same)
 
--- records on whose account both stores have the same
-abbrev AllAgree : Store → Store → List Row → Type 0
-AllAgree a b [] = Unit {0}
-AllAgree a b (row ∷ rows) = AgreeOn a b (sdr_view_of row.bytes) × AllAgree a b rows
-
-rows_same : (a b : Store) (form : _) (start : Place) (rows : List Row)
-    → ((row : Row) → AgreeOn a b (sdr_view_of row.bytes) → (text : List ℕ)
-    → IsRowText a form row text → IsRowText b form row text)
-    → AllAgree a b rows → AllSame a b (row_items form start rows)
-rows_same a b form start [] same agree = tt
-rows_same a b form start (row ∷ rows) same agree = (same row agree.0, rows_same a b form (place_after row.next) rows same agree.1)
-
-agree_back : (a b : Store) (r : Result SdrView SdrFault) → AgreeOn a b r → AgreeOn b a r
-agree_back a b (Ok view) agree = record { reading = sym agree.reading; inventory = λ id is. sym (agree.inventory id is) }
-agree_back a b (Err fault) agree = tt
-
-all_back : (a b : Store) (rows : List Row) → AllAgree a b rows → AllAgree b a rows
-all_back a b [] agree = tt
-all_back a b (row ∷ rows) agree = (agree_back a b (sdr_view_of row.bytes) agree.0, all_back a b rows agree.1)
-
--- an entry of the log is printed from itself alone
-entries_same : (a b : Store) (form : _) (start : Place) (rows : List Row)
-    → ((row : Row) (text : List ℕ) → IsRowText a form row text → IsRowText b form row text)
-    → AllSame a b (row_items form start rows)
-entries_same a b form start [] same = tt
-entries_same a b form start (row ∷ rows) same = (same row, entries_same a b form (place_after row.next) rows same)
-
-rows_both : (a b : Store) (form : _) (start : Place) (rows : List Row)
-    → ((x y : Store) (row : Row) → AgreeOn x y (sdr_view_of row.bytes) → (text : List ℕ)
-    → IsRowText x form row text → IsRowText y form row text)
-    → AllAgree a b rows → All (SameText a b) (row_items form start rows)
-rows_both a b form start rows same agree =
-    both a b (row_items form start rows) (rows_same a b form start rows (same a b) agree) (rows_same b a form start rows (same b a) (all_back a b rows agree))
-
-entries_both : (a b : Store) (form : _) (start : Place) (rows : List Row)
-    → ((x y : Store) (row : Row) (text : List ℕ) → IsRowText x form row text → IsRowText y form row text)
-    → All (SameText a b) (row_items form start rows)
-entries_both a b form start rows same =
-    both a b (row_items form start rows) (entries_same a b form start rows (same a b)) (entries_same b a form start rows (same b a))
+  info_same : (wording : Wording) (shelf : Shelf) (o : Option (List ℕ))
+      → All (SameText a b) (info_plan wording shelf o).items
+  info_same wording shelf None = All-nil (SameText a b)
+  info_same wording shelf (Some info) = All-cons (SameText a b) _ [] (itself _) (All-nil (SameText a b))
 
 -- ---- what rows name
+
+of_rest : {X : Type 0} (P : X → Type 0) (o : Option X) (xs : List X) → All P (cons_option o xs) → All P xs
+of_rest P None xs all = all
+of_rest P (Some x) xs all = All-tail P x xs all
 
 -- what a row of these is named
 named : {X : Type 0} (h : Row → Option X) (P : X → Type 0) (rows : List Row) (row : Row) (x : X)
@@ -155,11 +133,7 @@ named {X = X} h P (r ∷ rows) row x (inl same) is all = first (h r) (ap h (sym 
     first : (o : Option X) → o ≡ Some x → All P (cons_option o (filter_map h rows)) → P x
     first None at all = absurd (none-some x at)
     first (Some y) at all = let is : y ≡ x = grind (arith, at) in rw is at (all 0 x (omega arith))
-named {X = X} h P (r ∷ rows) row x (inr among) is all = named h P rows row x among is (later (h r) all)
-  where
-    later : (o : Option X) → All P (cons_option o (filter_map h rows)) → All P (filter_map h rows)
-    later None all = all
-    later (Some y) all = λ k d lt. all (suc k) d (omega (arith, lt))
+named h P (r ∷ rows) row x (inr among) is all = named h P rows row x among is (of_rest P (h r) (filter_map h rows) all)
 
 found_among : (rows : List Row) (n : ℕ) (row : Row) → row_with_id n rows ≡ Some row → Among rows row
 found_among [] n row at = absurd (none-some row at)
@@ -181,180 +155,374 @@ looked_up rows n row at = by (nat_eq n 0) at
     by true at = first rows at
     by false at = found_among rows n row at
 
-module _ (image store : Store) (capture : IsCaptureOf image store) where
-  reading_same : (o : Option (ℕ × ℕ)) → ((key : ℕ × ℕ) → o ≡ Some key → SameReading image store key)
-      → reading_by image o ≡ reading_by store o
-  reading_same None same = refl
-  reading_same (Some key) same = same key refl
+-- where it passes the test, it is among those that do
+kept : (test : Row → Bool) (rows : List Row) (row : Row) → Among rows row → test row ≡ true
+    → Among (filter test rows) row
+kept test [] row among passes = absurd among
+kept test (x ∷ xs) row among passes = by (test x) refl among (λ later. kept test xs row later passes)
+  where
+    by : (b : Bool) → test x ≡ b → Among (x ∷ xs) row → (Among xs row → Among (filter test xs) row)
+        → Among (cond b (x ∷ filter test xs) (filter test xs)) row
+    by true e (inl same) kept_later = inl same
+    by true e (inr later) kept_later = inr (kept_later later)
+    by false e (inl same) kept_later = absurd (true≢false (sym passes ∙ ap test same ∙ e))
+    by false e (inr later) kept_later = kept_later later
 
-  agree : (r : Result SdrView SdrFault)
-      → ((key : ℕ × ℕ) → sensor_named r ≡ Some key → SameReading image store key)
-      → ((id : ℕ) → device_named r ≡ Some id → SameInventory image store id) → AgreeOn image store r
-  agree (Ok view) readings inventories = record { reading = reading_same (sdr.reading_of view) readings; inventory = inventories }
-  agree (Err fault) readings inventories = tt
+-- what holds of all that rows name holds of what some of them name
+of_some : {X : Type 0} (h : Row → Option X) (P : X → Type 0) (test : Row → Bool) (rows : List Row)
+    → All P (filter_map h rows) → All P (filter_map h (filter test rows))
+of_some h P test [] all = All-nil P
+of_some {X = X} h P test (row ∷ rows) all =
+    by (test row) (of_some h P test rows (of_rest P (h row) (filter_map h rows) all))
+  where
+    put : (o : Option X) (xs ys : List X) → All P (cons_option o xs) → All P ys → All P (cons_option o ys)
+    put None xs ys all later = later
+    put (Some x) xs ys all later = All-cons P x ys (All-head P x xs all) later
 
-  row_agrees : (row : Row) → Among image.sdr row → AgreeOn image store (sdr_view_of row.bytes)
-  row_agrees row among =
-      agree (sdr_view_of row.bytes)
-      (λ key is. named (λ (r : Row). sensor_named (sdr_view_of r.bytes)) (SameReading image store) image.sdr row key among is capture.readings)
-      (λ id is. named (λ (r : Row). device_named (sdr_view_of r.bytes)) (SameInventory image store) image.sdr row id among is (λ k d lt. capture.inventories (suc k) d (omega (arith, lt))))
+    by : (b : Bool) → All P (filter_map h (filter test rows))
+        → All P (filter_map h (cond b (row ∷ filter test rows) (filter test rows)))
+    by true later = put (h row) (filter_map h rows) (filter_map h (filter test rows)) all later
+    by false later = later
 
-  walk_agrees : (walk : List Row) → AllOf image.sdr walk → AllAgree image store walk
-  walk_agrees [] all = tt
-  walk_agrees (row ∷ rows) all = (row_agrees row (looked_up image.sdr row.id row all.0), walk_agrees rows all.1)
+-- ---- what a command asks for
 
-  same_first : (shelf : Shelf) → SameWalk shelf image store
-  same_first Sdr = capture.sdr
-  same_first Sel = capture.sel
+-- it is the same in both stores
+record HasAsked (image store : Store) (task : Task) (wording : Wording) : Type 0 where
+  walk : (shelf : Shelf) → is_walked shelf task wording ≡ true → SameWalk shelf image store
+  info : (shelf : Shelf) → task ≡ Task.Info shelf → info_of shelf image ≡ info_of shelf store
+  readings : All (SameReading image store) (sensors_asked task image.sdr)
+  inventories : All (SameInventory image store) (devices_asked task image.sdr)
 
-  info_plan_same : (shelf : Shelf) → info_plan (info_of shelf image) ≡ info_plan (info_of shelf store)
-  info_plan_same Sdr = ap info_plan capture.sdr_info
-  info_plan_same Sel = ap info_plan capture.sel_info
+module _ (image : Store) where
+  asked_readings : (P : ℕ × ℕ → Type 0) (task : Task) → All P (sensors_of image.sdr)
+      → All P (sensors_asked task image.sdr)
+  asked_readings P Task.Hex all = All-nil P
+  asked_readings P (Task.List kind) all = of_some _ P (row_is_of_kind kind) image.sdr all
+  asked_readings P (Task.Elist kind) all = of_some _ P (row_is_of_kind kind) image.sdr all
+  asked_readings P (Task.Get name) all = of_some _ P (λ row. view_has_name name (sdr_view_of row.bytes)) image.sdr all
+  asked_readings P (Task.SelList count) all = All-nil P
+  asked_readings P (Task.SelGet id) all = All-nil P
+  asked_readings P (Task.Info shelf) all = All-nil P
+  asked_readings P (Task.Fru None) all = All-nil P
+  asked_readings P (Task.Fru (Some id)) all = All-nil P
+  asked_readings P Task.Rewrite all = All-nil P
 
-info_same : (a b : Store) (o : Option (List ℕ)) → AllSame a b (info_plan o).items
-info_same a b None = tt
-info_same a b (Some info) = (λ text is. is, tt)
+  asked_inventories : (P : ℕ → Type 0) (task : Task) (from : Option ℕ) → IsOfCapture image task from
+      → All P (0 ∷ devices_of image.sdr) → All P (devices_asked task image.sdr)
+  asked_inventories P Task.Hex from known all = All-nil P
+  asked_inventories P (Task.List kind) from known all = All-nil P
+  asked_inventories P (Task.Elist kind) from known all = All-nil P
+  asked_inventories P (Task.Get name) from known all = All-nil P
+  asked_inventories P (Task.SelList count) from known all = All-nil P
+  asked_inventories P (Task.SelGet id) from known all = All-nil P
+  asked_inventories P (Task.Info shelf) from known all = All-nil P
+  asked_inventories P (Task.Fru None) from known all = all
+  asked_inventories P (Task.Fru (Some id)) from known all =
+      All-cons P id [] (All-contains P (0 ∷ devices_of image.sdr) id all known) (All-nil P)
+  asked_inventories P Task.Rewrite from known all = All-nil P
+
+-- over a capture that lacks nothing, all is
+asked_of_capture : (image store : Store) (wording : Wording) (task : Task) (from : Option ℕ)
+    → IsCaptureOf image store → IsOfCapture image task from → HasAsked image store task wording
+asked_of_capture image store wording task from capture known = record {
+  walk = λ shelf walked. walk shelf;
+  info = λ shelf asked. info shelf;
+  readings = asked_readings image (SameReading image store) task capture.readings;
+  inventories = asked_inventories image (SameInventory image store) task from known capture.inventories;
+}
+  where
+    walk : (shelf : Shelf) → SameWalk shelf image store
+    walk Sdr = capture.sdr
+    walk Sel = capture.sel
+
+    info : (shelf : Shelf) → info_of shelf image ≡ info_of shelf store
+    info Sdr = capture.sdr_info
+    info Sel = capture.sel_info
+
+-- over one that lacks only what is not asked for, that is
+module _ (left : List Left) (image store : Store) (wording : Wording) (task : Task) (from : Option ℕ)
+    (capture : IsCaptureBut left image store) (unneeded : All (IsUnneeded image wording task) left)
+    (known : IsOfCapture image task from) where
+  -- of what was left out nothing is asked for
+  never : (P : Left → Type 0) → ((l : Left) → IsUnneeded image wording task l → P l → ⊥) → Any P left → ⊥
+  never P none any = none any.1 (subst (λ (l : Left). IsUnneeded image wording task l) any.3 (unneeded any.0 any.1 any.2)) any.4
+
+  same_of : {V : Type 0} (P : Left → Type 0) (a b : Option V)
+      → ((l : Left) → IsUnneeded image wording task l → P l → ⊥) → SameOrLeft P left a b → a ≡ b
+  same_of P a b none (inl same) = same
+  same_of P a b none (inr lacks) = absurd (never P none lacks.1)
+
+  walk_of : (shelf : Shelf) → is_walked shelf task wording ≡ true → WalkOrLeft shelf left image store
+      → SameWalk shelf image store
+  walk_of shelf walked walks = λ walk end is ends. by walk end (walks walk end is ends)
+    where
+      by : (walk : List Row) (end : WalkEnd)
+          → (HasWalk shelf image walk end × EndIsNoted shelf left end)
+          ⊎ ((rows_of shelf image ≡ take (length (rows_of shelf image)) walk) × Any (LacksRecords shelf) left)
+          → HasWalk shelf image walk end
+      by walk end (inl same) = same.0
+      by walk end (inr front) =
+          absurd (never (LacksRecords shelf) (λ l none lacks. true≢false (sym walked ∙ none.records shelf lacks)) front.1)
+
+  asked_of_rest : HasAsked image store task wording
+  asked_of_rest = record {
+    walk = λ shelf walked. walk shelf walked;
+    info = λ shelf asked. info shelf asked;
+    readings = λ k d lt.
+        let keys = sensors_asked task image.sdr in
+        let key = get_or keys k d in
+        same_of (LacksReading key.0 key.1) (reading_of key.0 key.1 image) (reading_of key.0 key.1 store)
+        (λ l none lacks. none.reading key.0 key.1 lacks (All-contains_itself keys k d lt))
+        (asked_readings image (ReadingOrLeft left image store) task capture.readings k d lt);
+    inventories = λ k d lt.
+        let ids = devices_asked task image.sdr in
+        let id = get_or ids k d in
+        same_of (LacksInventory id) (inventory_of id image) (inventory_of id store)
+        (λ l none lacks. none.inventory id lacks (All-contains_itself ids k d lt))
+        (asked_inventories image (InventoryOrLeft left image store) task from known capture.inventories k d lt);
+  }
+    where
+      walk : (shelf : Shelf) → is_walked shelf task wording ≡ true → SameWalk shelf image store
+      walk Sdr walked = walk_of Sdr walked capture.sdr
+      walk Sel walked = walk_of Sel walked capture.sel
+
+      info : (shelf : Shelf) → task ≡ Task.Info shelf → info_of shelf image ≡ info_of shelf store
+      info Sdr asked = same_of (LacksInfo Sdr) _ _ (λ l none lacks. none.info Sdr lacks asked) capture.sdr_info
+      info Sel asked = same_of (LacksInfo Sel) _ _ (λ l none lacks. none.info Sel lacks asked) capture.sel_info
 
 -- ---- plans
 
 module _ (exists : WalkExists) (unique : WalkIsUnique) (found : FoundIsRow) (image store : Store)
-    (is_image : IsStore image) (is_store : IsStore store) (capture : IsCaptureOf image store) where
-  same_from : (shelf : Shelf) (start : Place) → IsKnownPlace shelf image start → (walk : List Row)
-      (end : WalkEnd) → IsWalk (rows_of shelf store) start walk
+    (is_image : IsStore image) (is_store : IsStore store) where
+  same_from : (shelf : Shelf) (start : Place) → SameWalk shelf image store → IsKnownPlace shelf image start
+      → (walk : List Row) (end : WalkEnd) → IsWalk (rows_of shelf store) start walk
       → EndsBy (rows_of shelf store) start walk end
       → IsWalk (rows_of shelf image) start walk × EndsBy (rows_of shelf image) start walk end
-  same_from shelf First known walk end is ends =
-      let here = same_first image store capture shelf walk end is ends in (here.1, here.2)
-  same_from shelf End known walk end is ends = from_end (rows_of shelf store) (rows_of shelf image) walk end is ends
-  same_from shelf (Id n) known walk end is ends =
+  same_from shelf First same known walk end is ends =
+      let here = same walk end is ends in (here.1, here.2)
+  same_from shelf End same known walk end is ends = from_end (rows_of shelf store) (rows_of shelf image) walk end is ends
+  same_from shelf (Id n) same known walk end is ends =
       let there = exists shelf (rows_of shelf store) First (store_shelf shelf store is_store) in
-      let here = same_first image store capture shelf there.0 there.1 there.2 there.3 in
+      let here = same there.0 there.1 there.2 there.3 in
       from_id found shelf (rows_of shelf store) (rows_of shelf image) there.0 there.1 (store_shelf shelf store is_store) there.2 there.3 here.1 here.2 n walk end (known there.0 there.1 here.1 here.2) is ends
 
-  one_walk : (shelf : Shelf) (start : Place) → IsKnownPlace shelf image start
+  one_walk : (shelf : Shelf) (start : Place) → SameWalk shelf image store → IsKnownPlace shelf image start
       → (walk walk' : List Row) (end end' : WalkEnd) → IsWalk (rows_of shelf store) start walk
       → EndsBy (rows_of shelf store) start walk end → IsWalk (rows_of shelf image) start walk'
       → EndsBy (rows_of shelf image) start walk' end'
       → (walk' ≡ walk) × (end' ≡ end) × IsWalk (rows_of shelf image) start walk
-  one_walk shelf start known walk walk' end end' is ends is' ends' =
-      let here = same_from shelf start known walk end is ends in
+  one_walk shelf start same known walk walk' end end' is ends is' ends' =
+      let here = same_from shelf start same known walk end is ends in
       let one = unique shelf (rows_of shelf image) start walk' walk end' end (store_shelf shelf image is_image) is' ends' here.0 here.1 in
       (one.0, one.1, here.0)
 
   -- a listing of sensor data records
-  records_same : (form : _) (from : Option ℕ) → IsKnownPlace Sdr image (start_of from)
-      → ((x y : Store) (row : Row) → AgreeOn x y (sdr_view_of row.bytes) → (text : List ℕ)
-      → IsRowText x form row text → IsRowText y form row text)
+  records_same : (form : _) (from : Option ℕ) → SameWalk Sdr image store
+      → IsKnownPlace Sdr image (start_of from)
+      → ((row : Row) → Among image.sdr row
+      → Same (λ text. IsRowText image form row text) (λ text. IsRowText store form row text))
       → OnWalk Sdr (start_of from) store (λ walk end. OnWalk Sdr (start_of from) image (λ walk' end'.
       (walk' ≡ walk) × (end' ≡ end) × All (SameText image store) (row_items form (start_of from) walk)))
-  records_same form from known same = λ walk end is ends walk' end' is' ends'.
-      let one = one_walk Sdr (start_of from) known walk walk' end end' is ends is' ends' in
-      (one.0, one.1, rows_both image store form (start_of from) walk same (walk_agrees image store capture walk one.2.of_shelf))
+  records_same form from walks known same = λ walk end is ends walk' end' is' ends'.
+      let one = one_walk Sdr (start_of from) walks known walk walk' end end' is ends is' ends' in (
+        one.0,
+        one.1,
+        rows_same image store form (start_of from) walk (λ row among. same row
+            (looked_up image.sdr row.id row (look_at image.sdr walk row one.2.of_shelf among))),
+      )
 
-  -- a listing of entries, with the same names
-  named_same : (names : Option (List (List ℕ))) (count : Count) (from : Option ℕ) (tries tries' : ℕ)
-      → IsKnownPlace Sel image (start_of from)
-      → OnNamed names count from tries store (λ plan calls.
-      OnNamed names count from tries' image (λ plan' calls'.
+  -- with the readings that it asks for
+  row_reads : (test : Row → Bool) → All (SameReading image store) (sensors_of (filter test image.sdr))
+      → (row : Row) → Among image.sdr row → test row ≡ true
+      → SameFor image store (sdr_view_of row.bytes)
+  row_reads test same row among passes = by (sdr_view_of row.bytes) (λ key is.
+      named (λ (r : Row). sensor_named (sdr_view_of r.bytes)) (SameReading image store) (filter test image.sdr) row key (kept test image.sdr row among passes) is same)
+    where
+      reading : (o : Option (ℕ × ℕ)) → ((key : ℕ × ℕ) → o ≡ Some key → SameReading image store key)
+          → reading_by image o ≡ reading_by store o
+      reading None same = refl
+      reading (Some key) same = same key refl
+
+      by : (r : Result SdrView SdrFault)
+          → ((key : ℕ × ℕ) → sensor_named r ≡ Some key → SameReading image store key)
+          → SameFor image store r
+      by (Ok view) same = reading (sdr.reading_of view) same
+      by (Err fault) same = tt
+
+  -- the plan of a listing of all of them
+  listing_same : (form : _) (from : Option ℕ) → SameWalk Sdr image store
+      → IsKnownPlace Sdr image (start_of from)
+      → ((row : Row) → Among image.sdr row
+      → Same (λ text. IsRowText image form row text) (λ text. IsRowText store form row text))
+      → OnWalk Sdr (start_of from) store (λ walk end. OnWalk Sdr (start_of from) image (λ walk' end'.
+      (listing_plan (listing form (start_of from) None) walk' end' ≡ listing_plan (listing form (start_of from) None) walk end)
+      × All (SameText image store) (listing_plan (listing form (start_of from) None) walk end).items))
+  listing_same form from walks known same = λ walk end is ends walk' end' is' ends'.
+      let one = records_same form from walks known same walk end is ends walk' end' is' ends' in
+      (rw (one.0, one.1) refl, one.2)
+
+  -- what is printed for a record of the kind
+  module _ (kind : Kind) (readings : All (SameReading image store) (sensors_of (filter (row_is_of_kind kind) image.sdr)))
+      (row : Row) (among : Among image.sdr row) where
+    line_same : (IsLine : SdrView → Option Reading → List ℕ → Type 0) (IsFault : SdrFault → List ℕ → Type 0)
+        → Same (λ text. IfChosen (row_is_of_kind kind row) (λ t. LineBy IsLine IsFault image (sdr_view_of row.bytes) t) text)
+        (λ text. IfChosen (row_is_of_kind kind row) (λ t. LineBy IsLine IsFault store (sdr_view_of row.bytes) t) text)
+    line_same IsLine IsFault =
+        chosen _ _ (row_is_of_kind kind row) (λ passes. record_line image store IsLine IsFault (sdr_view_of row.bytes)
+        (row_reads (row_is_of_kind kind) readings row among passes))
+
+  -- objects of the records of a kind
+  objects_same : (labels : _) (kind : Kind) (from : Option ℕ) → SameWalk Sdr image store
+      → All (SameReading image store) (sensors_of (filter (row_is_of_kind kind) image.sdr))
+      → IsKnownPlace Sdr image (start_of from) → PrintsTheSame image store (Wording.Json labels) (Task.List kind) from
+  objects_same labels kind from walks readings known = λ tries tries'.
+      listing_same _ from walks known (λ row among. line_same kind readings row among
+      (λ view reading text. json.IsSdrLine row.id view reading labels.now text)
+      (λ fault text. IsLineOf (json.fault_members row.id fault row.bytes) labels.now text))
+
+  -- the block of a record with the name
+  block_same : (wording : Wording) (name : List ℕ)
+      → All (SameReading image store) (sensors_of (filter (λ row. view_has_name name (sdr_view_of row.bytes)) image.sdr))
+      → (row : Row) → Among image.sdr row
+      → Same (λ text. IsBlockOfName wording name image row.id (sdr_view_of row.bytes) text)
+      (λ text. IsBlockOfName wording name store row.id (sdr_view_of row.bytes) text)
+  block_same wording name readings row among =
+      block image store wording name row.id (sdr_view_of row.bytes)
+      (row_reads (λ (r : Row). view_has_name name (sdr_view_of r.bytes)) readings row among)
+
+  -- one entry
+  entry_same : (id : ℕ) (from : Option ℕ) → SameWalk Sel image store → IsKnownPlace Sel image (Id id)
+      → PrintsTheSame image store Wording.Codes (Task.SelGet id) from
+  entry_same id from walks known = λ tries tries' walk end is ends walk' end' is' ends'.
+      let one = one_walk Sel (Id id) walks known walk walk' end end' is ends is' ends' in
+      (rw (one.0, one.1) refl, rows_same image store _ (Id id) (take 1 walk) (λ row among. itself _))
+
+  -- a listing of entries, each as such a line
+  lines_same : (entries : _) (count : Count) (from : Option ℕ)
+      → SameWalk Sel image store → IsKnownPlace Sel image (start_of from) → (tries tries' : ℕ)
+      → OnEntries entries count from tries store (λ plan calls.
+      OnEntries entries count from tries' image (λ plan' calls'.
       (plan' ≡ plan) × All (SameText image store) plan.items))
-  named_same names Count.All from tries tries' known = λ walk end is ends walk' end' is' ends'.
-      let one = one_walk Sel (start_of from) known walk walk' end end' is ends is' ends' in
-      (rw (one.0, one.1) refl, entries_both image store _ (start_of from) walk (λ x y row text has. has))
-  named_same names (Count.First n) from tries tries' known = λ walk end is ends walk' end' is' ends'.
-      let one = one_walk Sel (start_of from) known walk walk' end end' is ends is' ends' in
-      (rw (one.0, one.1) refl, entries_both image store _ (start_of from) (take n walk) (λ x y row text has. has))
-  named_same names (Count.Last n) from tries tries' known = λ walk end is ends walk' end' is' ends'.
+  lines_same entries Count.All from walks known = λ tries tries' walk end is ends walk' end' is' ends'.
+      let one = one_walk Sel (start_of from) walks known walk walk' end end' is ends is' ends' in
+      (rw (one.0, one.1) refl, rows_same image store _ (start_of from) walk (λ row among. itself _))
+  lines_same entries (Count.First n) from walks known = λ tries tries' walk end is ends walk' end' is' ends'.
+      let one = one_walk Sel (start_of from) walks known walk walk' end end' is ends is' ends' in
+      (rw (one.0, one.1) refl, rows_same image store _ (start_of from) (take n walk) (λ row among. itself _))
+  lines_same entries (Count.Last n) from walks known = λ tries tries' walk end is ends walk' end' is' ends'.
       let start = start_of from in
-      let one = one_walk Sel start known walk walk' end end' is ends is' ends' in
+      let one = one_walk Sel start walks known walk walk' end end' is ends is' ends' in
       let at = place_after_rows start (take (length walk - n) walk) in (
         rw (one.0, one.1) refl,
-        first_texts image store _ _ (entries_both image store _ at (last_rows n walk end) (λ x y row text has. has)),
+        first_texts image store _ _ (rows_same image store _ at (last_rows n walk end) (λ row among. itself _)),
       )
 
-  -- all inventories
-  inventories_same : (wording : Wording)
+  entries_same : (count : Count) (from : Option ℕ) → SameWalk Sel image store
+      → IsKnownPlace Sel image (start_of from) → PrintsTheSame image store Wording.Codes (Task.SelList count) from
+  entries_same Count.All from walks known = lines_same _ Count.All from walks known
+  entries_same (Count.First n) from walks known = lines_same _ (Count.First n) from walks known
+  entries_same (Count.Last n) from walks known = lines_same _ (Count.Last n) from walks known
+
+  -- events with the names of their sensors: the sensor data records are walked first
+  events_same : (wording : Wording) (count : Count) (from : Option ℕ) → SameWalk Sdr image store → SameWalk Sel image store
+      → IsKnownPlace Sel image (start_of from) → (tries tries' : ℕ)
+      → OnWalk Sdr First store (λ sensors end. OnEntries (entries_in wording (bytes_of_rows sensors)) count from tries store (λ plan calls.
+      OnWalk Sdr First image (λ sensors' end'. OnEntries (entries_in wording (bytes_of_rows sensors')) count from tries' image (λ plan' calls'.
+      (after_names sensors' end' plan' ≡ after_names sensors end plan) × All (SameText image store) (after_names sensors end plan).items))))
+  events_same wording Count.All from records entries known = λ tries tries' sensors end is ends walk e w we sensors' end' is' ends' walk' e' w' we'.
+      let one = one_walk Sdr First records tt sensors sensors' end end' is ends is' ends' in
+      let same = lines_same (entries_in wording (bytes_of_rows sensors)) Count.All from entries known tries tries' walk e w we walk' e' w' we' in
+      (rw (one.0, one.1) (ap (after_names sensors end) same.0), first_texts image store _ _ same.1)
+  events_same wording (Count.First n) from records entries known = λ tries tries' sensors end is ends walk e w we sensors' end' is' ends' walk' e' w' we'.
+      let one = one_walk Sdr First records tt sensors sensors' end end' is ends is' ends' in
+      let same = lines_same (entries_in wording (bytes_of_rows sensors)) (Count.First n) from entries known tries tries' walk e w we walk' e' w' we' in
+      (rw (one.0, one.1) (ap (after_names sensors end) same.0), first_texts image store _ _ same.1)
+  events_same wording (Count.Last n) from records entries known = λ tries tries' sensors end is ends walk e w we sensors' end' is' ends' walk' e' w' we'.
+      let one = one_walk Sdr First records tt sensors sensors' end end' is ends is' ends' in
+      let same = lines_same (entries_in wording (bytes_of_rows sensors)) (Count.Last n) from entries known tries tries' walk e w we walk' e' w' we' in
+      (rw (one.0, one.1) (ap (after_names sensors end) same.0), first_texts image store _ _ same.1)
+
+  -- all inventories, with the same name of device 0
+  inventories_same : (wording : Wording) (name : Option (List ℕ)) → SameWalk Sdr image store
+      → All (SameInventory image store) (0 ∷ devices_of image.sdr)
       → OnWalk Sdr First store (λ walk end. OnWalk Sdr First image (λ walk' end'.
-      (inventories_plan wording walk' end' ≡ inventories_plan wording walk end)
-      × All (SameText image store) (inventories_plan wording walk end).items))
-  inventories_same wording = λ walk end is ends walk' end' is' ends'.
-      let one = one_walk Sdr First tt walk walk' end end' is ends is' ends' in
-      let agree = walk_agrees image store capture walk one.2.of_shelf in
-      let same : SameInventory image store 0 = capture.inventories 0 0 (omega arith) in (
+      (inventories_plan wording name walk' end' ≡ inventories_plan wording name walk end)
+      × All (SameText image store) (inventories_plan wording name walk end).items))
+  inventories_same wording name walks inventories = λ walk end is ends walk' end' is' ends'.
+      let one = records_same _ None walks tt (λ row among.
+      locator image store wording (sdr_view_of row.bytes) (λ id is.
+      named (λ (r : Row). device_named (sdr_view_of r.bytes)) (SameInventory image store) image.sdr row id among is
+      (All-tail (SameInventory image store) 0 (devices_of image.sdr) inventories))) walk end is ends walk' end' is' ends' in (
         rw (one.0, one.1) refl,
-        inventory_both image store wording 0 _ (AtInventory 0 ∷ []) same
-            (rows_same image store _ First walk (λ row agree text has. locator wording image store (sdr_view_of row.bytes) agree text has) agree)
-            (rows_same store image _ First walk (λ row agree text has. locator wording store image (sdr_view_of row.bytes) agree text has) (all_back image store walk agree)),
+        inventory_same image store wording 0 name _ (AtInventory 0 ∷ [])
+            (All-head (SameInventory image store) 0 (devices_of image.sdr) inventories) one.2,
       )
 
-  prints_the_same : (task : Task) (from : Option ℕ) (tries tries' : ℕ) → IsOfCapture image task from
-      → OnPlan (job_of task from) tries store (λ plan calls.
-      OnPlan (job_of task from) tries' image (λ plan' calls'.
-      (plan' ≡ plan) × All (SameText image store) plan.items))
-  prints_the_same Task.Hex from tries tries' known = λ walk end is ends walk' end' is' ends'.
-      let one = records_same _ from known (λ x y row agree text has. has) walk end is ends walk' end' is' ends' in
-      (rw (one.0, one.1) refl, one.2)
-  prints_the_same (Task.List kind) from tries tries' known = λ walk end is ends walk' end' is' ends'.
-      let one = records_same _ from known (λ x y row agree text has. chosen _ _ (row_is_of_kind kind row) (record_line IsSdrLine x y row.id (sdr_view_of row.bytes) agree) text has) walk end is ends walk' end' is' ends' in
-      (rw (one.0, one.1) refl, one.2)
-  prints_the_same (Task.Elist kind) from tries tries' known = λ walk end is ends walk' end' is' ends'.
-      let one = records_same _ from known (λ x y row agree text has. chosen _ _ (row_is_of_kind kind row) (record_line IsExtendedLine x y row.id (sdr_view_of row.bytes) agree) text has) walk end is ends walk' end' is' ends' in
-      (rw (one.0, one.1) refl, one.2)
-  prints_the_same (Task.Get name) from tries tries' known = λ walk end is ends walk' end' is' ends'.
-      let one = records_same _ from known (λ x y row agree text has. block x y Wording.Codes name row.id (sdr_view_of row.bytes) agree text has) walk end is ends walk' end' is' ends' in
-      (rw (one.0, one.1) refl, one.2)
-  prints_the_same (Task.SelList Count.All) from tries tries' known = named_same None Count.All from tries tries' known
-  prints_the_same (Task.SelList (Count.First n)) from tries tries' known = named_same None (Count.First n) from tries tries' known
-  prints_the_same (Task.SelList (Count.Last n)) from tries tries' known = named_same None (Count.Last n) from tries tries' known
-  prints_the_same (Task.SelGet id) from tries tries' known = λ walk end is ends walk' end' is' ends'.
-      let one = one_walk Sel (Id id) known walk walk' end end' is ends is' ends' in
-      (rw (one.0, one.1) refl, entries_both image store _ (Id id) (take 1 walk) (λ x y row text has. has))
-  prints_the_same (Task.Info shelf) from tries tries' known =
-      (info_plan_same image store capture shelf, both image store _ (info_same image store (info_of shelf store)) (info_same store image (info_of shelf store)))
-  prints_the_same (Task.Fru (Some id)) from tries tries' known =
-      let same : SameInventory image store id = rw known.2 at (capture.inventories known.0 id known.1) in
-      (refl, inventory_both image store Wording.Codes id [] (AtInventory id ∷ []) same tt tt)
-  prints_the_same (Task.Fru None) from tries tries' known = inventories_same Wording.Codes
-  prints_the_same Task.Rewrite from tries tries' known = (refl, both image store [] tt tt)
+  -- all devices: the sensor data records are walked first for the name of device 0
+  devices_same : (wording : Wording) → SameWalk Sdr image store
+      → All (SameInventory image store) (0 ∷ devices_of image.sdr) → (tries tries' : ℕ)
+      → OnWalk Sdr First store (λ records end. OnInventories wording (device_name 0 (bytes_of_rows records)) tries store (λ plan calls.
+      OnWalk Sdr First image (λ records' end'. OnInventories wording (device_name 0 (bytes_of_rows records')) tries' image (λ plan' calls'.
+      (after_names records' end' plan' ≡ after_names records end plan) × All (SameText image store) (after_names records end plan).items))))
+  devices_same wording walks inventories = λ tries tries' records end is ends walk e w we records' end' is' ends' walk' e' w' we'.
+      let one = one_walk Sdr First walks tt records records' end end' is ends is' ends' in
+      let name = device_name 0 (bytes_of_rows records) in
+      let plan = inventories_plan wording name walk e in
+      let same = inventories_same wording name walks inventories walk e w we walk' e' w' we' in
+      (rw (one.0, one.1) (ap (after_names records end) same.0), first_texts image store (spots_before records end plan) plan.items same.1)
 
-  -- events in words: the sensor data records are walked first
-  events_same : (count : Count) (from : Option ℕ) (tries tries' : ℕ) → IsKnownPlace Sel image (start_of from)
-      → OnPlan (job_in Wording.Words (Task.SelList count) from) tries store (λ plan calls.
-      OnPlan (job_in Wording.Words (Task.SelList count) from) tries' image (λ plan' calls'.
-      (plan' ≡ plan) × All (SameText image store) plan.items))
-  events_same Count.All from tries tries' known = λ sensors end is ends walk e w we sensors' end' is' ends' walk' e' w' we'.
-      let one = one_walk Sdr First tt sensors sensors' end end' is ends is' ends' in
-      let same = named_same (Some (bytes_of_rows sensors)) Count.All from tries tries' known walk e w we walk' e' w' we' in
-      (rw (one.0, one.1) (ap (after_names sensors end) same.0), first_texts image store _ _ same.1)
-  events_same (Count.First n) from tries tries' known = λ sensors end is ends walk e w we sensors' end' is' ends' walk' e' w' we'.
-      let one = one_walk Sdr First tt sensors sensors' end end' is ends is' ends' in
-      let same = named_same (Some (bytes_of_rows sensors)) (Count.First n) from tries tries' known walk e w we walk' e' w' we' in
-      (rw (one.0, one.1) (ap (after_names sensors end) same.0), first_texts image store _ _ same.1)
-  events_same (Count.Last n) from tries tries' known = λ sensors end is ends walk e w we sensors' end' is' ends' walk' e' w' we'.
-      let one = one_walk Sdr First tt sensors sensors' end end' is ends is' ends' in
-      let same = named_same (Some (bytes_of_rows sensors)) (Count.Last n) from tries tries' known walk e w we walk' e' w' we' in
-      (rw (one.0, one.1) (ap (after_names sensors end) same.0), first_texts image store _ _ same.1)
+  -- one inventory, and an info
+  inventory_agrees : (wording : Wording) (id : ℕ) → SameInventory image store id
+      → (inventory_plan wording id None ≡ inventory_plan wording id None) × All (SameText image store) (inventory_plan wording id None).items
+  inventory_agrees wording id same =
+      (refl, inventory_same image store wording id None [] (AtInventory id ∷ []) same (All-nil (SameText image store)))
 
-  prints_in : (wording : Wording) (task : Task) (from : Option ℕ) (tries tries' : ℕ)
-      → IsOfCapture image task from
-      → OnPlan (job_in wording task from) tries store (λ plan calls.
-      OnPlan (job_in wording task from) tries' image (λ plan' calls'.
-      (plan' ≡ plan) × All (SameText image store) plan.items))
-  prints_in Wording.Codes task from tries tries' known = prints_the_same task from tries tries' known
-  prints_in Wording.Words (Task.List kind) from tries tries' known = λ walk end is ends walk' end' is' ends'.
-      let one = records_same _ from known (λ x y row agree text has. chosen _ _ (row_is_of_kind kind row) (record_line IsSensorLine x y row.id (sdr_view_of row.bytes) agree) text has) walk end is ends walk' end' is' ends' in
-      (rw (one.0, one.1) refl, one.2)
-  prints_in Wording.Words (Task.Get name) from tries tries' known = λ walk end is ends walk' end' is' ends'.
-      let one = records_same _ from known (λ x y row agree text has. block x y Wording.Words name row.id (sdr_view_of row.bytes) agree text has) walk end is ends walk' end' is' ends' in
-      (rw (one.0, one.1) refl, one.2)
-  prints_in Wording.Words (Task.SelList count) from tries tries' known = events_same count from tries tries' known
-  prints_in Wording.Words Task.Hex from tries tries' known = prints_the_same Task.Hex from tries tries' known
-  prints_in Wording.Words (Task.Elist kind) from tries tries' known = prints_the_same (Task.Elist kind) from tries tries' known
-  prints_in Wording.Words (Task.SelGet id) from tries tries' known = prints_the_same (Task.SelGet id) from tries tries' known
-  prints_in Wording.Words (Task.Info shelf) from tries tries' known = prints_the_same (Task.Info shelf) from tries tries' known
-  prints_in Wording.Words (Task.Fru None) from tries tries' known = inventories_same Wording.Words
-  prints_in Wording.Words (Task.Fru (Some id)) from tries tries' known = prints_the_same (Task.Fru (Some id)) from tries tries' known
-  prints_in Wording.Words Task.Rewrite from tries tries' known = prints_the_same Task.Rewrite from tries tries' known
+  info_agrees : (wording : Wording) (shelf : Shelf) → info_of shelf image ≡ info_of shelf store
+      → (info_plan wording shelf (info_of shelf image) ≡ info_plan wording shelf (info_of shelf store))
+      × All (SameText image store) (info_plan wording shelf (info_of shelf store)).items
+  info_agrees wording shelf same =
+      (ap (info_plan wording shelf) same, info_same image store wording shelf (info_of shelf store))
 
-pub prints_the_same_of : WalkExists → WalkIsUnique → FoundIsRow → CapturesPrintTheSame
-prints_the_same_of exists unique found = λ image store wording task from tries tries' is_image is_store capture known.
-    prints_in exists unique found image store is_image is_store capture wording task from tries tries' known
+  prints_the_same : (wording : Wording) (task : Task) (from : Option ℕ) → HasAsked image store task wording
+      → IsOfCapture image task from → PrintsTheSame image store wording task from
+  prints_the_same Wording.Codes Task.Hex from asked known = λ tries tries'. listing_same _ from (asked.walk Sdr refl) known (λ row among. itself _)
+  prints_the_same Wording.Codes (Task.List kind) from asked known = λ tries tries'. listing_same _ from (asked.walk Sdr refl) known (λ row among. line_same kind asked.readings row among IsSdrLine (fault_is row.id))
+  prints_the_same Wording.Codes (Task.Elist kind) from asked known = λ tries tries'. listing_same _ from (asked.walk Sdr refl) known (λ row among. line_same kind asked.readings row among IsExtendedLine (fault_is row.id))
+  prints_the_same Wording.Codes (Task.Get name) from asked known = λ tries tries'. listing_same _ from (asked.walk Sdr refl) known (block_same Wording.Codes name asked.readings)
+  prints_the_same Wording.Codes (Task.SelList count) from asked known = entries_same count from (asked.walk Sel refl) known
+  prints_the_same Wording.Codes (Task.SelGet id) from asked known = entry_same id from (asked.walk Sel refl) known
+  prints_the_same Wording.Codes (Task.Info shelf) from asked known = λ tries tries'. info_agrees Wording.Codes shelf (asked.info shelf refl)
+  prints_the_same Wording.Codes (Task.Fru None) from asked known = λ tries tries'. inventories_same Wording.Codes None (asked.walk Sdr refl) asked.inventories
+  prints_the_same Wording.Codes (Task.Fru (Some id)) from asked known = λ tries tries'. inventory_agrees Wording.Codes id (All-head (SameInventory image store) id [] asked.inventories)
+  prints_the_same Wording.Codes Task.Rewrite from asked known = absurd known
+  prints_the_same Wording.Words Task.Hex from asked known = λ tries tries'. listing_same _ from (asked.walk Sdr refl) known (λ row among. itself _)
+  prints_the_same Wording.Words (Task.List kind) from asked known = λ tries tries'. listing_same _ from (asked.walk Sdr refl) known (λ row among. line_same kind asked.readings row among IsSensorLine (fault_is row.id))
+  prints_the_same Wording.Words (Task.Elist kind) from asked known = λ tries tries'. listing_same _ from (asked.walk Sdr refl) known (λ row among. line_same kind asked.readings row among IsExtendedLine (fault_is row.id))
+  prints_the_same Wording.Words (Task.Get name) from asked known = λ tries tries'. listing_same _ from (asked.walk Sdr refl) known (block_same Wording.Words name asked.readings)
+  prints_the_same Wording.Words (Task.SelList count) from asked known = events_same Wording.Words count from (asked.walk Sdr refl) (asked.walk Sel refl) known
+  prints_the_same Wording.Words (Task.SelGet id) from asked known = entry_same id from (asked.walk Sel refl) known
+  prints_the_same Wording.Words (Task.Info shelf) from asked known = λ tries tries'. info_agrees Wording.Codes shelf (asked.info shelf refl)
+  prints_the_same Wording.Words (Task.Fru None) from asked known = devices_same Wording.Words (asked.walk Sdr refl) asked.inventories
+  prints_the_same Wording.Words (Task.Fru (Some id)) from asked known = λ tries tries'. inventory_agrees Wording.Codes id (All-head (SameInventory image store) id [] asked.inventories)
+  prints_the_same Wording.Words Task.Rewrite from asked known = absurd known
+  prints_the_same (Wording.Json labels) Task.Hex from asked known = λ tries tries'. listing_same _ from (asked.walk Sdr refl) known (λ row among. itself _)
+  prints_the_same (Wording.Json labels) (Task.List kind) from asked known = objects_same labels kind from (asked.walk Sdr refl) asked.readings known
+  prints_the_same (Wording.Json labels) (Task.Elist kind) from asked known = objects_same labels kind from (asked.walk Sdr refl) asked.readings known
+  prints_the_same (Wording.Json labels) (Task.Get name) from asked known = λ tries tries'. listing_same _ from (asked.walk Sdr refl) known (block_same (Wording.Json labels) name asked.readings)
+  prints_the_same (Wording.Json labels) (Task.SelList count) from asked known = events_same (Wording.Json labels) count from (asked.walk Sdr refl) (asked.walk Sel refl) known
+  prints_the_same (Wording.Json labels) (Task.SelGet id) from asked known = events_same (Wording.Json labels) (Count.First 1) (Some id) (asked.walk Sdr refl) (asked.walk Sel refl) known
+  prints_the_same (Wording.Json labels) (Task.Info shelf) from asked known = λ tries tries'. info_agrees (Wording.Json labels) shelf (asked.info shelf refl)
+  prints_the_same (Wording.Json labels) (Task.Fru None) from asked known = devices_same (Wording.Json labels) (asked.walk Sdr refl) asked.inventories
+  prints_the_same (Wording.Json labels) (Task.Fru (Some id)) from asked known = λ tries tries'. inventory_agrees (Wording.Json labels) id (All-head (SameInventory image store) id [] asked.inventories)
+  prints_the_same (Wording.Json labels) Task.Rewrite from asked known = absurd known
+
+module _ (exists : WalkExists) (unique : WalkIsUnique) (found : FoundIsRow) where
+  pub print_the_same : CapturesPrintTheSame
+  print_the_same = λ image store wording task from is_image is_store capture known.
+      prints_the_same exists unique found image store is_image is_store wording task from
+      (asked_of_capture image store wording task from capture known) known
+
+  pub print_what_they_have : CapturesPrintWhatTheyHave
+  print_what_they_have = λ left image store wording task from is_image is_store capture unneeded known.
+      prints_the_same exists unique found image store is_image is_store wording task from
+      (asked_of_rest left image store wording task from capture unneeded known) known

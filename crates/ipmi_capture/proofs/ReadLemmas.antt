@@ -9,9 +9,9 @@ use Rattle.std.proofs.lemmas.List.Elements.{All-append, All-cons, All-nil, All-w
 use Rattle.std.proofs.lemmas.List.{append-nil, append_assoc, get_or-append-add, get_or_append_left, length-append}
 use Rattle.ipmi_capture.specs.Below.{AsksAtMost, Cycle, Ended, GaveUp, Malformed, Missing, Refused, Stalled, IsHonest, Inventory, inventory_in, inventory_of, Reading, SensorReading, reading_in, reading_of, FruEnded, InventoryCounts, InventoryIs, not_present, ReadsInventory, ReadsValue, Row, Seen, Shelf, stays_refl, stays_trans, StaysHonest, Store, with_inventory, with_reading, WalkEnd, WithinTries}
 use Rattle.ipmi_capture.specs.Capture.{InventoryOrLeft, NoneOrSame, OwnInventories, OwnReadings, ReadingOrLeft}
-use Rattle.ipmi_capture.specs.Left.{AreCounted, EndIsNoted, IsTrueOf, LacksInventory, LacksReading, LacksRecords, NotesEnd, PlainLeaves, SameOrLeft, unread_in, unread_of}
+use Rattle.ipmi_capture.specs.Left.{AreCounted, EndIsNoted, IsTrueOf, LacksInventory, LacksReading, LacksRecords, NotesEnd, PlainLeaves, refusals_for, refusals_in, SameOrLeft, unread_in, unread_of}
 use Rattle.ipmi_capture.specs.Named.{IsSensorKey, sensor_place}
-use Rattle.ipmi_capture.specs.Phases.{Adds, AreRowsOf, AreWalk, Captures, HasInventories, HasInventory, HasRead, HasReadings, IsNotPlain, IsUnkept, IsUnread, most_for_inventory}
+use Rattle.ipmi_capture.specs.Phases.{Adds, AreRowsOf, AreWalk, Captures, HasInventories, HasInventory, HasRead, HasReadings, IsNotPlain, IsRefusedAgain, IsUnkept, IsUnread, most_for_inventory}
 use Rattle.ipmi_capture.specs.declared.left.Left.{Left}
 use Rattle.ipmi_capture.specs.declared.left.Unread.{Unread}
 use Rattle.ipmi_capture.proofs.CountLemmas.{counted_inventory, counted_less, counted_none, counted_nothing, counted_then, counted_value, counted_within}
@@ -126,6 +126,18 @@ adds_then {left = left} P Q o weaker adds is = record {
   all = All-append Q adds.more (option_to_list o) (All-weaker P Q weaker adds.more adds.all) (of_option Q o is);
 }
 
+-- ---- a part of a capture that leaves nothing out
+pub nothing_left : {tries : ℕ} {s s' : Seen} {Fact : Type 0} (left : List Left) → AreCounted tries [] s s'
+    → (s'.stores_added ≡ s.stores_added → Fact) → Captures tries s s' left left Fact
+nothing_left {s = s} left counts fact = record {
+  more = [];
+  grows = sym (append-nil left);
+  counts = counts;
+  fact = fact;
+  told = λ same. All-nil (IsTrueOf s.store);
+  plain = λ p all. all;
+}
+
 -- ---- two parts of a capture, one after the other
 
 -- what is left out comes after what was
@@ -194,17 +206,10 @@ reading_begun part tries marks s left image none = record {
   asked = omega arith;
   stays = λ h. stays_refl s h;
   lacks = adds_none (UnreadTo 0 image) left;
-  read = λ h. record {
-    more = [];
-    grows = sym (append-nil left);
-    counts = counted_none s;
-    fact = λ same. record {
-      named = λ key is below. absurd (omega (arith, below));
-      own = λ lun number. inl (ap (λ (l : List SensorReading). reading_in l lun number) none);
-    };
-    told = λ same. All-nil (IsTrueOf s.store);
-    plain = λ p all. all;
-  };
+  read = λ h. nothing_left left (counted_none s) (λ same. record {
+    named = λ key is below. absurd (omega (arith, below));
+    own = λ lun number. inl (ap (λ (l : List SensorReading). reading_in l lun number) none);
+  });
 }
 
 -- all were read
@@ -419,17 +424,10 @@ keeping_begun part tries marks s left image none = record {
   asked = omega arith;
   stays = λ h. stays_refl s h;
   lacks = adds_none (UnkeptTo 0 image) left;
-  read = λ h. record {
-    more = [];
-    grows = sym (append-nil left);
-    counts = counted_none s;
-    fact = λ same. record {
-      named = λ id below. absurd (omega (arith, below));
-      own = λ id. inl (ap (λ (l : List Inventory). inventory_in l id) none);
-    };
-    told = λ same. All-nil (IsTrueOf s.store);
-    plain = λ p all. all;
-  };
+  read = λ h. nothing_left left (counted_none s) (λ same. record {
+    named = λ id below. absurd (omega (arith, below));
+    own = λ id. inl (ap (λ (l : List Inventory). inventory_in l id) none);
+  });
 }
 
 -- all were read
@@ -605,33 +603,22 @@ module _ {V : Type 0} {tries : ℕ} {s s' : Seen} (value : Store → Option V) (
   pub came_value : (v : V) (in_image : Option V) → in_image ≡ Some v
       → ReadsValue value tries s s' (Ok (Some v))
       → Captures tries s s' [] [] (SameOrLeft Lacks [] in_image (value s.store))
-  came_value v in_image has reads = record {
-    more = [];
-    grows = refl;
-    counts = counted_within reads.is.0;
-    fact = λ same. inl (has ∙ reads.is.1 ∙ ap value (reads.stays.store.stays same));
-    told = λ same. All-nil (IsTrueOf s.store);
-    plain = λ p all. all;
-  }
+  came_value v in_image has reads =
+      nothing_left [] (counted_within reads.is.0) (λ same. inl (has ∙ reads.is.1 ∙ ap value (reads.stays.store.stays same)))
 
   pub absent_value : (in_image : Option V) → in_image ≡ None → ReadsValue value tries s s' (Ok None)
       → Captures tries s s' [] [] (SameOrLeft Lacks [] in_image (value s.store))
-  absent_value in_image none reads = record {
-    more = [];
-    grows = refl;
-    counts = counted_within reads.is.0;
-    fact = λ same. inl (none ∙ reads.is.1 ∙ ap value (reads.stays.store.stays same));
-    told = λ same. All-nil (IsTrueOf s.store);
-    plain = λ p all. all;
-  }
+  absent_value in_image none reads =
+      nothing_left [] (counted_within reads.is.0) (λ same. inl (none ∙ reads.is.1 ∙ ap value (reads.stays.store.stays same)))
 
   pub left_value : (ended : Ended) (lacks : Left) (in_image : Option V) → in_image ≡ None
-      → Lacks lacks → unread_in lacks ≡ Some (unread_of ended) → ReadsValue value tries s s' (Err ended)
+      → Lacks lacks → unread_in lacks ≡ Some (unread_of ended)
+      → refusals_in lacks ≡ refusals_for (Some (unread_of ended)) → ReadsValue value tries s s' (Err ended)
       → Captures tries s s' [] (lacks ∷ []) (SameOrLeft Lacks (lacks ∷ []) in_image (value s.store))
-  left_value ended lacks in_image none lacks_it unread reads = record {
+  left_value ended lacks in_image none lacks_it unread once reads = record {
     more = lacks ∷ [];
     grows = refl;
-    counts = counted_value value lacks ended unread reads.is;
+    counts = counted_value value lacks ended unread once reads.is;
     fact = λ same. inr (none, any_of_one Lacks lacks lacks_it);
     told = λ same. one_told s.store lacks (told_unread s.store lacks (unread_of ended) unread);
     plain = λ p all. let never : Err ended ≡ Ok (value s.store) = (reads.plain p).0 in cc;
@@ -673,14 +660,8 @@ pub came_inventory : {tries : ℕ} {s s' : Seen} (id : ℕ) (bytes : List ℕ) (
     → inventory_of id old ≡ None → new ≡ with_inventory id bytes old
     → ReadsInventory id tries s s' (Ok bytes)
     → Captures tries s s' [] [] (InventoryOrLeft [] new s.store id)
-came_inventory {s = s} id bytes old new none is reads = record {
-  more = [];
-  grows = refl;
-  counts = counted_within reads.counts.0;
-  fact = λ same. inl (kept_again id bytes old new none is ∙ sym (reads.is same).1);
-  told = λ same. All-nil (IsTrueOf s.store);
-  plain = λ p all. all;
-}
+came_inventory id bytes old new none is reads =
+    nothing_left [] (counted_within reads.counts.0) (λ same. inl (kept_again id bytes old new none is ∙ sym (reads.is same).1))
 
 -- one without bytes is not put into the image
 pub came_empty : {tries : ℕ} {s s' : Seen} (id : ℕ) (bytes : List ℕ) (image : Store)
@@ -689,7 +670,7 @@ pub came_empty : {tries : ℕ} {s s' : Seen} (id : ℕ) (bytes : List ℕ) (imag
 came_empty {s = s} {s' = s'} id bytes image none no_bytes reads = record {
   more = Left.Empty id ∷ [];
   grows = refl;
-  counts = counted_nothing (Left.Empty id) refl (counted_within reads.counts.0);
+  counts = counted_nothing (Left.Empty id) refl refl (counted_within reads.counts.0);
   fact = λ same. inr (none, any_of_one (LacksInventory id) (Left.Empty id) refl);
   told = λ same. one_told s.store (Left.Empty id) (empty same);
   plain = λ p all. All-cons (PlainLeaves s.store) (Left.Empty id) [] (empty (reads.stays.plain_store p)) (All-nil (PlainLeaves s.store));
@@ -704,27 +685,22 @@ pub left_inventory : {tries : ℕ} {s s' s'' : Seen} (id : ℕ) (ended : FruEnde
     → ReadsInventory id tries s s' (Err ended) → StaysHonest s' s'' → AreCounted 0 [] s' s''
     → IfOk result (λ o. MatchOption o (ended ≡ FruEnded.Refused not_present)
     (λ left. LacksInventory id left × IsNotPlain ended × (unread_in left ≡ unread_in (Left.Inventory id ended))))
-    → IfOk result (λ o. Captures tries s s'' [] (option_to_list o)
+    → IfOk result (λ o. IfSome o (IsRefusedAgain s' s'')) → IfOk result (λ o. Captures tries s s'' [] (option_to_list o)
     (InventoryOrLeft (option_to_list o) image s.store id))
-left_inventory id ended (Err e) image none reads later after left = tt
-left_inventory {tries = tries} {s = s} {s' = s'} {s'' = s''} id ended (Ok None) image none reads later after left = record {
-  more = [];
-  grows = refl;
-  counts = counted_then [] [] (counted_within (counts (rw left at reads.counts))) (counted_less after);
-  fact = λ same. inl (none ∙ sym (absent (rw left at ((reads.is (between s s' s'' reads.stays later same).0)))));
-  told = λ same. All-nil (IsTrueOf s.store);
-  plain = λ p all. all;
-}
+left_inventory id ended (Err e) image none reads later after left again = tt
+left_inventory {tries = tries} {s = s} {s' = s'} {s'' = s''} id ended (Ok None) image none reads later after left again =
+    nothing_left [] (counted_then [] [] (counted_within (counts (rw left at reads.counts))) (counted_less after))
+    (λ same. inl (none ∙ sym (absent (rw left at ((reads.is (between s s' s'' reads.stays later same).0))))))
   where
     absent : InventoryIs id tries s s' (Err (FruEnded.Refused not_present)) → inventory_of id s.store ≡ None
     absent is = is.1
 
     counts : InventoryCounts id tries s s' (Err (FruEnded.Refused not_present)) → WithinTries tries s s'
     counts is = is.0
-left_inventory {tries = tries} {s = s} {s' = s'} id ended (Ok (Some lacks)) image none reads later after left = record {
+left_inventory {tries = tries} {s = s} {s' = s'} id ended (Ok (Some lacks)) image none reads later after left again = record {
   more = lacks ∷ [];
   grows = refl;
-  counts = counted_then (lacks ∷ []) [] (counted_inventory id lacks ended left.2 left.1 reads.counts) (counted_less after);
+  counts = counted_inventory id lacks ended left.2 left.1 reads.counts after again;
   fact = λ same. inr (none, any_of_one (LacksInventory id) lacks left.0);
   told = λ same. one_told s.store lacks (told ended left.2 left.1 reads.counts);
   plain = λ p all. absurd (left.1 (reads.plain p).0);

@@ -262,7 +262,7 @@ module _ {shelf : Shelf} {part tries : ℕ} {s s' s'' : Seen} {now next : Cursor
   came_malformed n {row = row} is left h = record {
     along = λ same walk end walks ends. (stepped h same walk end walks ends).0;
     plain = λ p. absurd (true≢false (sym (may_put h p row is) ∙ left));
-    counts = counted_nothing (Left.Records shelf (Malformed n)) refl (came_record is h);
+    counts = counted_nothing (Left.Records shelf (Malformed n)) refl refl (came_record is h);
   }
 
   -- a record is one id more

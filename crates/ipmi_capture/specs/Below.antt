@@ -13,7 +13,7 @@ pub use Rattle.ipmi_bus.specs.Shelf.{DistinctIds, first_row, FoundIsRow, id_in, 
 pub use Rattle.ipmi_bus.specs.Standing.{StandsAt, WalkStep}
 pub use Rattle.ipmi_bus.specs.Step.{asked_at, CursorHoldsCurrent, cycle_at, handed_id, HandsOut, IsStep, StepAnswers, StepIsHonest, StepIsPlain}
 pub use Rattle.ipmi_bus.specs.Store.{info_of, Inventory, inventory_in, inventory_of, IsInventory, IsStore, reading_in, reading_of, rows_of, SensorReading, Store, store_shelf}
-pub use Rattle.ipmi_bus.specs.Tries.{IsRefusedWith, NotGivenUpOrRefused, WithinTries}
+pub use Rattle.ipmi_bus.specs.Tries.{IsRefusedWith, LastFruCallSays, NotGivenUpOrRefused, WithinTries}
 pub use Rattle.ipmi_bus.specs.Walk.{AllOf, CycleAt, Done, EndsAfter, EndsBy, EndsEmpty, has_id, IsWalk, last_next, Links, MissingAt, place_after, place_after_rows, row_at, WalkEnd, WalkExists, WalkIsUnique}
 pub use Rattle.ipmi_bus.specs.declared.code.Code.{Code}
 pub use Rattle.ipmi_bus.specs.declared.controller.Shelf.{Shelf}

@@ -1,4 +1,4 @@
--- What it is for the store of an image to be a capture of the store of a controller.
+-- When the store of an image is a capture of a controller's store.
 use Rattle.std.specs.Prelude.{◌≡◌, ℕ, Option, None, Result, Ok, Err, List, ◌∷◌, All, filter_map, length, take, ◌⊎◌}
 use Rattle.std.specs.List.{Any}
 use Rattle.ipmi_capture.specs.Below.{First, info_of, inventory_of, EndsBy, IsWalk, reading_of, Row, rows_of, Sdr, SdrFault, SdrView, sdr_view_of, Sel, Shelf, Store, WalkEnd}
@@ -8,7 +8,7 @@ use Rattle.ipmi_records.specs.Sdr as sdr
 
 -- ---- what records name
 
--- the LUN and the number of the sensor whose reading is asked for on account of a record; one with a fault names none
+-- the LUN and number of the sensor that a record names for a reading; a faulty record names none
 abbrev pub sensor_named : Result SdrView SdrFault → Option (ℕ × ℕ)
 sensor_named (Ok view) = sdr.reading_of view
 sensor_named (Err fault) = None

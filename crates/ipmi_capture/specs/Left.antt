@@ -1,5 +1,4 @@
--- What is not in an image: which of it an image is whole without, which of it is nothing, what a controller counts meanwhile, and
--- the line that says it.
+-- What an image lacks: which items leave it whole, which only note an end, what a controller counts for them, and their line.
 use Rattle.std.specs.Prelude.{◌≡◌, ℕ, ◌+◌, ◌≤◌, All, Bool, true, false, codes, decimal, Option, None, Some, List, [], ◌++◌, ◌⊎◌}
 use Rattle.std.specs.List.{Any, sum_by}
 use Rattle.ipmi_capture.specs.Below.{byte_h, Cycle, CycleAt, Done, Ended, ended_text, EndsBy, First, FruEnded, GaveUp, hex_byte, info_of, inventory_of, IsWalk, Missing, MissingAt, reading_of, Refused, Row, rows_of, Sdr, Seen, Sel, Shelf, Store, WalkEnd}
@@ -87,7 +86,7 @@ IsTrueOf store (Left.Records shelf (Missing n)) = WalkEndsBy shelf store (Missin
 IsTrueOf store (Left.Empty id) = inventory_of id store ≡ Some []
 IsTrueOf store _ = Unit {0}
 
--- what is left out over a plain controller: that the walk ends so is said, and an inventory without bytes has no line
+-- over a plain controller, only true ends of walks and empty inventories are noted
 abbrev pub PlainLeaves : Store → Left → Type 0
 PlainLeaves store (Left.Records shelf (Cycle n)) = WalkEndsBy shelf store (CycleAt n)
 PlainLeaves store (Left.Records shelf (Missing n)) = WalkEndsBy shelf store (MissingAt n)
@@ -116,15 +115,20 @@ abbrev pub refusals_for : Option Unread → ℕ
 refusals_for (Some (Unread.Refused code)) = 1
 refusals_for _ = 0
 
+-- a size was asked for once more, and refused again
+abbrev pub refusals_in : Left → ℕ
+refusals_in (Left.Size id code) = 2
+refusals_in left = refusals_for (unread_in left)
+
 abbrev pub HasCode : ℕ → Option Unread → Type 0
 HasCode last (Some (Unread.Refused code)) = code.0 ≡ last
 HasCode last _ = Unit {0}
 
--- The troubles of all that was given up came, and the refusals of all that was refused. Where none came the last code stays;
--- where one came, what was refused has its code.
+-- The counts include the troubles of each item given up and each refusal, two for a size. Without a refusal the last code stays;
+-- after one, the refused item has it.
 pub record AreCounted (tries : ℕ) (left : List Left) (s s' : Seen) : Type 0 where
   pub troubles : s.troubles + sum_by (λ l. troubles_for tries (unread_in l)) left ≤ s'.troubles
-  pub refusals : s.refusals + sum_by (λ l. refusals_for (unread_in l)) left ≤ s'.refusals
+  pub refusals : s.refusals + sum_by refusals_in left ≤ s'.refusals
   pub none : s'.refusals ≡ s.refusals → s'.last_code ≡ s.last_code
   pub one : s'.refusals ≡ s.refusals + 1 → All (λ l. HasCode s'.last_code (unread_in l)) left
 

@@ -1,10 +1,10 @@
 -- What each part of a capture leaves, for the contracts of private functions.
-use Rattle.std.specs.Prelude.{◌≡◌, ℕ, ◌+◌, ◌*◌, ◌<◌, ◌==◌, ◌||◌, IsTrue, Bool, false, true, Option, Some, None, Err, List, ◌++◌, All, map, take, length, slice_index_or, ◌⊎◌}
+use Rattle.std.specs.Prelude.{◌≡◌, ◌≢◌, ℕ, ◌+◌, ◌*◌, ◌<◌, ◌≤◌, ◌==◌, ◌||◌, IsTrue, Bool, false, true, Option, Some, None, Err, List, ◌++◌, All, map, take, length, slice_index_or, ◌⊎◌}
 use Rattle.std.specs.List.{Any}
 use Rattle.std.specs.Option.{option_to_list}
-use Rattle.ipmi_capture.specs.Below.{Cycle, CycleAt, Done, Ended, EndsBy, First, FruEnded, fru_call_bound, inventory_of, IsWalk, largest_len, Missing, MissingAt, PlainMayAnswer, Reading, reading_of, Row, rows_of, Sdr, Seen, Sel, Shelf, step_call_bound, Store, WalkEnd, with_inventory, with_reading}
+use Rattle.ipmi_capture.specs.Below.{Code, Cycle, CycleAt, Done, Ended, EndsBy, First, FruEnded, fru_call_bound, inventory_of, IsWalk, largest_len, Missing, MissingAt, PlainMayAnswer, Reading, reading_of, Row, rows_of, Sdr, Seen, Sel, Shelf, step_call_bound, Store, WalkEnd, with_inventory, with_reading}
 use Rattle.ipmi_capture.specs.Capture.{InventoryOrLeft, OwnInventories, OwnReadings, ReadingOrLeft}
-use Rattle.ipmi_capture.specs.Left.{AreCounted, EndIsNoted, IsTrueOf, LacksInventory, LacksReading, LacksRecords, PlainLeaves}
+use Rattle.ipmi_capture.specs.Left.{AreCounted, EndIsNoted, IsTrueOf, LacksInventory, LacksReading, LacksRecords, PlainLeaves, refusals_for, refusals_in, unread_in}
 use Rattle.ipmi_capture.specs.Named.{IsSensorKey, sensor_place}
 use Rattle.ipmi_capture.specs.declared.left.Left.{Left}
 
@@ -30,8 +30,8 @@ pub record IsUnkept (image : Store) (left : Left) : Type 0 where
 
 -- ---- over an honest controller
 
--- a part of a capture, with what was left out before it and after it: more was left out after what was, and where no store is
--- added the fact holds, and what is said of the store is true; over a plain controller only so much is left out
+-- a phase of a capture, with the list of what was left out before it and after it: the list grows. If no store is added, the
+-- fact holds, and what the new entries say of the store is true
 pub record Captures (tries : ℕ) (s s' : Seen) (left left' : List Left) (Fact : Type 0) : Type 0 where
   pub more : List Left
   pub grows : left' ≡ left ++ more
@@ -90,11 +90,23 @@ pub record HasReadings (marks : List Bool) (left : List Left) (image store : Sto
       → slice_index_or marks (sensor_place key) false ≡ true → ReadingOrLeft left image store key
   pub own : OwnReadings image store
 
--- and so it is with the inventory of device 0, and of each marked device but FFh, which is none
+-- the same for the inventory of device 0, and of each marked device but FFh
 pub record HasInventories (marks : List Bool) (left : List Left) (image store : Store) : Type 0 where
   pub named : (id : ℕ) → id < 255 → IsTrue ((id == 0) || slice_index_or marks id false)
       → InventoryOrLeft left image store id
   pub own : OwnInventories image store
+
+-- what is left out where an inventory was refused with this code, and its size was asked for after that: the size, if that call
+-- failed with the same code
+abbrev pub IsLeftByRefusal : Code → Option ℕ → Left → Type 0
+IsLeftByRefusal code failure (Left.Size id c) = (c ≡ code) × (failure ≡ Some code.0)
+IsLeftByRefusal code failure (Left.Inventory id ended) =
+    (ended ≡ FruEnded.Refused code) × (failure ≢ Some code.0)
+IsLeftByRefusal code failure left = ⊥
+
+-- as many refusals came as are told of, but for the one that is known
+abbrev pub IsRefusedAgain : Seen → Seen → Left → Type 0
+IsRefusedAgain s s' left = s.refusals + refusals_in left ≤ s'.refusals + refusals_for (unread_in left)
 
 -- over a plain controller the reading of an inventory does not end so
 abbrev pub IsNotPlain : FruEnded → Type 0

@@ -89,12 +89,12 @@ fn note_info<C: Controller>(
 /// sensors and the inventories of the devices that records name, each once, and the inventory of device 0. It asks for at most
 /// `part` bytes at once, and lets each thing meet `tries` troubles; after a refusal it goes on with what is next.
 ///
-/// What is left out is not in the image, over any controller. Of each thing left out as given up an honest controller counted
-/// one trouble more than the tries, of each refused one a refusal. Of a controller that is honest, and adds no store meanwhile,
-/// the image has each thing as it is there, unless just that was left out, and nothing else. How each walk ends is noted, unless
-/// it is done, and an end that is noted is so, and an inventory that is called empty. Where nothing was left out, it is a capture.
-/// Over a plain controller nothing is left out but an inventory without bytes. Where stores are added, `Cursor::step` says of each
-/// record that it lends that the controller had it then; that the image has just these records is only tested.
+/// What is left out is not in the image, over any controller. An honest controller counted `tries` + 1 troubles for each item
+/// that was given up, one refusal for each that was refused, and two for a size. If it adds no store meanwhile, the image has
+/// exactly its items, except those that were left out. Each walk end but that of a whole walk is noted. A noted end is true of
+/// the store, and so is an inventory noted as empty. If nothing was left out, the image is a capture. Over a plain controller
+/// only an inventory without bytes is left out. If stores are added, `Cursor::step` says that the controller had each record as
+/// it was lent; that the image has just these records is only tested.
 pub fn capture<C: Controller, P: Progress>(
     alloc: Global,
     ctl: &mut C,

@@ -1,12 +1,12 @@
 //! Reads inventories of FRU devices into an image.
 ghost use Rattle.std.specs.Prelude.{◌≡◌, ◌≢◌, ◌+◌, ◌*◌, ◌<◌, ◌≤◌, IfOk, IfSome, MatchOption, OnErr, OnOk, [], None, Some, false};
 ghost use Rattle.std.specs.Option.{option_to_list};
-ghost use Rattle.ipmi_capture.specs.Below.{AsksAtMost, FruEnded, inventory_of, IsHonest, not_present, StaysHonest};
+ghost use Rattle.ipmi_capture.specs.Below.{AsksAtMost, FruEnded, inventory_of, IsHonest, LastFruCallSays, not_present, StaysHonest};
 ghost use Rattle.ipmi_capture.specs.Capture.{InventoryOrLeft};
 ghost use Rattle.ipmi_capture.specs.Left.{AreCounted, LacksInventory, unread_in};
 ghost use Rattle.ipmi_capture.specs.declared.left.Left.{Left};
 ghost use Rattle.ipmi_capture.specs.declared.left.Unread.{Unread};
-ghost use Rattle.ipmi_capture.specs.Phases.{Adds, Captures, IsNotPlain, IsUnkept, HasInventories, HasInventory, most_for_inventory};
+ghost use Rattle.ipmi_capture.specs.Phases.{Adds, Captures, IsLeftByRefusal, IsNotPlain, IsRefusedAgain, IsUnkept, HasInventories, HasInventory, most_for_inventory};
 
 use crate::capturing::Asking;
 use crate::left::{Left, note};
@@ -19,8 +19,8 @@ use std::alloc::AllocError;
 /// The id that is no FRU device's.
 const NO_DEVICE: u8 = LAST_FRU_DEVICE_ID + 1;
 
-/// What is left out where an inventory was refused with this code: nothing where there is none. The code may be the answer to
-/// the question how long it is, or have come later, so that is asked once more.
+/// What is left out after a refusal with this code: nothing if there is no inventory. The code may have refused the size or a
+/// part, so the size is asked for once more.
 fn left_by_refusal<C: Controller>(ctl: &mut C, id: u8, code: Code) -> Option<Left>
     ensures calls { (C.seen ctl.new).calls ≤ (C.seen ctl.old).calls + 1 }
     ensures asked { AsksAtMost 0 (C.seen ctl.old) (C.seen ctl.new) }
@@ -28,6 +28,9 @@ fn left_by_refusal<C: Controller>(ctl: &mut C, id: u8, code: Code) -> Option<Lef
     ensures counts { IsHonest (C.seen ctl.old) → AreCounted 0 [] (C.seen ctl.old) (C.seen ctl.new) }
     ensures left { MatchOption result (code ≡ not_present) (λ left.
         LacksInventory id left × (code ≢ not_present) × (unread_in left ≡ Some (Unread.Refused code))) }
+    ensures why { IfSome result (IsLeftByRefusal code (C.seen ctl.new).last_failure) }
+    ensures again { IsHonest (C.seen ctl.old) → LastFruCallSays (FruEnded.Refused code) (C.seen ctl.old) →
+        IfSome result (IsRefusedAgain (C.seen ctl.old) (C.seen ctl.new)) }
 {
     if code == Code::NOT_PRESENT {
         return None;
@@ -46,6 +49,8 @@ fn left_by<C: Controller>(ctl: &mut C, id: u8, ended: FruEnded) -> Result<Option
     ensures counts { IsHonest (C.seen ctl.old) → AreCounted 0 [] (C.seen ctl.old) (C.seen ctl.new) }
     ensures left { IfOk result (λ o. MatchOption o (ended ≡ FruEnded.Refused not_present)
         (λ left. LacksInventory id left × IsNotPlain ended × (unread_in left ≡ unread_in (Left.Inventory id ended)))) }
+    ensures again { IsHonest (C.seen ctl.old) → LastFruCallSays ended (C.seen ctl.old) →
+        IfOk result (λ o. IfSome o (IsRefusedAgain (C.seen ctl.old) (C.seen ctl.new))) }
 {
     match ended {
         FruEnded::Memory => Err(AllocError),

@@ -1,10 +1,12 @@
-//! A law of captures, the contract of a function that does nothing.
-ghost use Rattle.ipmi_capture.specs.Laws.{CapturesPrintTheSame};
+//! Laws of captures, the contract of a function that does nothing.
+ghost use Rattle.ipmi_capture.specs.Laws.{CapturesPrintTheSame, CapturesPrintWhatTheyHave};
 
-/// Over a capture each command has the plan that it has over the controller's store, and what it prints has the same texts, but
-/// for ids that no walk gives and devices that no record names.
+/// A command has the same plan and texts over a capture as over the controller's store, if it asks only for ids on walks and
+/// for devices that records name. The capture may lack what the command does not ask for: `sel list` and `sdr list fru` need
+/// no readings, and `fru print 1` needs no other inventory.
 pub fn captures_print_the_same()
-    ensures { CapturesPrintTheSame }
+    ensures all { CapturesPrintTheSame }
+    ensures part { CapturesPrintWhatTheyHave }
 {
     ipmi_bus::laws::one_walk_has_an_end();
     ipmi_bus::laws::what_is_found_is_a_row();

@@ -48,14 +48,14 @@ impl Unread {
 /// What of a controller is not in its image, and why. It is displayed as one line, without a line feed.
 #[derive(Clone, Copy, Debug, PartialEq, Eq)]
 pub enum Left {
-    /// The records of the shelf after those that came. At a cycle, or at a record that is missing, there are no others: it is only
-    /// said.
+    /// The records of the shelf after those that came. A cycle or a missing record leaves none out: it is only
+    /// noted.
     Records(Shelf, Ended),
     /// The info of the shelf.
     Info(Shelf, Unread),
     /// The reading of the sensor with this number at this LUN.
     Reading { lun: u8, number: u8, unread: Unread },
-    /// The inventory of the FRU device with this id: the controller refuses to say how long it is.
+    /// The inventory of the FRU device with this id: the controller refused it with this code, and then to say how long it is.
     Size(u8, Code),
     /// The inventory of the FRU device with this id: it has no bytes, and an image has no empty inventory.
     Empty(u8),

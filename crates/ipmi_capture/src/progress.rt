@@ -2,9 +2,9 @@
 
 use ipmi_bus::Shelf;
 
-/// Is told of each thing as it comes, so that it can count. What it does with that is its own.
+/// Receives each item as it comes, for example to count it.
 pub trait Progress {
-    /// A record of the shelf came, also one that came before, where the shelf is read again.
+    /// A record of the shelf came; if the shelf is read again, also one that came before.
     fn record(&mut self, shelf: Shelf);
 
     /// The reading of a sensor came.

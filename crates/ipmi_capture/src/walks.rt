@@ -47,8 +47,8 @@ fn walk_shelf<C: Controller, P: Progress>(
     }
 }
 
-/// Puts the records of the shelf into the image. Where a record is not there that another one names as its next, as the
-/// shelf may have changed meanwhile, it begins again, three times.
+/// Puts the records of the shelf into the image. If a next id has no record, the shelf may have
+/// changed: it starts again, up to three times.
 pub(crate) fn capture_shelf<C: Controller, P: Progress>(
     asking: Asking,
     ctl: &mut C,

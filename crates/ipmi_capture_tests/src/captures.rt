@@ -140,10 +140,18 @@ fn assert_capture_in_moods(
     drop(ctl);
 }
 
-/// Asserts the capture of a plain controller over the image of this text.
-fn assert_plain_capture(rt: &impl Abort, alloc: Global, text: &str, wanted: &str, left: &str) {
+/// Asserts the capture of a plain controller over the image of this text, and how many records are told.
+fn assert_plain_capture(
+    rt: &impl Abort,
+    alloc: Global,
+    text: &str,
+    wanted: &str,
+    left: &str,
+    records: u32,
+) {
     let mut ctl = ImageController::new(image(rt, alloc, text));
-    assert_capture(rt, alloc, &mut ctl, 254, 3, wanted, left);
+    let came = assert_capture(rt, alloc, &mut ctl, 254, 3, wanted, left);
+    assert!(rt; came.records == records, "got {}", came.records);
     drop(ctl);
 }
 
@@ -271,8 +279,21 @@ fn a_chain_that_breaks_off_is_not_whole_and_one_that_turns_is(rt: HostRuntime) {
         LOST,
         LOST,
         "sdr: record 0007h not present\nnot whole\n",
+        // four times
+        4,
     );
-    assert_plain_capture(&rt, alloc, TURNED, TURNED, "sdr: cycle at 0005h\n");
+    assert_plain_capture(&rt, alloc, TURNED, TURNED, "sdr: cycle at 0005h\n", 2);
+}
+
+#[test]
+fn a_shelf_is_begun_again_where_a_record_is_gone(rt: HostRuntime) {
+    let alloc = rt.alloc();
+    // a reservation, a record, one that is not there, and a reservation
+    let moods = moods(&rt, alloc, 3, "change");
+    let mut ctl = Scripted::new(image(&rt, alloc, LOST), moods);
+    let came = assert_capture(&rt, alloc, &mut ctl, 254, 3, WITHOUT_READING, "");
+    assert!(&rt; came.records == 4, "got {}", came.records);
+    drop(ctl);
 }
 
 #[test]
@@ -300,7 +321,7 @@ fn assert_line(rt: &impl Abort, alloc: Global, left: Left, wanted: &str) {
 }
 
 #[test]
-fn each_thing_has_its_line(rt: HostRuntime) {
+fn each_end_of_a_shelf_has_its_line(rt: HostRuntime) {
     let (alloc, code) = (rt.alloc(), Code(0xD4));
     let sdr = |ended| Left::Records(Shelf::Sdr, ended);
     assert_line(&rt, alloc, sdr(Ended::Cycle(0)), "sdr: cycle at 0000h");
@@ -329,6 +350,11 @@ fn each_thing_has_its_line(rt: HostRuntime) {
         sdr(Ended::Malformed(16)),
         "sdr: malformed record 0010h",
     );
+}
+
+#[test]
+fn each_value_and_inventory_left_out_has_its_line(rt: HostRuntime) {
+    let (alloc, code) = (rt.alloc(), Code(0xD4));
     let left = Left::Info(Shelf::Sel, Unread::Refused(Code(7)));
     assert_line(&rt, alloc, left, "info sel: refused with code 07h");
     let left = Left::Info(Shelf::Sdr, Unread::GaveUp);

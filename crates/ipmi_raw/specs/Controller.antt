@@ -45,7 +45,7 @@ abbrev pub Exchanged : {P K : Type 0} → Exchanges P → Tool → Request → R
 Exchanged brings tool request old new came =
     brings old.peer new.peer (lun_of request) (request_text tool request) came new.text.items
 
--- no reply came, or a text of no reply to the request that has data of the right length, if any
+-- no reply came, or what came is the text of no reply to the request whose data, if it has any, has the right length
 abbrev pub IsUnheard : Tool → Request → Result (Unit {0}) Lost → List ℕ → Type 0
 IsUnheard tool request (Err lost) text = ⊤
 IsUnheard tool request (Ok done) text =

@@ -1,5 +1,5 @@
 //! A management controller behind a peer.
-ghost use Rattle.std.specs.Prelude.{Result, Ok, ◌≡◌, ◌+◌, ◌<◌, ◌≤◌, IfSome, MatchOption, IfOk, OnErr, false, length, take, drop, option_map};
+ghost use Rattle.std.specs.Prelude.{None, Result, Ok, ◌≡◌, ◌+◌, ◌<◌, ◌≤◌, IfSome, MatchOption, IfOk, OnErr, false, length, take, drop, option_map};
 ghost use Rattle.ipmi_bus.specs.Counts.{Counts};
 ghost use Rattle.ipmi_bus.specs.Shelf.{id_in};
 ghost use Rattle.ipmi_bus.specs.Prelude.{IsCall, failing_code, IsHonest, info_of, reading_of, ReserveAnswers, PartAnswers, ValueAnswers, SizeAnswers, BytesAnswers, part_asked, counts_after, zero_counts};
@@ -47,6 +47,7 @@ impl<P: Peer, K: Clock> RawController<P, K> {
     /// The controller behind the peer.
     pub fn new(peer: P, clock: K, pause: Duration) -> RawController<P, K>
         ensures seen { seen_of P.seen result ≡ seen_through (P.seen peer) zero_counts false }
+        ensures lost { last_words result ≡ None }
         ensures clock { result.clock ≡ clock }
         ensures pause { result.pause ≡ pause }
     {
