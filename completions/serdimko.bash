@@ -3,7 +3,7 @@
 # It calls no function of the package bash-completion, so that a shell may also read it by itself.
 
 _serdimko() {
-  local options='--image --live --from --part --tries --id --strict --output --quiet --help --version -h -V'
+  local options='--image --live --from --part --tries --id --strict --json --label --output --quiet --help --version -h -V'
   local cur=${COMP_WORDS[COMP_CWORD]} word value= plain= line= next=
 
   # What comes before the word: the option whose value it is, whether -- came, and the words without options.
@@ -14,10 +14,10 @@ _serdimko() {
     elif [[ ! $plain && $word == -- ]]; then
       plain=yes
     elif [[ ! $plain && $word == -?* ]]; then
-      # An option comes at most once, but --image.
+      # An option comes at most once, but --image and --label.
       options=" $options "
-      [[ $word == --image* ]] || options=${options/ "${word%%=*}" / }
-      case $word in --image | --live | --output | --from | --part | --tries | --id) value=$word ;; esac
+      [[ $word == --image* || $word == --label* ]] || options=${options/ "${word%%=*}" / }
+      case $word in --image | --live | --output | --from | --part | --tries | --id | --label) value=$word ;; esac
     else
       line+="${line:+ }$word"
     fi

@@ -5,7 +5,7 @@ use Rattle.std.proofs.lemmas.List.{append-nil, append_assoc, drop_all}
 use Rattle.ipmi_command_line.specs.Command.{CommandState, meaning_of}
 use Rattle.ipmi_command_line.specs.declared.command.UsageFault.{UsageFault}
 use Rattle.std.proofs.lemmas.List.Elements.{All-cons, All-map, All-nil}
-use Rattle.serdimko.specs.Asked.{commands_of_lines, line_of, lines_asked, lines_of_names, with_command}
+use Rattle.serdimko.specs.Asked.{commands_of_lines, line_of, lines_asked, with_command}
 use Rattle.serdimko.specs.declared.asked.Kind.{Kind}
 
 abbrev HasWords : List (List ℕ) → Type 0

@@ -1,4 +1,6 @@
 pub mod AskedLemmas
+pub mod CapturedLemmas
+pub mod ObjectLemmas
 pub mod OwnLemmas
 pub mod ProblemLemmas
 pub mod RunLemmas

@@ -1,8 +1,7 @@
 -- The commands that this program has beside the specified ones, and the specified command lines that they stand for.
-use Rattle.std.specs.Prelude.{ℕ, ◌&&◌, Result, Ok, Err, List, [], ◌∷◌, ◌++◌, codes, drop, map, if◌then◌else◌, bytes_eq}
+use Rattle.std.specs.Prelude.{ℕ, Bool, true, false, ◌&&◌, Result, Ok, Err, List, [], ◌∷◌, ◌++◌, codes, drop, map, if◌then◌else◌, bytes_eq}
 use Rattle.ipmi_command_line.specs.Command.{CommandState, meaning_of}
 use Rattle.ipmi_command_line.specs.declared.command.UsageFault.{UsageFault}
-use Rattle.ipmi_commands.specs.declared.job.Wording.{Wording}
 use Rattle.serdimko.specs.declared.asked.Kind.{Kind}
 
 -- ---- which words they are
@@ -50,10 +49,10 @@ lines_asked Kind.Names line options words = lines_of_names options (drop 2 words
 lines_asked Kind.Devices line options words = line_of options (codes "fru") (codes "print") [] ∷ []
 lines_asked Kind.Others line options words = line ∷ []
 
--- the wording in which they print
-abbrev pub wording_asked : Kind → Wording
-wording_asked Kind.Others = Wording.Codes
-wording_asked _ = Wording.Words
+-- whether they print in words, and not in codes
+abbrev pub is_in_words : Kind → Bool
+is_in_words Kind.Others = false
+is_in_words _ = true
 
 -- ---- their commands
 

@@ -1,4 +1,4 @@
--- Which rule input breaks that is no image, given what it looks like at its beginning, its end, or the line that is at fault.
+-- Which rule an invalid image breaks, by how its beginning, its end or its faulty line looks.
 use Rattle.std.specs.Prelude.{ℕ, List, [], codes}
 use Rattle.ipmi_image.specs.declared.image.ImageFault.{ImageFault}
 use Rattle.serdimko.specs.declared.looks.Looks.{Looks}
@@ -14,7 +14,7 @@ header_words Looks.Cr = codes " (line ends are CR: use LF alone)"
 header_words _ =
     codes " (the first line has to be exactly 'ipmi-image 1' or 'ipmi-image 2', ended by a line feed)"
 
--- the rule that a line breaks which is none
+-- the rule that an invalid line breaks
 abbrev pub line_words : Looks → List ℕ
 line_words Looks.CrLf = codes " (it ends with CR LF: use LF alone)"
 line_words Looks.Dash = codes " (NEXT is a dash: the first line has to be 'ipmi-image 2')"

@@ -1,5 +1,5 @@
 -- The options of this program, and the words that are left for the specified command line.
-use Rattle.std.specs.Prelude.{◌≡◌, Bool, true, false, ◌&&◌, nat_lt, ℕ, Option, Some, None, List, [], ◌∷◌, ◌++◌, codes, length, take, drop, fold, if◌then◌else◌, bytes_eq}
+use Rattle.std.specs.Prelude.{◌≡◌, Bool, true, false, ◌&&◌, nat_lt, ℕ, Option, Some, None, is_some, List, [], ◌∷◌, ◌++◌, codes, length, take, drop, fold, if◌then◌else◌, bytes_eq}
 use Rattle.serdimko.specs.declared.own.Kind.{Kind}
 use Rattle.serdimko.specs.declared.own.Next.{Next}
 use Rattle.serdimko.specs.declared.own.Own.{Own}
@@ -19,23 +19,26 @@ kind_of word =
     else (if bytes_eq word (codes "--live") then Kind.Valued Valued.Live
     else (if bytes_eq word (codes "-o") then Kind.Valued Valued.Output
     else (if bytes_eq word (codes "--output") then Kind.Valued Valued.Output
+    else (if bytes_eq word (codes "--label") then Kind.Valued Valued.Label
     else (if bytes_eq word (codes "--quiet") then Kind.Quiet
+    else (if bytes_eq word (codes "--json") then Kind.Json
     else (if bytes_eq word (codes "--image") then Kind.Image
     else (if bytes_eq word (codes "--from") then Kind.Specified
     else (if bytes_eq word (codes "--part") then Kind.Specified
     else (if bytes_eq word (codes "--tries") then Kind.Specified
     else (if bytes_eq word (codes "--") then Kind.Dashes
-    else Kind.Other))))))))))))))
+    else Kind.Other))))))))))))))))
 
 -- it can't be a value: it begins with a dash, and is more than that
 abbrev pub is_option : List ℕ → Bool
 is_option word = nat_lt 1 (length word) && bytes_eq (take 1 word) (codes "-")
 
--- an option of this program that has one value
+-- an option of this program that has a value
 abbrev pub name_of : Valued → List ℕ
 name_of Valued.Id = codes "--id"
 name_of Valued.Live = codes "--live"
 name_of Valued.Output = codes "--output"
+name_of Valued.Label = codes "--label"
 
 -- ---- what was found so far
 
@@ -46,9 +49,11 @@ nothing = record {
   version = false;
   strict = false;
   quiet = false;
+  json = false;
   id = None;
   live = None;
   output = None;
+  labels = [];
   images = [];
   rest = [];
   has_own = false;
@@ -65,22 +70,26 @@ abbrev pub add_image : Own → List ℕ → Own
 add_image own file =
     record own { images = own.images ++ file ∷ []; has_own = true; next = Next.Any }
 
--- the value of an option, if it was found
-abbrev pub value_of : Valued → Own → Option (List ℕ)
-value_of Valued.Id own = own.id
-value_of Valued.Live own = own.live
-value_of Valued.Output own = own.output
+-- the option may have no further value: only `--label` may come several times
+abbrev pub is_given : Valued → Own → Bool
+is_given Valued.Id own = is_some own.id
+is_given Valued.Live own = is_some own.live
+is_given Valued.Output own = is_some own.output
+is_given Valued.Label own = false
 
 abbrev pub with_value : Valued → Own → List ℕ → Own
 with_value Valued.Id own value = record own { id = Some value; has_own = true; next = Next.Any }
 with_value Valued.Live own value = record own { live = Some value; has_own = true; next = Next.Any }
 with_value Valued.Output own value = record own { output = Some value; has_own = true; next = Next.Any }
+with_value Valued.Label own value =
+    record own { labels = own.labels ++ value ∷ []; has_own = true; next = Next.Any }
 
--- a value; a second one is left with its option, and is refused there
-abbrev pub add_value : Option (List ℕ) → Valued → Own → List ℕ → Own
-add_value None valued own value = with_value valued own value
-add_value (Some first) valued own value =
-    record (leave (leave own (name_of valued) Next.Any) value Next.Any) { has_own = true }
+-- a value; a repeated option stays in `rest` and is refused later
+abbrev pub add_value : Valued → Own → List ℕ → Own
+add_value valued own value =
+    if is_given valued own
+    then record (leave (leave own (name_of valued) Next.Any) value Next.Any) { has_own = true }
+    else with_value valued own value
 
 -- the first `--image` is left, with its value; the value of each further one is an image
 abbrev pub after_image : Bool → Own → List ℕ → Own
@@ -95,16 +104,18 @@ after_image_value true own word = add_image own (drop 8 word)
 abbrev pub after_other : Own → List ℕ → Own
 after_other own word =
     if bytes_eq (take 8 word) (codes "--image=") then after_image_value own.has_image own word
-    else (if bytes_eq (take 5 word) (codes "--id=") then add_value own.id Valued.Id own (drop 5 word)
-    else (if bytes_eq (take 7 word) (codes "--live=") then add_value own.live Valued.Live own (drop 7 word)
-    else (if bytes_eq (take 9 word) (codes "--output=") then add_value own.output Valued.Output own (drop 9 word)
-    else leave own word Next.Any)))
+    else (if bytes_eq (take 5 word) (codes "--id=") then add_value Valued.Id own (drop 5 word)
+    else (if bytes_eq (take 7 word) (codes "--live=") then add_value Valued.Live own (drop 7 word)
+    else (if bytes_eq (take 9 word) (codes "--output=") then add_value Valued.Output own (drop 9 word)
+    else (if bytes_eq (take 8 word) (codes "--label=") then add_value Valued.Label own (drop 8 word)
+    else leave own word Next.Any))))
 
 abbrev pub after_kind : Kind → Own → List ℕ → Own
 after_kind Kind.Help own word = record own { help = true; has_own = true }
 after_kind Kind.Version own word = record own { version = true; has_own = true }
 after_kind Kind.Strict own word = record own { strict = true; has_own = true }
 after_kind Kind.Quiet own word = record own { quiet = true; has_own = true }
+after_kind Kind.Json own word = record own { json = true; has_own = true }
 after_kind (Kind.Valued valued) own word = record own { has_own = true; next = Next.Own valued }
 after_kind Kind.Image own word = after_image own.has_image own word
 after_kind Kind.Specified own word = leave own word Next.Value
@@ -125,7 +136,7 @@ after_as Next.Value own word = leave own word Next.Any
 after_as Next.Image own word =
     after_value (is_option word) own (codes "--image") word (add_image own word)
 after_as (Next.Own valued) own word =
-    after_value (is_option word) own (name_of valued) word (add_value (value_of valued own) valued own word)
+    after_value (is_option word) own (name_of valued) word (add_value valued own word)
 after_as Next.Words own word = leave own word Next.Words
 
 abbrev pub after : Own → List ℕ → Own
@@ -150,8 +161,12 @@ at_end Next.Value own = own
 at_end Next.Image own = record (leave own (codes "--image") Next.Any) { has_own = true }
 at_end (Next.Own valued) own = record (leave own (name_of valued) Next.Any) { has_own = true }
 
+-- what the words have, before it is known that there are no more
+abbrev pub found_in : List (List ℕ) → Own
+found_in words = fold after nothing words
+
 abbrev pub own_of : List (List ℕ) → Own
-own_of words = let own = fold after nothing words in at_end own.next own
+own_of words = let own = found_in words in at_end own.next own
 
 -- ---- words without an option of this program
 
@@ -163,6 +178,31 @@ pub record IsPlain (own : Own) (words : List (List ℕ)) : Type 0 where
   pub version : own.version ≡ false
   pub strict : own.strict ≡ false
   pub quiet : own.quiet ≡ false
+  pub json : own.json ≡ false
+  pub labels : own.labels ≡ []
   pub id : own.id ≡ None
   pub live : own.live ≡ None
   pub output : own.output ≡ None
+
+-- ---- an option of this program that has no value, wherever it stands
+
+abbrev pub is_flag : Kind → Bool
+is_flag Kind.Help = true
+is_flag Kind.Version = true
+is_flag Kind.Strict = true
+is_flag Kind.Quiet = true
+is_flag Kind.Json = true
+is_flag kind = false
+
+-- where the next word may be an option: it is no value, and does not come after `--`
+abbrev pub MayBeOption : List (List ℕ) → Type 0
+MayBeOption before = (found_in before).next ≡ Next.Any
+
+-- what the words have is what they have without it, and it
+abbrev pub IsTakenOut : List (List ℕ) → List ℕ → List (List ℕ) → Type 0
+IsTakenOut before flag later =
+    own_of (before ++ flag ∷ later) ≡ after_kind (kind_of flag) (own_of (before ++ later)) flag
+
+abbrev pub FlagsAreTakenOut : Type 0
+FlagsAreTakenOut = (before : List (List ℕ)) (flag : List ℕ) (later : List (List ℕ))
+    → MayBeOption before → is_flag (kind_of flag) ≡ true → IsTakenOut before flag later

@@ -1,17 +1,21 @@
 -- Why nothing, or not all, was printed of an image: when, in which words, and with which status.
-use Rattle.std.specs.Prelude.{◌≡◌, ◌==◌, ◌⊎◌, ℕ, max, ◌∷◌, Bool, true, false, List, [], ◌++◌, codes, decimal, Option, Some, None, Result, Ok, Err, String, string_bytes, unwrap_or, Vec}
+use Rattle.std.specs.Prelude.{◌≡◌, ◌==◌, ◌⊎◌, not, ℕ, max, ◌∷◌, Bool, true, false, List, [], ◌++◌, codes, decimal, Option, Some, None, Result, Ok, Err, String, string_bytes, unwrap_or, Vec}
 use Rattle.std.specs.declared.alloc.Global.{Global}
+use Rattle.std.specs.Io.Buffered.{writer_buffer, writer_inner}
+use Rattle.std.specs.declared.io.buffered.BufWriter.{BufWriter}
+use Rattle.ipmi_bus.specs.Seen.{AsksAtMost, Seen}
 use Rattle.ipmi_bus.specs.declared.inventory_reader.FruEnded.{FruEnded}
 use Rattle.ipmi_bus.specs.declared.step.Ended.{Ended}
 use Rattle.ipmi_command_line.specs.Command.{CommandState}
 use Rattle.ipmi_image.specs.declared.image.ImageFault.{ImageFault}
 use Rattle.ipmi_output.specs.Failure.{Ending, escaped_name, failure_text, fault_line, fault_words, line_text, status_of_failure, write_faults}
+use Rattle.ipmi_output.specs.Writer.{writer_of}
 use Rattle.ipmi_output.specs.Received.{Received, ReceivesText}
 use Rattle.std.specs.declared.io.traits.Write.{Ghosts}
 use Rattle.ipmi_output.specs.declared.sink.Written.{Written}
 use Rattle.ipmi_output.specs.declared.failure.Failure.{Failure}
 use Rattle.ipmi_program.specs.Input.{input_fault_words}
-use Rattle.ipmi_commands.specs.Prelude.{AnswersJob, job_of_command_in}
+use Rattle.ipmi_commands.specs.Prelude.{AnswersJob, change, job_of_command_in, Runs}
 use Rattle.ipmi_commands.specs.declared.job.Wording.{Wording}
 use Rattle.ipmi_image.specs.Image.{store_of_image}
 use Rattle.ipmi_program.specs.Printing.{EndsBy, IsHandedOn}
@@ -19,6 +23,7 @@ use Rattle.ipmi_program.specs.declared.input.InputFault.{InputFault}
 use Rattle.serdimko.specs.Looks.{explanation}
 use Rattle.serdimko.specs.declared.looks.Looks.{Looks}
 use Rattle.serdimko.specs.declared.problem.Problem.{Problem}
+use Rattle.serdimko.specs.declared.watch.Watch.{Watch}
 
 -- ---- when
 
@@ -27,7 +32,8 @@ abbrev pub output_problem : Bool → Problem
 output_problem true = Problem.Closed
 output_problem false = Problem.Failed Failure.WriteFault
 
--- of a run: its ending, what its input looks like where it is no image, whether it printed faults that matter, and whether the output was closed
+-- of a run: its ending, what its input looks like where it is no image, whether it printed faults that matter, and whether the
+-- output was closed
 abbrev pub problem_of : Ending → Looks → Bool → Bool → Option Problem
 problem_of (Err Failure.WriteFault) looks faulty closed = Some (output_problem closed)
 problem_of (Err (Failure.Image ImageFault.Memory)) looks faulty closed =
@@ -42,8 +48,8 @@ abbrev pub unread : InputFault → Problem
 unread InputFault.Memory = Problem.Failed Failure.OutOfMemory
 unread fault = Problem.Unread fault
 
--- of a run over a controller to which the connection was lost, after which the tool said this, if it can be told: what was
--- refused then the controller did not refuse
+-- the problem of a run over a controller: a refusal after a lost connection is `Lost`, with the tool's last words if there is
+-- memory for them
 abbrev pub lost_problem : Option (String Global) → Option Problem → Option Problem
 lost_problem (Some said) (Some (Problem.Failed (Failure.Ended (Ended.Refused id code)))) = Some (Problem.Lost said)
 lost_problem (Some said) (Some (Problem.Failed (Failure.Inventory id (FruEnded.Refused code)))) = Some (Problem.Lost said)
@@ -101,33 +107,77 @@ faults_of_problem (Some (Problem.Failed failure)) = write_faults (Err failure)
 faults_of_problem (Some Problem.Closed) = 1
 faults_of_problem _ = 0
 
--- ---- one input
-
--- nothing is printed where it was not read; otherwise what `Leaves` tells of how the run ended
-abbrev pub Prints : {Image : Type 0} → (Image → Ending → Type 0) → Type 0 → Result Image InputFault
-    → Option Problem → Type 0
-Prints Leaves Idle (Err fault) problem = Idle × (problem ≡ Some (unread fault))
-Prints Leaves Idle (Ok image) problem =
-    (ending : Ending) × (looks : Looks) × (faulty : Bool) × (closed : Bool) × Leaves image ending
-    × (problem ≡ problem_of ending looks faulty closed)
+-- ---- the output
 
 -- what the sink of a writer took
 abbrev pub taken_of : {W : Type 0} {write : Ghosts W} → Written W write → List ℕ
 taken_of {write = write} out = unwrap_or (write.contents out.begun.value) [] ++ out.history.taken
 
--- what a command prints of it, where `taken` is what the output took and `held` what it still holds
-abbrev pub PrintsInput : {S : Type 0} → (S → List ℕ) → (S → List ℕ) → Wording → Result (Vec ℕ Global) InputFault
-    → CommandState → S → S → Option Problem → Type 0
-PrintsInput taken held wording input command old new problem =
-    Prints (λ image ending. EndsBy (λ done. AnswersJob (job_of_command_in wording command)
-    (store_of_image image.items) (taken old) (taken new) done) ending × IsHandedOn (held new) ending)
-    (new ≡ old) input problem
+-- what its buffer still holds
+abbrev pub held_by : {W : Type 0} {write : Ghosts (BufWriter (Watch W) Global)}
+    → Written (BufWriter (Watch W) Global) write → List ℕ
+held_by out = writer_buffer (writer_of out)
 
--- what `Leaves` tells of how the run over a controller ended; what a tool said is told only where the connection was lost
-abbrev pub PrintsLive : (Ending → Type 0) → Option (List ℕ) → Option Problem → Type 0
-PrintsLive Leaves lost problem =
-    (ending : Ending) × (faulty : Bool) × (closed : Bool) × (said : Option (String Global)) × Leaves ending
-    × (lost ≡ None → said ≡ None) × (problem ≡ lost_problem said (problem_of ending Looks.Unknown faulty closed))
+-- how many lines its watch counted, how many with faults, and whether it noted that the output was closed
+abbrev pub lines_seen : {W : Type 0} {write : Ghosts (BufWriter (Watch W) Global)}
+    → Written (BufWriter (Watch W) Global) write → ℕ
+lines_seen out = (writer_inner (writer_of out)).lines
+
+abbrev pub faults_seen : {W : Type 0} {write : Ghosts (BufWriter (Watch W) Global)}
+    → Written (BufWriter (Watch W) Global) write → ℕ
+faults_seen out = (writer_inner (writer_of out)).faults
+
+abbrev pub is_closed : {W : Type 0} {write : Ghosts (BufWriter (Watch W) Global)}
+    → Written (BufWriter (Watch W) Global) write → Bool
+is_closed out = (writer_inner (writer_of out)).is_closed
+
+-- meanwhile a line with a fault was counted
+abbrev pub is_faulty : {W : Type 0} {write : Ghosts (BufWriter (Watch W) Global)}
+    → Written (BufWriter (Watch W) Global) write → Written (BufWriter (Watch W) Global) write → Bool
+is_faulty old new = not (faults_seen new == faults_seen old)
+
+-- ---- one input
+
+-- nothing is printed where it was not read; otherwise what `Leaves` tells of how the run ended
+abbrev pub Prints : {Image : Type 0} → (Image → Ending → Type 0) → Type 0 → Bool → Bool → Result Image InputFault
+    → Option Problem → Type 0
+Prints Leaves Idle faulty closed (Err fault) problem = Idle × (problem ≡ Some (unread fault))
+Prints Leaves Idle faulty closed (Ok image) problem =
+    (ending : Ending) × (looks : Looks) × Leaves image ending × (problem ≡ problem_of ending looks faulty closed)
+
+-- what a command prints of it
+abbrev pub PrintsInput : {W : Type 0} {write : Ghosts (BufWriter (Watch W) Global)} → Wording
+    → Result (Vec ℕ Global) InputFault → CommandState → Written (BufWriter (Watch W) Global) write
+    → Written (BufWriter (Watch W) Global) write → Option Problem → Type 0
+PrintsInput wording input command old new problem =
+    Prints (λ image ending. EndsBy (λ done. AnswersJob (job_of_command_in wording command)
+    (store_of_image image.items) (taken_of old) (taken_of new) done) ending × IsHandedOn (held_by new) ending)
+    (new ≡ old) (is_faulty old new) (is_closed new) input problem
+
+-- ---- a live controller
+
+-- what contracts see of it, what the tool printed last if the connection to it is lost, and the output
+pub record LiveState (Out : Type 0) : Type 0 where
+  pub seen : Seen
+  pub lost : Option (List ℕ)
+  pub out : Out
+
+abbrev pub live_state : {Out : Type 0} → Seen → Option (List ℕ) → Out → LiveState Out
+live_state seen lost out = record { seen = seen; lost = lost; out = out }
+
+-- what a command prints of it: it asks for no part that is too long, and ends as the run did; what a tool said is told only
+-- where the connection was lost
+abbrev pub PrintsLive : {W : Type 0} {write : Ghosts (BufWriter (Watch W) Global)} → Wording → CommandState
+    → LiveState (Written (BufWriter (Watch W) Global) write) → LiveState (Written (BufWriter (Watch W) Global) write)
+    → Option Problem → Type 0
+PrintsLive wording command old new problem =
+    (ending : Ending) × (said : Option (String Global)) × AsksAtMost command.part old.seen new.seen
+    × EndsBy (λ done. Runs (job_of_command_in wording command) command.tries
+    (change old.seen new.seen (taken_of old.out) (taken_of new.out)) done) ending
+    × IsHandedOn (held_by new.out) ending × (new.lost ≡ None → said ≡ None)
+    × (problem ≡ lost_problem said (problem_of ending Looks.Unknown (is_faulty old.out new.out) (is_closed new.out)))
+
+-- ---- what is told
 
 -- the status is that of the problem, and its line is said, or nothing where there is none
 abbrev pub Tells : List ℕ → Bool → Option Problem → Received → Received → ℕ → Type 0
@@ -149,8 +199,8 @@ has_room (Some Problem.Closed) = false
 has_room (Some (Problem.Failed Failure.WriteFault)) = false
 has_room problem = true
 
--- Each command is run, as `Runs` says by the state before and after it, and its problem is told, as `Told` says, one after the
--- other, to the first problem that is not the command's own. The status is the highest.
+-- Each command runs (`Runs` relates the states before and after it), and its problem is reported (`Told`), up to the first
+-- problem that is not the command's own. The status is the highest.
 abbrev pub RunsEach : {S : Type 0} → (CommandState → S → S → Option Problem → Type 0)
     → (Option Problem → Received → Received → ℕ → Type 0) → List CommandState
     → S → S → Received → Received → ℕ × Bool → Type 0

@@ -2,11 +2,10 @@
 ghost use Rattle.std.specs.Prelude.{◌≡◌, ◌<◌, ◌++◌, ◌∷◌, ◌⊎◌, [], All, codes, drop, Err, IfOk, length, MatchResult, Ok, OnOk};
 ghost use Rattle.ipmi_command_line.specs.Command.{meaning_of};
 ghost use Rattle.ipmi_command_line.specs.declared.command.UsageFault.{UsageFault};
-ghost use Rattle.serdimko.specs.Asked.{commands_asked, commands_of_lines, kind_of_more, kind_of_one, kind_of_two, kind_of_words, line_of, lines_asked, lines_of_names, wording_asked};
+ghost use Rattle.serdimko.specs.Asked.{commands_asked, commands_of_lines, kind_of_more, kind_of_one, kind_of_two, kind_of_words, line_of, is_in_words, lines_asked, lines_of_names};
 
 use crate::scan::Scan;
 use ipmi_command_line::{Command, UsageFault, Word, Words, command_of};
-use ipmi_commands::Wording;
 use std::alloc::{AllocError, Global};
 
 /// Which words they are.
@@ -24,11 +23,11 @@ enum Kind {
     Others,
 }
 
-/// Specified command lines, and the wording in which each is to print.
+/// Specified command lines, and whether each is to print in words, if no objects are asked for.
 #[derive(Drop)]
 pub(crate) struct Asked {
     pub(crate) lines: Vec<Words>,
-    pub(crate) wording: Wording,
+    pub(crate) in_words: bool,
 }
 
 fn kind_of_one(a: &str) -> Kind
@@ -125,14 +124,14 @@ fn lines_of_names(alloc: Global, options: &Words, names: &[Word]) -> Result<Vec<
     Ok(lines)
 }
 
-/// One command line, in this wording.
-fn one_line(alloc: Global, line: Words, wording: Wording) -> Result<Asked, AllocError>
+/// One command line, in words or not.
+fn one_line(alloc: Global, line: Words, in_words: bool) -> Result<Asked, AllocError>
     ensures lines { IfOk result (λ asked. asked.lines.items ≡ line ∷ []) }
-    ensures wording { IfOk result (λ asked. asked.wording ≡ wording) }
+    ensures in_words { IfOk result (λ asked. asked.in_words ≡ in_words) }
 {
     let mut lines = Vec::new(alloc);
     lines.push(line)?;
-    Ok(Asked { lines, wording })
+    Ok(Asked { lines, in_words })
 }
 
 /// The specified command lines that are asked for. `line` is the whole one, without the options of this program; `options` are
@@ -145,40 +144,40 @@ pub(crate) fn asked_of(
 ) -> Result<Asked, AllocError>
     ensures lines { IfOk result (λ asked.
         asked.lines.items ≡ lines_asked (kind_of_words words.now) line.now options.now words.now) }
-    ensures wording { IfOk result (λ asked. asked.wording ≡ wording_asked (kind_of_words words.now)) }
+    ensures in_words { IfOk result (λ asked. asked.in_words ≡ is_in_words (kind_of_words words.now)) }
 {
     let words = words.as_slice();
     match kind_of_words(words) {
         Kind::Events => {
             let line = line_of(alloc, options, "sel", "list", after_two(words))?;
-            one_line(alloc, line, Wording::Words)
+            one_line(alloc, line, true)
         }
         Kind::Sensors => {
             let line = line_of(alloc, options, "sdr", "list", &[])?;
-            one_line(alloc, line, Wording::Words)
+            one_line(alloc, line, true)
         }
         Kind::Names => {
             let lines = lines_of_names(alloc, options, after_two(words))?;
-            let wording = Wording::Words;
-            Ok(Asked { lines, wording })
+            let in_words = true;
+            Ok(Asked { lines, in_words })
         }
         Kind::Devices => {
             let line = line_of(alloc, options, "fru", "print", &[])?;
-            one_line(alloc, line, Wording::Words)
+            one_line(alloc, line, true)
         }
         Kind::Others => {
             let mut copy = Words::new(alloc);
             push_all(&mut copy, line.as_slice())?;
-            one_line(alloc, copy, Wording::Codes)
+            one_line(alloc, copy, false)
         }
     }
 }
 
-/// Commands that are run one after another, each in this wording.
+/// Commands that are run one after another, each in words or not, if no objects are asked for.
 #[derive(Drop)]
 pub(crate) struct Commands {
     pub(crate) all: Vec<Command>,
-    pub(crate) wording: Wording,
+    pub(crate) in_words: bool,
 }
 
 /// The commands of the lines; the fault of the first one that is none. `Memory` may come in place of either.
@@ -195,7 +194,8 @@ fn commands_of_lines(alloc: Global, lines: &[Words]) -> Result<Vec<Command>, Usa
     Ok(commands)
 }
 
-/// The commands that the line asks for, of which the options of this program were taken out. `Memory` may come in place of either.
+/// The commands that the line asks for, of which the options of this program were taken out. `Memory` may come in place of
+/// either.
 #[tactic(auto, using(crate::proofs::AskedLemmas::lines_have_words))]
 pub(crate) fn commands_of(
     alloc: Global,
@@ -205,15 +205,15 @@ pub(crate) fn commands_of(
     requires { 0 < length line.now }
     ensures all { MatchResult result (λ commands. commands_asked line.now scanned.now.options scanned.now.plain ≡ Ok commands.all.items)
         (λ e. (e ≡ UsageFault.Memory) ⊎ (commands_asked line.now scanned.now.options scanned.now.plain ≡ Err e)) }
-    ensures wording { IfOk result (λ commands. commands.wording ≡ wording_asked (kind_of_words scanned.now.plain)) }
+    ensures in_words { IfOk result (λ commands. commands.in_words ≡ is_in_words (kind_of_words scanned.now.plain)) }
 {
     let asked = asked_of(alloc, line, &scanned.options, &scanned.plain)?;
     let all = commands_of_lines(alloc, asked.lines.as_slice())?;
-    let wording = asked.wording;
-    Ok(Commands { all, wording })
+    let in_words = asked.in_words;
+    Ok(Commands { all, in_words })
 }
 
-/// The command that has nothing but the options, as `capture` takes them.
+/// The command with only the options, for `capture`.
 #[tactic(auto, using(crate::proofs::AskedLemmas::its_line_has_words))]
 pub(crate) fn command_of_options(alloc: Global, scanned: &Scan<'_>) -> Result<Command, UsageFault>
     ensures { MatchResult result

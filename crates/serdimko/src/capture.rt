@@ -1,4 +1,9 @@
 //! Saves what a live controller holds as an image.
+ghost use Rattle.std.specs.Prelude.{◌≡◌, IfOk, OnErr, option_map};
+ghost use Rattle.ipmi_image.specs.Rewritten.{image_text_of};
+ghost use Rattle.ipmi_raw.specs.Controller.{last_words, seen_of};
+ghost use Rattle.serdimko.specs.Captured.{Captures, printed_text, PrintsText, SavesText, status_of_image, WritesText};
+
 use crate::live::{Live, controller_of, lost_line};
 use crate::problem::CLOSED;
 use ipmi_bus::Shelf;
@@ -6,7 +11,7 @@ use ipmi_capture::{Captured, Left, Progress, capture};
 use ipmi_command_line::{Command, Word};
 use ipmi_image::image_text;
 use ipmi_output::Part::{Name, Text};
-use ipmi_output::{Failure, MessageSink, say_line};
+use ipmi_output::{Failure, MessageSink, say, say_line};
 use ipmi_raw::{Peer, RawController};
 use std::alloc::{AllocError, Global};
 use std::fs::{self, File, Files};
@@ -22,7 +27,7 @@ const UNWRITTEN: u8 = 4;
 /// The last line of an image.
 const END: &[u8] = b"end\n";
 
-/// Counts on a terminal what has come; nowhere where there is none.
+/// Shows counts on a terminal; shows nothing without one.
 #[derive(Drop)]
 pub(crate) struct Counter<W> {
     terminal: Option<W>,
@@ -88,7 +93,7 @@ fn say_left<E: MessageSink>(alloc: Global, left: &[Left], err: &mut E) -> Result
     Ok(())
 }
 
-/// Writes the file in one step: under another name first, which it then loses.
+/// Writes the file in one step: writes another file, then renames it.
 fn write_file<R: Files + AllocGlobal>(rt: &R, name: &str, text: &[u8]) -> io::Result<()> {
     let partial = format!(in rt.alloc(); "{name}.part")?;
     let mut file = File::create(rt, partial.as_str())?;
@@ -102,6 +107,63 @@ fn write_file<R: Files + AllocGlobal>(rt: &R, name: &str, text: &[u8]) -> io::Re
     written
 }
 
+/// What is printed of the text of an image. Without its last line it is no image.
+fn printed_text(text: &[u8], is_whole: bool) -> &[u8]
+    ensures { result.now ≡ printed_text is_whole text.now }
+{
+    if is_whole {
+        text
+    } else {
+        &text[..text.len().saturating_sub(END.len())]
+    }
+}
+
+/// The exit status where an image was saved.
+fn status_of_image(is_whole: bool) -> u8
+    ensures { result ≡ status_of_image is_whole }
+{
+    if is_whole { 0 } else { NOT_WHOLE }
+}
+
+/// Writes the text of an image, or what is printed of it, to the output, and gives the exit status.
+fn print_text<W: Write, E: MessageSink>(text: &[u8], is_whole: bool, out: &mut W, err: &mut E) -> u8
+    ensures { PrintsText is_whole text.now (W.contents out.old) (W.contents out.new) result }
+{
+    match out.write_all(printed_text(text, is_whole)) {
+        Ok(()) => status_of_image(is_whole),
+        Err(error) if error.kind() == ErrorKind::BrokenPipe => CLOSED,
+        Err(_) => {
+            // there is nowhere left to tell that this failed
+            let _ = say(err, &Failure::WriteFault);
+            UNWRITTEN
+        }
+    }
+}
+
+/// Writes the text of an image to a file, if it is whole, and gives the exit status.
+fn write_text<R: Files + AllocGlobal, E: MessageSink>(
+    rt: &R,
+    text: &[u8],
+    is_whole: bool,
+    name: &str,
+    err: &mut E,
+) -> u8
+    ensures { WritesText is_whole result }
+{
+    if !is_whole {
+        let _ = say_line(
+            err,
+            &[Name(name), Text(" is not written: the image is not whole")],
+        );
+        return NOT_WHOLE;
+    }
+    if write_file(rt, name, text).is_err() {
+        let _ = say_line(err, &[Text("cannot write "), Name(name)]);
+        return UNWRITTEN;
+    }
+    status_of_image(is_whole)
+}
+
 /// Writes the image, whole or what there is of it, and gives the exit status.
 fn write_captured<R: Files + AllocGlobal, W: Write, E: MessageSink>(
     rt: &R,
@@ -109,33 +171,16 @@ fn write_captured<R: Files + AllocGlobal, W: Write, E: MessageSink>(
     output: Option<&Word>,
     out: &mut W,
     err: &mut E,
-) -> Result<u8, AllocError> {
+) -> Result<u8, AllocError>
+    ensures saves { IfOk result (λ status. SavesText (option_map (λ word. word.now) output.entry) captured.now.is_whole
+        (image_text_of captured.now.image) (W.contents out.old) (W.contents out.new) status) }
+    ensures err { OnErr result (out.new ≡ out.old) }
+{
     let text = image_text(rt.alloc(), &captured.image)?;
-    let status = if captured.is_whole { 0 } else { NOT_WHOLE };
-    let Some(file) = output else {
-        // without its last line it is no image
-        let whole = text.as_slice();
-        let first = whole.strip_suffix(END).unwrap_or(whole);
-        let text = if captured.is_whole { whole } else { first };
-        return Ok(match out.write_all(text) {
-            Ok(()) => status,
-            Err(error) if error.kind() == ErrorKind::BrokenPipe => CLOSED,
-            Err(_) => ipmi_commands::report(Err(Failure::WriteFault), err),
-        });
-    };
-    let name = file.as_str();
-    if !captured.is_whole {
-        let _ = say_line(
-            err,
-            &[Name(name), Text(" is not written: the image is not whole")],
-        );
-        return Ok(status);
-    }
-    if write_file(rt, name, text.as_slice()).is_err() {
-        let _ = say_line(err, &[Text("cannot write "), Name(name)]);
-        return Ok(UNWRITTEN);
-    }
-    Ok(status)
+    Ok(match output {
+        None => print_text(text.as_slice(), captured.is_whole, out, err),
+        Some(file) => write_text(rt, text.as_slice(), captured.is_whole, file.as_str(), err),
+    })
 }
 
 /// Reads all that the controller holds, writes it as an image, says what is not in it, and gives the exit status.
@@ -154,7 +199,10 @@ fn capture_from<
     counter: &mut Counter<T>,
     out: &mut W,
     err: &mut E,
-) -> Result<u8, AllocError> {
+) -> Result<u8, AllocError>
+    ensures { IfOk result (Captures command.now.part (seen_of P.seen controller.old) (seen_of P.seen controller.new)
+        (last_words controller.new) (option_map (λ word. word.now) output.entry) (W.contents out.old) (W.contents out.new)) }
+{
     let (part, tries) = (command.part(), command.tries());
     let captured = capture(rt.alloc(), controller, part, tries, counter)?;
     counter.clear();

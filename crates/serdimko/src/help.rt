@@ -44,6 +44,8 @@ Options, anywhere, also after the command:
   --tries N       retries for one record or answer, 0 to 255 (default 5)
   --id HEX        the ID of sel get in hex, as sel list prints it
   --strict        status 1 if a fault or a missing device was printed
+  --json          an object in a line for each thing, and one at the end
+  --label KEY=VALUE  adds this text to each object; may come several times
   --output FILE   capture writes to this file (-o) if the image is whole
   --quiet         capture shows no progress
   -h, --help      print help

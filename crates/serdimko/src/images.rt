@@ -1,11 +1,13 @@
 //! Prints what a command asks for of each image, one after another.
-ghost use Rattle.std.specs.Prelude.{◌≡◌, ◌+◌, Some};
-ghost use Rattle.std.specs.Io.Buffered.{writer_buffer};
-ghost use Rattle.ipmi_output.specs.Writer.{writer_of};
-ghost use Rattle.serdimko.specs.Problem.{faults_of_problem, PrintsInput, RunsEach, taken_of, Tells};
+ghost use Rattle.std.specs.Prelude.{◌≡◌, ◌+◌, Some, if◌then◌else◌};
+ghost use Rattle.ipmi_commands.specs.declared.job.Wording.{Wording};
+ghost use Rattle.serdimko.specs.Objects.{PrintsRun};
+ghost use Rattle.serdimko.specs.Problem.{faults_of_problem, PrintsInput, RunsEach, Tells};
 
 use crate::asked::Commands;
+use crate::labels::labels_of;
 use crate::looks::Looks;
+use crate::objects::end_run;
 use crate::own::Own;
 use crate::problem::{CLOSED, Problem};
 use crate::watch::Watch;
@@ -25,7 +27,7 @@ pub(crate) fn file_of(image: Option<&Word>) -> Option<&Word> {
     image.filter(|file| file.as_str() != "-")
 }
 
-/// What the image looks like where it is none.
+/// How the input looks if it is no image.
 fn looks_of(image: &[u8], ending: &Result<(), Failure<'_>>) -> Looks {
     match ending {
         Err(Failure::Image(fault)) => Looks::of(image, *fault),
@@ -33,18 +35,17 @@ fn looks_of(image: &[u8], ending: &Result<(), Failure<'_>>) -> Looks {
     }
 }
 
-/// Prints what the command asks for of the input, and returns what kept it from being complete, if anything.
+/// Runs the command over the input. Returns the problem, if it did not print everything.
 fn print_input<'a, W: Write + Drop>(
     alloc: Global,
     command: &'a Command,
-    wording: Wording,
+    wording: Wording<'a>,
     input: &Result<Vec<u8>, InputFault>,
     out: &mut Output<W>,
 ) -> Option<Problem<'a>>
     ensures faults { ⟦<Written<BufWriter<Watch<W>>> as Sink>⟧.faults out.new ≡
         ⟦<Written<BufWriter<Watch<W>>> as Sink>⟧.faults out.old + faults_of_problem result }
-    ensures prints { PrintsInput taken_of (λ o. writer_buffer (writer_of o))
-        wording input.now command.now out.old out.new result }
+    ensures prints { PrintsInput wording.entry input.now command.now out.old out.new result }
 {
     let image = match input {
         Ok(image) => image,
@@ -57,6 +58,26 @@ fn print_input<'a, W: Write + Drop>(
     let is_closed = watch.is_closed();
     let looks = looks_of(image, &ending);
     Problem::of(ending, looks, has_faults, is_closed)
+}
+
+/// Runs the command over the input with this name, and prints the line that ends objects. Returns the problem, if not
+/// everything was printed.
+fn print_run<'a, W: Write + Drop>(
+    alloc: Global,
+    command: &'a Command,
+    wording: Wording<'a>,
+    input: &Result<Vec<u8>, InputFault>,
+    name: &str,
+    is_one: bool,
+    out: &mut Output<W>,
+) -> Option<Problem<'a>>
+    ensures faults { ⟦<Output<W> as Sink>⟧.faults out.new ≡
+        ⟦<Output<W> as Sink>⟧.faults out.old + faults_of_problem result }
+    ensures prints { PrintsRun wording.entry name.now is_one input.now command.now out.old out.new result }
+{
+    let before = out.get_ref().get_ref().lines();
+    let problem = print_input(alloc, command, wording, input, out);
+    end_run(alloc, wording, before, problem, name, is_one, out)
 }
 
 /// Says the problem, and gives the exit status. That the output was closed is not said.
@@ -95,24 +116,24 @@ fn print_name<W: Write + Drop>(out: &mut Output<W>, name: &str) -> Result<(), Si
     out.flush()
 }
 
-/// Prints what each of the commands asks for of the input with this name, and says what kept it from being complete. Returns the
-/// highest exit status, and whether more can be printed.
+/// Runs each command over the input with this name, in this wording, and says its problem. Returns the highest exit status, and
+/// whether more can be printed.
 fn print_each<W: Write + Drop, E: MessageSink>(
     alloc: Global,
-    commands: &Commands,
+    commands: &[Command],
+    wording: Wording<'_>,
     input: &Result<Vec<u8>, InputFault>,
     name: &str,
     is_one: bool,
     out: &mut Output<W>,
     err: &mut E,
 ) -> (u8, bool)
-    ensures { RunsEach (PrintsInput taken_of (λ o. writer_buffer (writer_of o))
-        commands.now.wording input.now) (Tells name.now is_one) commands.now.all.items
+    ensures { RunsEach (PrintsRun wording.entry name.now is_one input.now) (Tells name.now is_one) commands.now
         out.old out.new (E.received err.old) (E.received err.new) result }
 {
     let mut highest = 0;
-    for command in &commands.all {
-        let problem = print_input(alloc, command, commands.wording, input, out);
+    for command in commands {
+        let problem = print_run(alloc, command, wording, input, name, is_one, out);
         highest = highest.max(say_problem(&problem, name, is_one, err));
         if !Problem::goes_on(&problem) {
             return (highest, Problem::has_room(&problem));
@@ -121,51 +142,89 @@ fn print_each<W: Write + Drop, E: MessageSink>(
     (highest, true)
 }
 
-/// Prints what the commands ask for of one of several images, below its name.
-fn print_next<W: Write + Drop, E: MessageSink>(
+/// The wording of texts, in words or in codes.
+pub(crate) fn wording_of<'a>(in_words: bool) -> Wording<'a>
+    ensures { result ≡ (if in_words then Wording.Words else Wording.Codes) }
+{
+    if in_words {
+        Wording::Words
+    } else {
+        Wording::Codes
+    }
+}
+
+/// Prints what the commands ask for of an image as texts, below its name if it is one of several.
+fn print_texts<W: Write + Drop, E: MessageSink>(
     rt: &HostRuntime,
     commands: &Commands,
     file: Option<&Word>,
+    is_one: bool,
     out: &mut Output<W>,
     err: &mut E,
 ) -> (u8, bool) {
     let name = input_name(file);
-    match print_name(out, name) {
-        Ok(()) => {
-            let input = read_input(rt, file);
-            print_each(rt.alloc(), commands, &input, name, false, out, err)
-        }
-        Err(fault) => {
+    if !is_one {
+        if let Err(fault) = print_name(out, name) {
             let is_closed = out.get_ref().get_ref().is_closed();
             let problem = Problem::of(Err(Failure::from(fault)), Looks::Unknown, false, is_closed);
-            (say_problem(&problem, name, false, err), false)
+            return (say_problem(&problem, name, false, err), false);
         }
+    }
+    let input = read_input(rt, file);
+    let (all, wording) = (commands.all.as_slice(), wording_of(commands.in_words));
+    print_each(rt.alloc(), all, wording, &input, name, is_one, out, err)
+}
+
+/// Prints what the commands ask for of an image as objects, each with the image's name if it is one of several.
+fn print_objects<W: Write + Drop, E: MessageSink>(
+    rt: &HostRuntime,
+    commands: &Commands,
+    own: &Own,
+    file: Option<&Word>,
+    is_one: bool,
+    out: &mut Output<W>,
+    err: &mut E,
+) -> (u8, bool) {
+    let name = input_name(file);
+    let image = if is_one { None } else { Some(name) };
+    let Ok(labels) = labels_of(rt.alloc(), own, image) else {
+        let problem = Some(Problem::Failed(Failure::OutOfMemory));
+        return (say_problem(&problem, name, is_one, err), true);
+    };
+    let json = Wording::Json(labels.as_slice());
+    let input = read_input(rt, file);
+    print_each(
+        rt.alloc(),
+        commands.all.as_slice(),
+        json,
+        &input,
+        name,
+        is_one,
+        out,
+        err,
+    )
+}
+
+/// Prints what the commands ask for of an image.
+fn print_image<W: Write + Drop, E: MessageSink>(
+    rt: &HostRuntime,
+    commands: &Commands,
+    own: &Own,
+    image: Option<&Word>,
+    is_one: bool,
+    out: &mut Output<W>,
+    err: &mut E,
+) -> (u8, bool) {
+    let file = file_of(image);
+    if own.json {
+        print_objects(rt, commands, own, file, is_one, out, err)
+    } else {
+        print_texts(rt, commands, file, is_one, out, err)
     }
 }
 
 /// Prints what the commands ask for of this image and of the others after it, and gives the highest exit status. After a write
 /// fault nothing more is printed.
-fn print_all<W: Write + Drop, E: MessageSink>(
-    rt: &HostRuntime,
-    commands: &Commands,
-    file: Option<&Word>,
-    own: &Own,
-    out: &mut Output<W>,
-    err: &mut E,
-) -> u8 {
-    let (mut highest, mut has_room) = print_next(rt, commands, file, out, err);
-    for image in own.images.as_slice() {
-        if !has_room {
-            break;
-        }
-        let (status, still_has_room) = print_next(rt, commands, file_of(Some(image)), out, err);
-        highest = highest.max(status);
-        has_room = still_has_room;
-    }
-    highest
-}
-
-/// Prints what the commands ask for of the image, or of each of several, and gives the exit status.
 pub(crate) fn print_images<W: Write + Drop, E: MessageSink>(
     rt: &HostRuntime,
     commands: &Commands,
@@ -174,19 +233,24 @@ pub(crate) fn print_images<W: Write + Drop, E: MessageSink>(
     out: &mut Output<W>,
     err: &mut E,
 ) -> u8 {
-    let file = file_of(image);
-    if !own.images.as_slice().is_empty() {
-        return print_all(rt, commands, file, own, out, err);
+    let more = own.images.as_slice();
+    let is_one = more.is_empty();
+    let (mut highest, mut has_room) = print_image(rt, commands, own, image, is_one, out, err);
+    for image in more {
+        if !has_room {
+            break;
+        }
+        let (status, still_has_room) = print_image(
+            rt,
+            commands,
+            own,
+            Some(image),
+            is_one,
+            out,
+            err,
+        );
+        highest = highest.max(status);
+        has_room = still_has_room;
     }
-    let input = read_input(rt, file);
-    let (status, _) = print_each(
-        rt.alloc(),
-        commands,
-        &input,
-        input_name(file),
-        true,
-        out,
-        err,
-    );
-    status
+    highest
 }

@@ -1,20 +1,20 @@
 //! Runs a command over a live controller, with which a stock tool holds a session: pipes in a folder lead to the tool.
-ghost use Rattle.std.specs.Prelude.{◌≡◌, ◌+◌};
-ghost use Rattle.std.specs.Io.Buffered.{writer_buffer};
-ghost use Rattle.ipmi_bus.specs.Seen.{AsksAtMost};
-ghost use Rattle.ipmi_commands.specs.Prelude.{change, job_of_command_in, Runs};
-ghost use Rattle.ipmi_output.specs.Writer.{writer_of};
-ghost use Rattle.ipmi_program.specs.Printing.{EndsBy, IsHandedOn};
+ghost use Rattle.std.specs.Prelude.{◌≡◌, ◌+◌, ℕ, Bool, codes, List, None, Option, true};
+ghost use Rattle.ipmi_bus.specs.Seen.{Seen};
 ghost use Rattle.ipmi_raw.specs.Controller.{last_words, seen_of};
-ghost use Rattle.serdimko.specs.Problem.{faults_of_problem, PrintsLive};
+ghost use Rattle.serdimko.specs.Objects.{PrintsLiveRun};
+ghost use Rattle.serdimko.specs.Problem.{faults_of_problem, live_state, PrintsLive, RunsEach, Tells};
 
 use crate::asked::Commands;
-use crate::images::{Output, say_problem};
+use crate::images::{Output, say_problem, wording_of};
+use crate::labels::labels_of;
 use crate::looks::Looks;
+use crate::objects::end_run;
+use crate::own::Own;
 use crate::problem::Problem;
 use ipmi_command_line::Command;
-use ipmi_commands::Wording;
-use ipmi_output::{MessageSink, Sink};
+use ipmi_commands::{Wording, report};
+use ipmi_output::{Failure, MessageSink, Sink};
 use ipmi_program::print_live;
 use ipmi_raw::{Open, Peer, Piped, RawController, Tool};
 use std::alloc::{AllocError, Global};
@@ -22,13 +22,16 @@ use std::fs::{self, File, Files, OpenOptions};
 use std::io::{self, BufReader, Write};
 use std::time::{Clock, Duration};
 
-/// For how many milliseconds a call waits that the controller is too busy for, so that the next one is not made at once.
+/// How many milliseconds a call waits after a busy answer, so that the next call does not follow at once.
 const PAUSE: u64 = 500;
 
-/// The most bytes that are told of what a tool printed, and the most lines.
+/// The most bytes and lines of a tool's output in a message.
 const MOST_TOLD: usize = 200;
 
 const MOST_LINES: usize = 3;
+
+/// What messages call a live controller.
+const NAME: &str = "the controller";
 
 /// Where a live controller is.
 #[derive(Clone, Copy)]
@@ -99,23 +102,20 @@ pub(crate) fn lost_line(alloc: Global, text: &[u8]) -> Result<String, AllocError
     Ok(line)
 }
 
-/// Prints what the command asks for of the controller, and returns what kept it from being complete, if anything.
+/// Runs the command over the controller. Returns the problem, if it did not print everything.
 #[tactic(auto, using(crate::proofs::ProblemLemmas::live_faults))]
 fn print_over<'a, P: Peer + Drop, K: Clock + Drop, W: Write + Drop>(
     alloc: Global,
     command: &'a Command,
-    wording: Wording,
+    wording: Wording<'a>,
     controller: &mut RawController<P, K>,
     out: &mut Output<W>,
 ) -> Option<Problem<'a>>
     ensures faults { ⟦<Output<W> as Sink>⟧.faults out.new ≡
         ⟦<Output<W> as Sink>⟧.faults out.old + faults_of_problem result }
-    ensures asked { AsksAtMost command.now.part (seen_of P.seen controller.old) (seen_of P.seen controller.new) }
-    ensures prints { PrintsLive (λ ending. EndsBy (λ done. Runs (job_of_command_in wording command.now) command.now.tries
-        (change (seen_of P.seen controller.old) (seen_of P.seen controller.new)
-        (⟦<Output<W> as Sink>⟧.taken out.old) (⟦<Output<W> as Sink>⟧.taken out.new)) done) ending
-        × IsHandedOn (writer_buffer (writer_of out.new)) ending)
-        (last_words controller.new) result }
+    ensures prints { PrintsLive wording.entry command.now
+        (live_state (seen_of P.seen controller.old) (last_words controller.old) out.old)
+        (live_state (seen_of P.seen controller.new) (last_words controller.new) out.new) result }
 {
     let before = out.get_ref().get_ref().faults();
     let ending = print_live(alloc, controller, command, wording, out);
@@ -134,7 +134,9 @@ fn print_over<'a, P: Peer + Drop, K: Clock + Drop, W: Write + Drop>(
 pub(crate) fn controller_of<'a, R: Files + Clock + AllocGlobal>(
     rt: &'a R,
     live: Live<'a>,
-) -> RawController<Piped<Pipes<'a, R>>, &'a R> {
+) -> RawController<Piped<Pipes<'a, R>>, &'a R>
+    ensures { last_words result ≡ None }
+{
     let pipes = Pipes {
         rt,
         folder: live.folder,
@@ -143,20 +145,92 @@ pub(crate) fn controller_of<'a, R: Files + Clock + AllocGlobal>(
     RawController::new(Piped::new(live.tool, pipes), rt, pause)
 }
 
-/// Prints what the commands ask for of the live controller, and gives the highest exit status.
-pub(crate) fn print_live_controller<
-    R: Files + Clock + AllocGlobal,
-    W: Write + Drop,
-    E: MessageSink,
->(rt: &R, commands: &Commands, live: Live<'_>, out: &mut Output<W>, err: &mut E) -> u8 {
-    let mut controller = controller_of(rt, live);
+/// Runs the command over the controller, and prints the line that ends objects. Returns the problem, if not everything was
+/// printed.
+fn print_run_over<'a, P: Peer + Drop, K: Clock + Drop, W: Write + Drop>(
+    alloc: Global,
+    command: &'a Command,
+    wording: Wording<'a>,
+    controller: &mut RawController<P, K>,
+    out: &mut Output<W>,
+) -> Option<Problem<'a>>
+    ensures faults { ⟦<Output<W> as Sink>⟧.faults out.new ≡
+        ⟦<Output<W> as Sink>⟧.faults out.old + faults_of_problem result }
+    ensures prints { PrintsLiveRun wording.entry command.now
+        (live_state (seen_of P.seen controller.old) (last_words controller.old) out.old)
+        (live_state (seen_of P.seen controller.new) (last_words controller.new) out.new) result }
+{
+    let before = out.get_ref().get_ref().lines();
+    let problem = print_over(alloc, command, wording, controller, out);
+    end_run(alloc, wording, before, problem, NAME, true, out)
+}
+
+/// Runs each command over the controller, in this wording, says its problem, and returns the highest exit status.
+fn print_each_over<P: Peer + Drop, K: Clock + Drop, W: Write + Drop, E: MessageSink>(
+    alloc: Global,
+    commands: &[Command],
+    wording: Wording<'_>,
+    controller: &mut RawController<P, K>,
+    out: &mut Output<W>,
+    err: &mut E,
+) -> u8
+    ensures { (room : Bool) × RunsEach (PrintsLiveRun wording.entry) (Tells (codes "the controller") true) commands.now
+        (live_state (seen_of P.seen controller.old) (last_words controller.old) out.old)
+        (live_state (seen_of P.seen controller.new) (last_words controller.new) out.new)
+        (E.received err.old) (E.received err.new) (result, room) }
+{
     let mut highest = 0;
-    for command in &commands.all {
-        let problem = print_over(rt.alloc(), command, commands.wording, &mut controller, out);
-        highest = highest.max(say_problem(&problem, "the controller", true, err));
+    for command in commands {
+        let problem = print_run_over(alloc, command, wording, controller, out);
+        highest = highest.max(say_problem(&problem, NAME, true, err));
         if !Problem::goes_on(&problem) {
-            break;
+            return highest;
         }
     }
     highest
+}
+
+/// Prints what the commands ask for of the live controller, in this wording, and gives the highest exit status.
+fn print_live_controller<R: Files + Clock + AllocGlobal, W: Write + Drop, E: MessageSink>(
+    rt: &R,
+    commands: &[Command],
+    wording: Wording<'_>,
+    live: Live<'_>,
+    out: &mut Output<W>,
+    err: &mut E,
+) -> u8
+    ensures { (seen seen' : Seen) × (lost : Option (List ℕ)) × (room : Bool)
+        × RunsEach (PrintsLiveRun wording.entry) (Tells (codes "the controller") true) commands.now
+        (live_state seen None out.old) (live_state seen' lost out.new) (E.received err.old) (E.received err.new) (result, room) }
+{
+    let mut controller = controller_of(rt, live);
+    print_each_over(rt.alloc(), commands, wording, &mut controller, out, err)
+}
+
+/// Prints what the commands ask for of the live controller as texts, and gives the highest exit status.
+pub(crate) fn print_live_texts<R: Files + Clock + AllocGlobal, W: Write + Drop, E: MessageSink>(
+    rt: &R,
+    commands: &Commands,
+    live: Live<'_>,
+    out: &mut Output<W>,
+    err: &mut E,
+) -> u8 {
+    let wording = wording_of(commands.in_words);
+    print_live_controller(rt, commands.all.as_slice(), wording, live, out, err)
+}
+
+/// Prints what the commands ask for of the live controller as objects, and gives the highest exit status.
+pub(crate) fn print_live_objects<R: Files + Clock + AllocGlobal, W: Write + Drop, E: MessageSink>(
+    rt: &R,
+    commands: &Commands,
+    own: &Own,
+    live: Live<'_>,
+    out: &mut Output<W>,
+    err: &mut E,
+) -> u8 {
+    let Ok(labels) = labels_of(rt.alloc(), own, None) else {
+        return report(Err(Failure::OutOfMemory), err);
+    };
+    let json = Wording::Json(labels.as_slice());
+    print_live_controller(rt, commands.all.as_slice(), json, live, out, err)
 }

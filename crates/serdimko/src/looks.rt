@@ -132,7 +132,7 @@ impl Looks {
         }
     }
 
-    /// What a line that is none looks like.
+    /// What an invalid line looks like.
     fn of_line(line: &str, is_first_version: bool) -> Looks {
         if line.ends_with('\r') {
             return Looks::CrLf;
@@ -191,7 +191,7 @@ fn header_words(looks: Looks) -> &'static str
     }
 }
 
-/// The rule that a line breaks which is none.
+/// The rule that an invalid line breaks.
 fn line_words(looks: Looks) -> &'static str
     ensures { result.now ≡ line_words looks }
 {

@@ -1,5 +1,6 @@
-//! Lists what saved images of management controllers hold: `ipmitool`'s commands `fru`, `sdr` and `sel`, with help, and with
-//! messages that say what is wrong and where.
+//! Lists what management controllers hold, live ones or saved images of them: `ipmitool`'s commands `fru`, `sdr` and `sel`,
+//! with help, and with messages that say what is wrong and where. It also saves a live controller as an image, and rewrites
+//! images.
 #![tactic(auto)]
 
 ghost use Rattle.std.specs.Prelude.{◌<◌, length};
@@ -9,9 +10,11 @@ mod capture;
 mod grammar;
 mod help;
 mod images;
+mod labels;
 mod live;
 mod looks;
 mod mistake;
+mod objects;
 mod own;
 mod problem;
 mod scan;
@@ -28,7 +31,8 @@ use ipmi_commands::report;
 use ipmi_output::Part::{self, Name, Number, Text};
 use ipmi_output::{Failure, MessageSink, Written, say_line};
 use ipmi_program::read_words;
-use live::{Live, print_live_controller};
+use labels::wrong_label;
+use live::{Live, print_live_objects, print_live_texts};
 use mistake::{Line, line, mistake, no_value_of, too_many};
 use own::{Own, own_of};
 use problem::CLOSED;
@@ -37,12 +41,12 @@ use std::alloc::{AllocError, Global};
 use std::env::{Env, FillError};
 use std::io::{self, BufWriter, ErrorKind, IsTerminal, Write};
 use std::process::ExitCode;
-use watch::Watch;
+use watch::{Counted, Watch};
 
 /// The exit status of an invalid command line.
 const USAGE: u8 = 2;
 
-/// The most bytes of an argument that is looked at for what is not UTF-8, as many as a path may have.
+/// The longest argument that is checked for UTF-8: 4096 bytes, as in a path.
 const LONGEST_LOOKED_AT: usize = 4096;
 
 fn main(rt: HostRuntime) -> ExitCode {
@@ -116,8 +120,12 @@ fn run<E: MessageSink>(
 ) -> Result<u8, AllocError>
     requires { 0 < length own.now.rest }
 {
-    if let Some(rule) = misplaced(own, scanned) {
+    let rule = misplaced(own, scanned);
+    if let Some(rule) = rule.or(misplaced_json(own, scanned.words.as_slice())) {
         return Ok(refuse(&[Text(rule)], err));
+    }
+    if let Some(line) = wrong_label(rt.alloc(), own)? {
+        return Ok(refuse(&line, err));
     }
     if let ["capture", ..] = scanned.words.as_slice() {
         return run_capture(rt, own, scanned, err);
@@ -162,7 +170,7 @@ fn run_commands<E: MessageSink>(
     }
 }
 
-/// An option of this program beside a command that does not take it; of what is no command something else is said.
+/// The rule against an option that the command does not take. Unknown commands have another message.
 fn misplaced(own: &Own, scanned: &Scan<'_>) -> Option<&'static str> {
     let words = scanned.words.as_slice();
     // the id is the last word
@@ -176,6 +184,19 @@ fn misplaced(own: &Own, scanned: &Scan<'_>) -> Option<&'static str> {
         _ if own.quiet || own.output.is_some() => {
             Some("--output and --quiet go only with 'capture'")
         }
+        _ => None,
+    }
+}
+
+/// `--json` beside what does not go with it, or `--label` without it.
+fn misplaced_json(own: &Own, words: &[&str]) -> Option<&'static str> {
+    let has_labels = !own.labels.as_slice().is_empty();
+    match words {
+        _ if !own.json && has_labels => Some("--label goes only with --json"),
+        _ if !own.json => None,
+        _ if own.strict => Some("--strict does not go with --json: objects tell their faults"),
+        ["capture", ..] => Some("--json does not go with 'capture'"),
+        ["image", "rewrite"] => Some("--json does not go with 'image rewrite'"),
         _ => None,
     }
 }
@@ -245,8 +266,18 @@ fn is_input_twice(command: &Command, own: &Own) -> bool {
     more > 1 || (more == 1 && is_first)
 }
 
-/// Prints what the commands ask for of each image, the first one of which this is, or of the controller, on buffered standard
-/// output.
+/// Which lines of the output are counted.
+fn counted_of(own: &Own) -> Counted {
+    if own.json {
+        Counted::Lines
+    } else if own.strict {
+        Counted::Faults
+    } else {
+        Counted::Nothing
+    }
+}
+
+/// Runs the commands over each image, of which `image` is the first, or over the controller, with buffered output.
 fn print_commands<E: MessageSink>(
     rt: &HostRuntime,
     commands: &Commands,
@@ -262,10 +293,11 @@ fn print_commands<E: MessageSink>(
             &[Text("reading an image from the terminal: --image FILE names a file")],
         );
     }
-    let writer = Watch::new(io::writer(rt), own.strict);
+    let writer = Watch::new(io::writer(rt), counted_of(own));
     let mut out = Written::new(BufWriter::new(rt.alloc(), writer).or(Err(AllocError))?);
     let status = match live {
-        Some(live) => print_live_controller(rt, commands, live, &mut out, err),
+        Some(live) if own.json => print_live_objects(rt, commands, own, live, &mut out, err),
+        Some(live) => print_live_texts(rt, commands, live, &mut out, err),
         None => print_images(rt, commands, image, own, &mut out, err),
     };
     // what a failing flush left is not tried once more

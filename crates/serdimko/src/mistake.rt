@@ -11,8 +11,8 @@ use std::alloc::{AllocError, Global};
 /// The parts of a line.
 pub(crate) type Line<'a> = Vec<Part<'a>>;
 
-/// What is wrong with the options and words, given the fault that they were refused for. Values of options are judged first: one
-/// that is none may be a word that was to come after it.
+/// The message for a usage fault of the options and words. Checks the values of options first: a wrong value may be a word of
+/// the command.
 pub(crate) fn mistake<'a>(
     alloc: Global,
     own: &'a Own,
@@ -49,6 +49,7 @@ pub(crate) fn rule_of(option: &str) -> &'static str {
         "--tries" => "a number from 0 to 255 (decimal without leading zeros)",
         "--id" => "one to four hex digits from 1 to FFFE",
         "--live" => "ipmitool:FOLDER or freeipmi:FOLDER",
+        "--label" => "KEY=VALUE",
         _ => "a file",
     }
 }
@@ -223,7 +224,7 @@ fn taken_for_value<'a>(own: &'a Own, scanned: &Scan<'a>) -> Option<(&'static str
     None
 }
 
-/// Adds what would be right in place of the word, which is none of the names.
+/// Adds a correction of the word, which is not one of the names.
 fn push_advice<'a>(
     alloc: Global,
     scanned: &Scan<'a>,
@@ -256,7 +257,7 @@ fn push_advice<'a>(
     }
 }
 
-/// The words of which the last one is left out before a number.
+/// The command if its last word is missing before a number.
 fn skipped(alloc: Global, before: &[&str], word: &str) -> Result<Option<&'static str>, AllocError> {
     let (words, command) = match before {
         ["sel"] => (["sel", "list"], "sel list "),
@@ -271,7 +272,7 @@ fn skipped(alloc: Global, before: &[&str], word: &str) -> Result<Option<&'static
     }
 }
 
-/// What a word is known to be typed for.
+/// A hint for a common mistake.
 fn hint(scanned: &Scan<'_>, before: &[&str], word: &str) -> Option<&'static str> {
     let is_dashed = word.starts_with('\u{2013}') || word.starts_with('\u{2014}');
     let is_file = word == "-" || word.contains('.') || word.contains('/');
@@ -353,7 +354,7 @@ fn is_number(alloc: Global, number: Number, word: &str) -> Result<bool, AllocErr
     is_taken(alloc, number.after, word)
 }
 
-/// Whether the word is this number in hex, but for `0x`. Digits alone are meant so only where a listing prints them so.
+/// Whether the word is this number in hex, but for `0x`. Plain digits count only for ids that listings print in hex.
 fn is_hex(alloc: Global, number: Number, word: &str) -> Result<bool, AllocError> {
     let is_decimal = word.bytes().all(|byte| byte.is_ascii_digit());
     if is_decimal && !number.is_id {

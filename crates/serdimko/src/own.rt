@@ -1,11 +1,11 @@
 //! The options of this program: they are taken out of the words wherever they are, and the rest is the specified command line.
 ghost use Rattle.std.specs.Prelude.{◌≡◌, ◌<◌, drop, false, IfOk, length, OnOk, string_bytes, true};
-ghost use Rattle.serdimko.specs.Own.{add_image, add_value, after, after_image, after_image_value, after_kind, after_other, at_end, id_word, is_option, IsPlain, kind_of, leave, name_of, nothing, own_of, value_of, with_id, with_value};
+ghost use Rattle.serdimko.specs.Own.{add_image, add_value, after, after_image, after_image_value, after_kind, after_other, at_end, FlagsAreTakenOut, id_word, is_option, IsPlain, kind_of, leave, is_given, name_of, nothing, own_of, with_id, with_value};
 
 use ipmi_command_line::{Word, Words};
 use std::alloc::{AllocError, Global};
 
-/// An option of this program that has one value.
+/// An option of this program that has a value.
 #[derive(Clone, Copy)]
 enum Valued {
     /// `--id`.
@@ -14,6 +14,8 @@ enum Valued {
     Live,
     /// `--output` or `-o`.
     Output,
+    /// `--label`, which may come several times.
+    Label,
 }
 
 /// What a word is where it may be an option.
@@ -27,6 +29,8 @@ enum Kind {
     Strict,
     /// `--quiet`.
     Quiet,
+    /// `--json`.
+    Json,
     /// An option whose value comes next.
     Valued(Valued),
     /// `--image`.
@@ -65,12 +69,16 @@ pub(crate) struct Own {
     pub(crate) strict: bool,
     /// `--quiet`.
     pub(crate) quiet: bool,
+    /// `--json`.
+    pub(crate) json: bool,
     /// The value of `--id`.
     pub(crate) id: Option<Word>,
     /// The value of `--live`.
     pub(crate) live: Option<Word>,
     /// The value of `--output` or `-o`.
     pub(crate) output: Option<Word>,
+    /// The values of `--label`.
+    pub(crate) labels: Words,
     /// The images after the first one.
     pub(crate) images: Words,
     /// The words that are left, the program's name first.
@@ -92,7 +100,9 @@ fn kind_of(word: &str) -> Kind
         "--id" => Kind::Valued(Valued::Id),
         "--live" => Kind::Valued(Valued::Live),
         "-o" | "--output" => Kind::Valued(Valued::Output),
+        "--label" => Kind::Valued(Valued::Label),
         "--quiet" => Kind::Quiet,
+        "--json" => Kind::Json,
         "--image" => Kind::Image,
         "--from" | "--part" | "--tries" => Kind::Specified,
         "--" => Kind::Dashes,
@@ -100,7 +110,7 @@ fn kind_of(word: &str) -> Kind
     }
 }
 
-/// Whether the word can't be a value, as it begins with a dash and is more than that.
+/// Whether the word looks like an option: a dash and at least one more byte.
 pub(crate) fn is_option(word: &str) -> bool
     ensures { result ≡ is_option word.now }
 {
@@ -126,6 +136,7 @@ impl Valued {
             Valued::Id => "--id",
             Valued::Live => "--live",
             Valued::Output => "--output",
+            Valued::Label => "--label",
         }
     }
 }
@@ -140,9 +151,11 @@ impl Own {
             version: false,
             strict: false,
             quiet: false,
+            json: false,
             id: None,
             live: None,
             output: None,
+            labels: Words::new(alloc),
             images: Words::new(alloc),
             rest: Words::new(alloc),
             has_own: false,
@@ -170,39 +183,41 @@ impl Own {
         Ok(())
     }
 
-    /// The value of the option, if it was found.
-    fn value(&self, option: Valued) -> &Option<Word>
-        ensures { result.now ≡ value_of option self.now }
+    /// Whether the option may have no further value.
+    fn is_given(&self, option: Valued) -> bool
+        ensures { result ≡ is_given option self.now }
     {
         match option {
-            Valued::Id => &self.id,
-            Valued::Live => &self.live,
-            Valued::Output => &self.output,
+            Valued::Id => self.id.is_some(),
+            Valued::Live => self.live.is_some(),
+            Valued::Output => self.output.is_some(),
+            Valued::Label => false,
         }
     }
 
-    /// Takes the first value of an option.
-    fn set(&mut self, option: Valued, value: Word)
-        ensures { self.new ≡ with_value option self.old value }
+    /// Takes the first value of an option, or a further label.
+    fn set(&mut self, alloc: Global, option: Valued, value: &str) -> Result<(), AllocError>
+        ensures { OnOk result (self.new ≡ with_value option self.old value.now) }
     {
         match option {
-            Valued::Id => self.id = Some(value),
-            Valued::Live => self.live = Some(value),
-            Valued::Output => self.output = Some(value),
+            Valued::Id => self.id = Some(Word::new(alloc, value)?),
+            Valued::Live => self.live = Some(Word::new(alloc, value)?),
+            Valued::Output => self.output = Some(Word::new(alloc, value)?),
+            Valued::Label => self.labels.push(value)?,
         }
         self.has_own = true;
         self.next = Next::Any;
+        Ok(())
     }
 
     /// Takes the value of an option.
     fn add_value(&mut self, alloc: Global, option: Valued, value: &str) -> Result<(), AllocError>
-        ensures { OnOk result (self.new ≡ add_value (value_of option self.old) option self.old value.now) }
+        ensures { OnOk result (self.new ≡ add_value option self.old value.now) }
     {
-        if self.value(option).is_some() {
+        if self.is_given(option) {
             return self.leave_both(option.name(), value);
         }
-        self.set(option, Word::new(alloc, value)?);
-        Ok(())
+        self.set(alloc, option, value)
     }
 
     /// Takes the word `--image`.
@@ -246,6 +261,9 @@ impl Own {
         if let Some(file) = word.strip_prefix("--output=") {
             return self.add_value(alloc, Valued::Output, file);
         }
+        if let Some(label) = word.strip_prefix("--label=") {
+            return self.add_value(alloc, Valued::Label, label);
+        }
         self.leave(word, Next::Any)
     }
 
@@ -258,6 +276,7 @@ impl Own {
             Kind::Version => self.version = true,
             Kind::Strict => self.strict = true,
             Kind::Quiet => self.quiet = true,
+            Kind::Json => self.json = true,
             Kind::Valued(option) => self.next = Next::Own(option),
             Kind::Image => return self.take_image(word),
             Kind::Specified => return self.leave(word, Next::Value),
@@ -336,13 +355,14 @@ fn take_all(alloc: Global, words: &Words) -> Result<Own, AllocError>
     Ok(own)
 }
 
-/// Takes the options of this program out of the words, the first of which is the program's name. Where there are none, all words
-/// are left.
+/// Takes the options of this program out of the words, the first of which is the program's name. Where there are none, all
+/// words are left. An option without a value is taken out wherever it may stand, and nothing else depends on it.
 #[tactic(auto, using(crate::proofs::OwnLemmas::of_own))]
 pub(crate) fn own_of(alloc: Global, words: &Words) -> Result<Own, AllocError>
     requires { 0 < length words.now }
     ensures value { IfOk result (λ own. own ≡ own_of words.now) }
     ensures plain { IfOk result (λ own. own.has_own ≡ false → IsPlain own words.now) }
+    ensures flags { FlagsAreTakenOut }
     ensures name { IfOk result (λ own. 0 < length own.rest) }
 {
     take_all(alloc, words)

@@ -103,7 +103,7 @@ impl<'a> Problem<'a> {
         }
     }
 
-    /// Whether another command may do better over the same input, if this one had a problem.
+    /// Whether the next command runs over the same input after this problem.
     pub(crate) fn goes_on(problem: &Option<Problem<'_>>) -> bool
         ensures { result ≡ goes_on problem.now }
     {
@@ -124,7 +124,8 @@ impl<'a> Problem<'a> {
         )
     }
 
-    /// The parts of its line. With several inputs every one names its input, otherwise only what is said about the input itself.
+    /// The parts of its line. With several inputs every one names its input, otherwise only what is said about the input
+    /// itself.
     pub(crate) fn parts(&'a self, name: &'a str, is_one: bool) -> [Part<'a>; 6]
         ensures { joined_parts result ≡ problem_text name.entry.now is_one self.entry.now }
     {

@@ -1,4 +1,4 @@
-//! The options and the words of a command line that is refused, told apart as `clap` tells them.
+//! The options and the words of a command line, told apart as `clap` tells them; or what is wrong where it is refused.
 use crate::grammar::{Next, next_of};
 use crate::mistake::{Line, line, no_value_of, not_a_number, rule_of};
 use crate::own::is_option;
@@ -8,7 +8,7 @@ use ipmi_output::Part::{Name, Text};
 use std::alloc::{AllocError, Global};
 
 /// All options.
-const OPTIONS: [&str; 11] = [
+const OPTIONS: [&str; 13] = [
     "--image",
     "--live",
     "--output",
@@ -18,19 +18,29 @@ const OPTIONS: [&str; 11] = [
     "--tries",
     "--id",
     "--strict",
+    "--json",
+    "--label",
     "--help",
     "--version",
 ];
 
 /// Those that have a value.
-const VALUED: [&str; 7] = [
-    "--image", "--live", "--output", "--from", "--part", "--tries", "--id",
+const VALUED: [&str; 8] = [
+    "--image", "--live", "--output", "--from", "--part", "--tries", "--id", "--label",
 ];
 
 /// Those that have none.
-const FLAGS: [&str; 6] = ["--strict", "--quiet", "--help", "--version", "-h", "-V"];
+const FLAGS: [&str; 7] = [
+    "--strict",
+    "--quiet",
+    "--json",
+    "--help",
+    "--version",
+    "-h",
+    "-V",
+];
 
-/// Those by which `ipmitool` is told where a controller is, which `serdimko-live` gives it.
+/// The options with which stock `ipmitool` connects. `serdimko-live` takes them.
 const OF_TOOL: [&str; 4] = ["-E", "-p", "-f", "-t"];
 
 /// And those whose value may follow at once.
@@ -131,24 +141,7 @@ impl<'a> Scan<'a> {
         }
         let near = nearest(alloc, word, &OPTIONS)?;
         let tool = option_of_tool(word);
-        let (before, name, after) = match (near, tool) {
-            (Some(option), _) => ("did you mean '", option, "'?"),
-            (None, Some("-P")) => {
-                (
-                    "for a live machine put the password in IPMI_PASSWORD, and write serdimko-live ",
-                    "-E",
-                    " .. -- COMMAND",
-                )
-            }
-            (None, Some(option)) => {
-                (
-                    "for a live machine write serdimko-live ",
-                    option,
-                    " .. -- COMMAND",
-                )
-            }
-            (None, None) => ("see serdimko --help", "", ""),
-        };
+        let (before, name, after) = advice_on_option(near, tool);
         // a password is not shown
         let word = match (near, tool) {
             (None, Some("-P")) => "-P",
@@ -189,6 +182,32 @@ impl<'a> Scan<'a> {
     }
 }
 
+/// What to write in place of an option that is none, given the nearest one and the option of `ipmitool` that it is: words, a
+/// name, and words.
+fn advice_on_option(
+    near: Option<&'static str>,
+    tool: Option<&'static str>,
+) -> (&'static str, &'static str, &'static str) {
+    match (near, tool) {
+        (Some(option), _) => ("did you mean '", option, "'?"),
+        (None, Some("-P")) => {
+            (
+                "for a live machine put the password in IPMI_PASSWORD, and write serdimko-live ",
+                "-E",
+                " .. -- COMMAND",
+            )
+        }
+        (None, Some(option)) => {
+            (
+                "for a live machine write serdimko-live ",
+                option,
+                " .. -- COMMAND",
+            )
+        }
+        (None, None) => ("see serdimko --help", "", ""),
+    }
+}
+
 /// The option of `ipmitool` that the word is, or begins with.
 fn option_of_tool(word: &str) -> Option<&'static str> {
     let alone = OF_TOOL.iter().copied().find(|option| *option == word);
@@ -203,7 +222,7 @@ fn is_below_zero(word: &str) -> bool {
         .is_some_and(|byte| byte.is_ascii_digit())
 }
 
-/// An option with a value is followed by a word that may be an option.
+/// The message if an option needs a value, but an option follows.
 fn no_value<'a>(alloc: Global, option: &'a str, word: &'a str) -> Result<Line<'a>, AllocError> {
     let name = word.split_once('=').map_or(word, |(name, _)| name);
     if OPTIONS.contains(&name) || FLAGS.contains(&name) || matches!(name, "-o" | "--") {
@@ -231,7 +250,7 @@ fn needs_value<'a>(alloc: Global, option: &'a str) -> Result<Line<'a>, AllocErro
     )
 }
 
-/// The options and words, or the mistake for which they can't be told apart. The first word is the program's name.
+/// Splits the line into options and words, or returns the mistake. The first word is the program's name.
 pub(crate) fn told_apart<'a>(
     alloc: Global,
     words: &'a Words,

@@ -2,8 +2,8 @@
 use std::alloc::{AllocError, Global};
 use strsim::osa_distance;
 
-/// The first of the names that the word begins, by three letters and more; otherwise the first one that it is but for one letter
-/// that is wrong, left out, too many or swapped with the next one. The case of letters does not matter.
+/// The first name that starts with the word, if the word has three letters or more. Otherwise the first name that differs by
+/// one wrong, missing, extra or swapped letter. The case of letters does not matter.
 pub(crate) fn nearest(
     alloc: Global,
     word: &str,

@@ -1,5 +1,5 @@
-//! Counts the lines of the output that tell a fault, and notes that the output was closed.
-ghost use Rattle.std.specs.Prelude.{◌≤◌};
+//! Counts the lines of the output, or those that tell a fault, and notes that the output was closed.
+ghost use Rattle.std.specs.Prelude.{◌≡◌, ◌≤◌};
 
 use ipmi_fru::{AreaFault, FruFault, MultiFault};
 use std::io::{ErrorKind, Result, Write};
@@ -40,8 +40,8 @@ fn tells_of_inventory(part: &str, fault: &str) -> bool {
     }
 }
 
-/// What the line of a device ends with, after its id and its name, which has at most 32 bytes as it is printed. That of a
-/// device which is present ends so only where the name of its product does.
+/// How the line of a device ends, after its id and its name (at most 32 printed bytes). The line of a present device ends so
+/// only if its product's name does.
 const DEVICE: [&str; 2] = [" | not present | - | - | -", " | faulty | - | - | -"];
 
 /// Whether it is the line of a device that is not present, or whose inventory has a fault.
@@ -68,39 +68,63 @@ fn tells_fault(line: &str) -> bool {
     }
 }
 
-/// A writer that counts the lines with faults among those that it takes, if they matter, and notes that it was closed.
+/// Which lines are counted.
+#[derive(Clone, Copy)]
+pub(crate) enum Counted {
+    /// None.
+    Nothing,
+    /// Those that tell a fault.
+    Faults,
+    /// All.
+    Lines,
+}
+
+/// A writer that counts lines among those that it takes, and notes that it was closed.
 #[derive(Drop)]
 pub(crate) struct Watch<W> {
     writer: W,
-    is_strict: bool,
+    counted: Counted,
     // the first bytes of the line that is being written, and how many
     line: [u8; KEPT],
     len: usize,
     faults: usize,
+    lines: usize,
     is_closed: bool,
     ghost within: { len ≤ 72 },
 }
 
 impl<W: Write> Watch<W> {
-    /// Over a writer, at the beginning of a line. It counts only where `is_strict`.
-    pub(crate) fn new(writer: W, is_strict: bool) -> Watch<W> {
+    /// Over a writer, at the beginning of a line. It counts these lines.
+    pub(crate) fn new(writer: W, counted: Counted) -> Watch<W> {
         Watch {
             writer,
-            is_strict,
+            counted,
             line: [0; KEPT],
             len: 0,
             faults: 0,
+            lines: 0,
             is_closed: false,
         }
     }
 
-    /// How many lines with faults there were.
-    pub(crate) fn faults(&self) -> usize {
+    /// How many lines with faults were counted.
+    pub(crate) fn faults(&self) -> usize
+        ensures { result ≡ self.now.faults }
+    {
         self.faults
     }
 
+    /// How many lines were counted where all are.
+    pub(crate) fn lines(&self) -> usize
+        ensures { result ≡ self.now.lines }
+    {
+        self.lines
+    }
+
     /// Whether a write failed because whoever reads the output has closed it.
-    pub(crate) fn is_closed(&self) -> bool {
+    pub(crate) fn is_closed(&self) -> bool
+        ensures { result ≡ self.now.is_closed }
+    {
         self.is_closed
     }
 
@@ -117,12 +141,28 @@ impl<W: Write> Watch<W> {
         }
     }
 
-    /// Looks at bytes that were written.
+    /// Looks for faults in bytes that were written.
     fn look(&mut self, bytes: &[u8]) {
-        if self.is_strict {
-            for byte in bytes {
-                self.look_at(*byte);
+        for byte in bytes {
+            self.look_at(*byte);
+        }
+    }
+
+    /// Counts the ends of lines in bytes that were written.
+    fn count_lines(&mut self, bytes: &[u8]) {
+        for byte in bytes {
+            if *byte == b'\n' {
+                self.lines = self.lines.saturating_add(1);
             }
+        }
+    }
+
+    /// Counts in bytes that were written.
+    fn count(&mut self, bytes: &[u8]) {
+        match self.counted {
+            Counted::Nothing => {}
+            Counted::Faults => self.look(bytes),
+            Counted::Lines => self.count_lines(bytes),
         }
     }
 }
@@ -131,7 +171,7 @@ impl<W: Write> Write for Watch<W> {
     fn write(&mut self, buf: &[u8]) -> Result<usize> {
         match self.writer.write(buf) {
             Ok(count) => {
-                self.look(&buf[..count]);
+                self.count(&buf[..count]);
                 Ok(count)
             }
             Err(error) => {

@@ -1,0 +1,19 @@
+-- What is saved of a capture, by whether the connection was lost.
+use Rattle.std.proofs.Common.{◌≡◌, ℕ, IfOk, List, MatchOption, None, Option, option_map, refl, Result, Ok, Err, Some, sym}
+
+module _ (Saves : Type 0) (Says : List ℕ → Type 0) (lost : Option (List ℕ)) where
+  pub was_lost : (said : List ℕ) → lost ≡ Some said → Says said → MatchOption lost Saves Says
+  was_lost said is says = rw is says
+
+  pub not_lost : lost ≡ None → Saves → MatchOption lost Saves Says
+  not_lost is saves = rw is saves
+
+pub none_lost : {X : Type 0} (f : X → List ℕ) (o : Option X) (lost : Option (List ℕ)) → option_map f o ≡ lost
+    → ((x : X) → o ≡ Some x → ⊥) → lost ≡ None
+none_lost f None lost is other = sym is
+none_lost f (Some x) lost is other = absurd (other x refl)
+
+pub captured : {E : Type 0} {P Q : ℕ → Type 0} (result : Result ℕ E) → IfOk result P
+    → ((status : ℕ) → P status → Q status) → IfOk result Q
+captured (Ok status) is to = to status is
+captured (Err e) is to = tt

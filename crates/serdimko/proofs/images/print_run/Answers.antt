@@ -1,0 +1,14 @@
+use Rattle.std.proofs.Common.{◌≡◌, ℕ, refl, subst}
+use Rattle.serdimko.specs.Objects.{EndsIn}
+use Rattle.serdimko.specs.Problem.{lines_seen}
+use Rattle.serdimko.proofs.images.print_run.Goals as goal
+
+pub returns-clause-prints : goal.returns-clause-prints
+returns-clause-prints g c =
+    let before : c.lines-before.result ≡ lines_seen c.args.out.now = rw c.lines-before.ensures (rw c.get_ref-2.ensures (rw c.get_ref.ensures refl)) in (
+      c.print_input-problem.new.out,
+      c.print_input-problem.result,
+      c.print_input-problem.ensures.prints,
+      subst (λ (n : ℕ). EndsIn n c.args.wording c.args.name.now c.args.is_one c.print_input-problem.new.out c.end_run.new.out c.print_input-problem.result c.end_run.result)
+          before c.end_run.ensures.ends,
+    )

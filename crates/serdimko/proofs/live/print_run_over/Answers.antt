@@ -1,0 +1,14 @@
+use Rattle.std.proofs.Common.{◌≡◌, ℕ, codes, refl, subst, true}
+use Rattle.serdimko.specs.Objects.{EndsIn}
+use Rattle.serdimko.specs.Problem.{lines_seen}
+use Rattle.serdimko.proofs.live.print_run_over.Goals as goal
+
+pub returns-clause-prints : goal.returns-clause-prints
+returns-clause-prints g c =
+    let before : c.lines-before.result ≡ lines_seen c.args.out.now = rw c.lines-before.ensures (rw c.get_ref-2.ensures (rw c.get_ref.ensures refl)) in (
+      c.print_over-problem.new.out,
+      c.print_over-problem.result,
+      c.print_over-problem.ensures.prints,
+      subst (λ (n : ℕ). EndsIn n c.args.wording (codes "the controller") true c.print_over-problem.new.out c.end_run.new.out c.print_over-problem.result c.end_run.result)
+          before c.end_run.ensures.ends,
+    )
