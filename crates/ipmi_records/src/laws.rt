@@ -1,4 +1,4 @@
-//! Laws of lines and blocks: what follows from their definitions alone, whatever code wrote the text.
+//! Laws of lines and blocks. They follow from the definitions, so they hold for any code that writes such a text.
 ghost use Rattle.std.specs.Prelude.{◌≡◌, ℕ, List, Option};
 ghost use Rattle.ipmi_records.specs.Below.{AreBytes, Reading};
 ghost use Rattle.ipmi_records.specs.Prelude.{SdrView, SelView, IsInfoBlock, ExtendedLineIsUnique, ReadingColumnExists, ReadingColumnIsUnique, SdrBlockExists, SdrBlockIsUnique, SdrLineExists, SdrLineIsUnique, SelBlockIsUnique, SelLineIsUnique, ThresholdTextExists, ThresholdTextIsUnique, IsExtendedLine, IsSelBlock, IsSelLine};

@@ -1,4 +1,4 @@
-//! Laws of texts: what follows from their definitions alone, whatever code wrote the text.
+//! Laws of texts. They follow from the definitions, so they hold for any code that writes such a text.
 ghost use Rattle.std.specs.Prelude.{◌≡◌, ℤ, List, ℕ};
 ghost use Rattle.ipmi_text.specs.Decimal.{IsDecimalOf};
 ghost use Rattle.ipmi_text.specs.Laws.{DecimalExists, DecimalIsUnique, MinutesTextExists, MinutesTextIsUnique, UtcTextExists, UtcTextIsUnique};
