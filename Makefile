@@ -13,7 +13,7 @@ built_of = $(shell scripts/rests_on $1 | sed 's/[: ].*//' | while read -r crate;
     find "crates/$$crate" \( -name out -o -name must-fail \) -prune -o \( -name '*.rt' -o -name '*.antt' \) -print; done) \
   $(shell cd crates/$1/out 2> /dev/null && ! [ $1 -nt $1.crates ] && ../../../scripts/rests_on $1 | cmp -s - $1.crates || echo crates.txt)
 
-.PHONY: demo try test memory turns bench live-test build install uninstall package package-test
+.PHONY: demo try test memory turns bench live-test database-test build install uninstall package package-test
 
 # Runs the program on the image of a server (its sensors, one sensor in full, events and inventories), and on three records in
 # hex.
@@ -43,7 +43,7 @@ memory:
 turns:
 	@scripts/refuse_turns
 
-# Measures time, memory and instructions on long images, compared to two references in C. Takes some minutes; no time fails it.
+# Measures instructions and memory on long images, compared to two references in C. Takes some minutes; no figure fails it.
 bench: $(PROGRAM)
 	@scripts/bench $(PROGRAM)
 
@@ -51,6 +51,10 @@ bench: $(PROGRAM)
 # troubles. Takes minutes. Needs Debian's ipmitool, openipmi and freeipmi-tools.
 live-test: $(PROGRAM)
 	@scripts/live_test
+
+# Runs the blocks of docs/databases.md, with SQLite and PostgreSQL. Needs Debian's jq, sqlite3 and postgresql.
+database-test: $(PROGRAM)
+	@scripts/database_test $(PROGRAM)
 
 build: $(PROGRAM)
 

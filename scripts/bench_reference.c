@@ -1,14 +1,14 @@
-/* The reference for the times of scripts/bench, and the stopwatch for both.
+/* The references of scripts/bench.
  *
  * Without arguments it does the work of `ipmitool sdr hex`: it reads an image from standard input, and writes the line of
  * each record, following the next ids from the first record. Statuses are those of the program. It accepts images of
  * version 1 with only `sdr` lines, checks each line by the same rules before it writes, and keeps the records in an
  * ordered tree. It does not name faults, has no limit of 64 MiB, and frees no memory before it ends.
  *
- * With `--flat` it keeps the records in a table indexed by id. No ordered map can be faster.
+ * With `--expert` it does the same, but keeps no records: a table has the place of each id's line in the input, and lines
+ * are written as they stand there.
  *
- * With `--measure IMAGE PROGRAM [WORD...]` it runs a program over an image repeatedly, and prints the nanoseconds of the
- * shortest run and its peak resident memory in KiB. */
+ * With `--memory IMAGE PROGRAM [WORD...]` it runs a program over an image, and prints its peak resident memory in KiB. */
 #include <fcntl.h>
 #include <spawn.h>
 #include <stdbool.h>
@@ -18,7 +18,6 @@
 #include <string.h>
 #include <sys/resource.h>
 #include <sys/wait.h>
-#include <time.h>
 #include <unistd.h>
 
 enum { NO_ID = 0xFFFF, HEADER_BYTES = 5, MOST_BYTES = 256 };
@@ -150,32 +149,11 @@ static struct row *insert(struct row *top, struct row *row)
     return split(skew(top));
 }
 
-static const struct row *find_in_tree(const struct row *top, uint16_t id)
+static const struct row *find(const struct row *top, uint16_t id)
 {
     while (top != NULL && top->id != id)
         top = id < top->id ? top->left : top->right;
     return top;
-}
-
-/* The records, in a table indexed by id. */
-
-static bool is_flat;
-static struct row *rows_by_id[0x10000];
-
-static void put(struct row **rows, struct row *row)
-{
-    if (!is_flat) {
-        *rows = insert(*rows, row);
-        return;
-    }
-    if (rows_by_id[row->id] != NULL)
-        refuse();
-    rows_by_id[row->id] = row;
-}
-
-static const struct row *find(const struct row *rows, uint16_t id)
-{
-    return is_flat ? rows_by_id[id] : find_in_tree(rows, id);
 }
 
 /* Reads the record of a line `sdr ID NEXT HEX`. */
@@ -222,7 +200,7 @@ static struct image read_image(struct text rest)
         struct row *row = read_row(line, image.first == NULL);
         if (image.first == NULL)
             image.first = row;
-        put(&image.rows, row);
+        image.rows = insert(image.rows, row);
     }
 }
 
@@ -251,90 +229,178 @@ static void write_row(const struct row *row)
     fwrite(line, 1, (size_t)(to - line), stdout);
 }
 
+/* Marks an id as listed. Returns whether it already was. */
+static bool is_listed_again(uint16_t id)
+{
+    static uint8_t listed[0x10000 / 8];
+    uint8_t bit = (uint8_t)(1 << id % 8);
+    bool again = (listed[id / 8] & bit) != 0;
+    listed[id / 8] |= bit;
+    return again;
+}
+
+static int end_by_cycle(unsigned id)
+{
+    fprintf(stderr, "cycle at %04Xh\n", id);
+    return 1;
+}
+
+static int end_by_missing(unsigned id)
+{
+    fprintf(stderr, "record %04Xh not present\n", id);
+    return 1;
+}
+
 /* Writes the records, following their next ids. Returns the status: 0 after a record whose next id is FFFFh. */
 static int list(struct image image)
 {
-    static uint8_t listed[0x10000 / 8];
     const struct row *row = image.first;
+    if (row != NULL)
+        is_listed_again(row->id);
     while (row != NULL) {
         write_row(row);
-        listed[row->id / 8] |= (uint8_t)(1 << row->id % 8);
         uint16_t next = row->next;
         if (next == NO_ID)
             return 0;
         /* The next id 0000h means the first record, which was already listed. */
-        if (next == 0 || (listed[next / 8] >> next % 8 & 1) != 0) {
-            fprintf(stderr, "cycle at %04Xh\n", next);
-            return 1;
-        }
-        row = find(image.rows, next);
-        if (row == NULL) {
-            fprintf(stderr, "record %04Xh not present\n", next);
-            return 1;
-        }
+        row = next == 0 ? image.first : find(image.rows, next);
+        if (row == NULL)
+            return end_by_missing(next);
+        if (is_listed_again(row->id))
+            return end_by_cycle(next);
     }
     return 0;
 }
 
-/* The stopwatch. */
+/* The expert's way: only the place of each line. */
 
-enum { LEAST_RUNS = 5, LEAST_NANOSECONDS = 500000000 };
+enum { ID = 4, NEXT = 9, HEX = 14 };
 
-static int64_t nanoseconds(void)
+struct place {
+    uint32_t start;
+    uint16_t len, next;
+};
+
+/* The value of each hex digit plus 1, and 0 for any other byte. */
+static const uint8_t digit_plus_1[256] = {
+    ['0'] = 1, 2, 3, 4, 5, 6, 7, 8, 9, 10, ['A'] = 11, 12, 13, 14, 15, 16, ['a'] = 11, 12, 13, 14, 15, 16};
+
+/* The number of some hex digits, which become lower-case. It is above FFFFFFFh if one of them is none. */
+static uint32_t number_at(unsigned char *digits, unsigned count)
 {
-    struct timespec now;
-    clock_gettime(CLOCK_MONOTONIC, &now);
-    return (int64_t)now.tv_sec * 1000000000 + now.tv_nsec;
+    uint32_t number = 0, bad = 0;
+    for (unsigned i = 0; i < count; i++) {
+        uint32_t value = digit_plus_1[digits[i]] - 1u;
+        bad |= value;
+        number = number << 4 | (value & 15);
+        digits[i] |= 0x20;
+    }
+    return number | (bad & 0xF0000000);
 }
 
-static void run(const posix_spawn_file_actions_t *files, char **command)
+/* Whether all bytes are hex digits, which become lower-case. */
+static bool are_digits(unsigned char *digits, size_t count)
 {
-    extern char **environ;
-    pid_t child;
-    int status;
-    if (posix_spawn(&child, command[0], files, NULL, command, environ) != 0)
-        stop(1, "measure: the command cannot be run");
-    if (waitpid(child, &status, 0) != child || status != 0)
-        stop(1, "measure: a run did not end with status 0");
+    uint32_t bad = 0;
+    for (size_t i = 0; i < count; i++) {
+        bad |= digit_plus_1[digits[i]] - 1u;
+        digits[i] |= 0x20;
+    }
+    return bad < 16;
 }
 
-/* Other users of the machine can only make a run longer. So the shortest of many runs is the best estimate. It runs the
- * command for half a second, and at least 5 times. The output of the command is discarded. */
+/* Notes the place of the line `sdr ID NEXT HEX` that begins at an offset. Returns its id. */
+static uint16_t note_line(struct place *places, unsigned char *text, size_t start, size_t len, bool is_first)
+{
+    unsigned char *line = text + start;
+    size_t bytes = (len - HEX) / 2;
+    if (len < HEX + 2 * HEADER_BYTES || memcmp(line, "sdr ", ID) != 0 || line[NEXT - 1] != ' ' || line[HEX - 1] != ' ')
+        refuse();
+    uint32_t id = number_at(line + ID, 4), next = number_at(line + NEXT, 4);
+    if (id >= NO_ID || next > NO_ID || len % 2 != 0 || bytes > MOST_BYTES || !are_digits(line + HEX, len - HEX) ||
+        bytes != HEADER_BYTES + (size_t)number_at(line + HEX + 8, 2))
+        refuse();
+    if (is_first ? id != (number_at(line + HEX, 2) | number_at(line + HEX + 2, 2) << 8) : id == 0)
+        refuse();
+    if (places[id].len != 0)
+        refuse();
+    places[id] = (struct place){(uint32_t)start, (uint16_t)(len + 1), (uint16_t)next};
+    return (uint16_t)id;
+}
+
+static int list_by_places(struct text text)
+{
+    static struct place places[0x10000];
+    static const char head[] = "ipmi-image 1\n";
+    unsigned char *bytes = (unsigned char *)text.start;
+    size_t at = sizeof head - 1;
+    bool is_first = true;
+    uint16_t id = 0, first = 0;
+    if (text.len > UINT32_MAX || text.len < at || memcmp(bytes, head, at) != 0)
+        refuse();
+    for (;; is_first = false) {
+        const unsigned char *end = memchr(bytes + at, '\n', text.len - at);
+        if (end == NULL)
+            refuse();
+        size_t len = (size_t)(end - bytes) - at;
+        if (len == 3 && memcmp(bytes + at, "end", 3) == 0)
+            break;
+        id = note_line(places, bytes, at, len, is_first);
+        if (is_first)
+            first = id;
+        at += len + 1;
+    }
+    if (at + 4 != text.len)
+        refuse();
+    if (is_first)
+        return 0;
+    is_listed_again(first);
+    for (id = first;;) {
+        fwrite(bytes + places[id].start, 1, places[id].len, stdout);
+        uint16_t next = places[id].next;
+        if (next == NO_ID)
+            return 0;
+        id = next == 0 ? first : next;
+        if (places[id].len == 0)
+            return end_by_missing(next);
+        if (is_listed_again(id))
+            return end_by_cycle(next);
+    }
+}
+
+/* Prints the peak memory of a run, which on Linux is in KiB. The output of the command is discarded. A child starts with
+ * the memory of its parent, so the figure is at least the memory of this process, which is small. */
 static void measure(const char *image, char **command)
 {
+    extern char **environ;
     posix_spawn_file_actions_t files;
+    pid_t child;
+    int status;
+    struct rusage children;
     if (posix_spawn_file_actions_init(&files) != 0 ||
         posix_spawn_file_actions_addopen(&files, STDIN_FILENO, image, O_RDONLY, 0) != 0 ||
         posix_spawn_file_actions_addopen(&files, STDOUT_FILENO, "/dev/null", O_WRONLY, 0) != 0)
         stop(5, "out of memory");
-    int64_t best = INT64_MAX, all = 0;
-    for (int runs = 0; runs < LEAST_RUNS || all < LEAST_NANOSECONDS; runs++) {
-        int64_t start = nanoseconds();
-        run(&files, command);
-        int64_t spent = nanoseconds() - start;
-        all += spent;
-        if (spent < best)
-            best = spent;
-    }
-    /* The peak memory of a run, on Linux in KiB. A child starts with the memory of its parent, so this is at least the
-     * memory of this process, which is small. */
-    struct rusage children;
+    if (posix_spawn(&child, command[0], &files, NULL, command, environ) != 0)
+        stop(1, "memory: the command cannot be run");
+    if (waitpid(child, &status, 0) != child || status != 0)
+        stop(1, "memory: the run did not end with status 0");
     getrusage(RUSAGE_CHILDREN, &children);
-    printf("%lld %ld\n", (long long)best, children.ru_maxrss);
+    printf("%ld\n", children.ru_maxrss);
 }
 
 int main(int argc, char **argv)
 {
     int status = 0;
-    is_flat = argc == 2 && strcmp(argv[1], "--flat") == 0;
-    if (argc == 1 || is_flat) {
-        setvbuf(stdout, NULL, _IOFBF, 1 << 16);
+    setvbuf(stdout, NULL, _IOFBF, 1 << 16);
+    if (argc == 1)
         status = list(read_image(read_input()));
-    } else if (argc >= 4 && strcmp(argv[1], "--measure") == 0) {
+    else if (argc == 2 && strcmp(argv[1], "--expert") == 0)
+        status = list_by_places(read_input());
+    else if (argc >= 4 && strcmp(argv[1], "--memory") == 0)
         measure(argv[2], argv + 3);
-    } else {
-        stop(2, "usage: bench_reference [--flat | --measure IMAGE PROGRAM [WORD...]]");
-    }
+    else
+        stop(2, "usage: bench_reference [--expert | --memory IMAGE PROGRAM [WORD...]]");
     if (fflush(stdout) != 0 || ferror(stdout))
         stop(4, "write fault");
     return status;

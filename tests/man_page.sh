@@ -171,7 +171,9 @@ expect list sdr --image = examples/server.image li
 expect list sdr --image examples/server.image --part 4 li
 expect '' --part ''
 expect '' sel get --id ''
-expect '--help --id --image --live --output --quiet --tries --version' --strict --from=0001 --part 4 --image = x --
+expect '' --label ''
+expect '--label' --json --label a=b --la
+expect '--help --id --image --json --label --live --output --quiet --tries --version' --strict --from=0001 --part 4 --image = x --
 expect 'list' --strict -h sdr li
 expect '' -- --
 expect 'sdr sel sensor' -- s

@@ -1,0 +1,307 @@
+"""Compares `serdimko --json` with the text form, value by value, over the images that are given and 1,000 generated ones.
+
+All objects of a kind must have the same keys. tests/json.sh compares these with docs/json.md.
+"""
+import json
+import multiprocessing
+import os
+import random
+import re
+import subprocess
+import sys
+import tempfile
+
+PROGRAM = os.path.abspath(sys.argv[1])
+EXAMPLES = [os.path.abspath(name) for name in sys.argv[2:]]
+GENERATED = 1_000
+SEED = 20261127
+MOST_TOLD = 20
+
+# ---- images
+
+
+def field(rng):
+    """A type/length byte and a field of an inventory."""
+    length = rng.randint(0, 20)
+    return bytes([rng.choice([0x00, 0x40, 0x80, 0xC0, 0xC0, 0xC0]) | length]) + bytes(
+        rng.choice(b"AB 12|\"\\\x07\xe9\xff\x7f") for _ in range(length)
+    )
+
+
+def area(rng, head):
+    """An area with a length and a checksum, one of which may be wrong."""
+    bytes_ = bytes([1, 0]) + head + b"".join(field(rng) for _ in range(rng.randint(0, 9)))
+    bytes_ += b"\xc1" if rng.random() < 0.9 else b""
+    bytes_ += bytes(-(len(bytes_) + 1) % 8)
+    bytes_ = bytes([1 if rng.random() < 0.95 else 2, (len(bytes_) + 1) // 8]) + bytes_[2:]
+    return bytes_ + bytes([-sum(bytes_) + (rng.random() < 0.05) & 0xFF])
+
+
+def multirecords(rng):
+    found, count = b"", rng.randint(1, 4)
+    for n in range(count):
+        kind = rng.choice([0, 1, 2, 3, 0xC0])
+        data = rng.randbytes({1: 13, 2: 13}.get(kind, rng.randint(0, 12)))
+        if kind == 3 and data:
+            data = bytes([rng.randint(0, 8)]) + data[1:]
+        head = bytes([kind, 2 | (0x80 if n == count - 1 else 0), len(data), -sum(data) & 0xFF])
+        found += head + bytes([-sum(head) + (rng.random() < 0.05) & 0xFF]) + data
+    return found
+
+
+def inventory(rng):
+    """The bytes of an inventory, of which some may be damaged."""
+    parts = [
+        area(rng, rng.randbytes(1)),
+        area(rng, bytes([rng.choice([0, 25])]) + rng.randbytes(3)),
+        area(rng, bytes([rng.choice([0, 25])])),
+        multirecords(rng),
+    ]
+    header, body = [1, 0], b""
+    for part in parts:
+        if rng.random() < 0.25:
+            header.append(0)
+            continue
+        header.append(1 + len(body) // 8)
+        body += part + bytes(-len(part) % 8)
+    header += [0]
+    found = bytes(header) + bytes([-sum(header) & 0xFF]) + body
+    if rng.random() < 0.2:
+        place = rng.randrange(len(found))
+        found = found[:place] + rng.randbytes(1) + found[place + 1 :]
+    return found[: rng.randint(1, len(found))] if rng.random() < 0.05 else found
+
+
+def id_string(rng):
+    text = bytes(rng.choice(b"AZaz09 ._\"\\\x1b\xe9") for _ in range(rng.randint(1, 16)))
+    return bytes([0xC0 | len(text)]) + text
+
+
+def record(rng, id_):
+    """A sensor data record of a kind, or one that may be of none."""
+    kind = rng.choice([0x01] * 5 + [0x02] * 3 + [0x03, 0x10, 0x11, 0x11, 0x12, 0xC0])
+    key = bytes([rng.choice([0x20, 0x20, 0x22]), rng.choice([0, 0, 1, 3]), rng.randint(1, 9)])
+    body = {
+        0x01: lambda: key + rng.randbytes(2) + b"\x7f\x68" + bytes([rng.randint(1, 12), rng.choice([1, 1, 1, 0x6F])])
+        + rng.randbytes(6) + bytes([rng.choice([0, 0x80, 0xC0, 0x41]), rng.randint(0, 30), rng.randint(0, 5)])
+        + bytes([rng.choice([0, 0, 0, 7, 0x70])]) + rng.randbytes(23) + b"\0" + id_string(rng),
+        0x02: lambda: key + rng.randbytes(2) + b"\x67\x40" + bytes([rng.randint(1, 0x2C), rng.choice([0x6F, 3, 0x0A, 1])])
+        + rng.randbytes(6) + bytes([0xC0, rng.randint(0, 30), 0]) + bytes([rng.choice([1, 1, 3, 0x12]), rng.randrange(256)])
+        + bytes(6) + id_string(rng),
+        0x03: lambda: key + rng.randbytes(2) + bytes([rng.randint(1, 12), 0x6F, 1, 0, 0, 0]) + id_string(rng),
+        0x10: lambda: rng.randbytes(9) + b"\0" + id_string(rng),
+        0x11: lambda: bytes([0x20, rng.randint(1, 3), rng.choice([0x80, 0x80, 0, 0x98]), 0, 0, 0x10, 0, 10, rng.randint(1, 9), 0])
+        + id_string(rng),
+        0x12: lambda: rng.randbytes(2) + bytes(5) + rng.randbytes(2) + b"\0" + id_string(rng),
+        0xC0: lambda: rng.randbytes(rng.randint(3, 20)),
+    }[kind]()
+    if rng.random() < 0.05:
+        body = body[: rng.randint(0, len(body))]
+    return id_.to_bytes(2, "little") + bytes([0x51, kind, len(body)]) + body
+
+
+def entry(rng, id_):
+    kind = rng.choice([2, 2, 2, 2, 2, 0xC1, 0xE0, 0x55])
+    stamp = rng.choice([rng.getrandbits(32), 0x655F5E4D, 16, 0x20000000, 0xFFFFFFFF]).to_bytes(4, "little")
+    rest = bytes([0x20, 0, 4, rng.randint(0, 0x2E), rng.randint(1, 9), rng.choice([1, 0x81, 3, 0x6F, 0xEF, 0x0C, 0x73])]) + rng.randbytes(3)
+    return id_.to_bytes(2, "little") + bytes([kind]) + stamp + (rest if kind == 2 else rng.randbytes(9))
+
+
+def image(rng):
+    lines = ["ipmi-image 2"]
+    for shelf, make, most in ("sdr", record, 12), ("sel", entry, 12):
+        ids = sorted(rng.sample(range(1, 200), rng.randint(0, most)))
+        for place, id_ in enumerate(ids):
+            next_ = f"{ids[place + 1]:04x}" if place + 1 < len(ids) else rng.choice(["ffff"] * 8 + ["0000", f"{ids[0]:04x}", "00fe"])
+            lines.append(f"{shelf} {id_:04x} {next_} {make(rng, id_).hex()}")
+    for device in range(4):
+        if rng.random() < 0.6:
+            lines.append(f"fru {device:02x} {inventory(rng).hex()}")
+    for lun, number in ((lun, number) for lun in range(4) for number in range(1, 10)):
+        if rng.random() < 0.4:
+            lines.append(f"reading {lun} {number:02x} {bytes([rng.randrange(256), rng.choice([0x40, 0xC0, 0xC0, 0x60, 0])]).hex()}{rng.randbytes(2).hex()}")
+    for shelf in "sdr", "sel":
+        if rng.random() < 0.5:
+            lines.append(f"info {shelf} 51{rng.randbytes(13).hex()}")
+    return "\n".join([*lines, "end", ""])
+
+
+# ---- the two forms
+
+
+def run(name, *words):
+    done = subprocess.run([PROGRAM, "--image", name, *words], capture_output=True, stdin=subprocess.DEVNULL, timeout=60)
+    return done.returncode, done.stdout.decode(), done.stderr.decode()
+
+
+def cells_of(line):
+    return [cell.strip() for cell in line.split(" | ")]
+
+
+def told_reading(line):
+    """The column of the text form that an object of a record means."""
+    kind = line["kind"]
+    if kind in ("full", "compact"):
+        if line["status"] == "na":
+            return "other owner"
+        if line["status"] == "ns":
+            return "no reading"
+        if line["reading"] is not None:
+            return f"{line['reading']} {line['unit']}".strip()
+        return None
+    if kind == "event_only":
+        return "event only"
+    if kind == "fru_locator":
+        return f"FRU {line['fru_device_id']}" if line["is_logical"] and line["device_address"] == 0x20 and line["access_lun"] == 0 else "elsewhere"
+    return None
+
+
+def record_differs(line, shown):
+    if line["kind"] == "faulty":
+        return shown != f"record {line['record_id']:04X}h: {line['fault'].replace('_', ' ')}"
+    if line["kind"] == "other":
+        return cells_of(shown)[-2:] != [f"record type 0x{line['record_type']:02x}", "na"]
+    name, reading, status = shown[:16], *cells_of(shown)[-2:]
+    wanted = told_reading(line)
+    if line["kind"] in ("full", "compact"):
+        if wanted is None and reading.startswith("states 0x"):
+            wanted = f"states 0x{line['states']:04x}"
+        if wanted is None and reading.startswith("raw 0x"):
+            wanted = f"raw 0x{line['reading_raw']:02x}"
+            reading = reading[: len(wanted)]
+        if status != line["status"]:
+            return True
+    return line["name"].strip()[:16] != name.strip()[: len(line["name"].strip())][:16] or (wanted is not None and reading != wanted)
+
+
+def entry_differs(line, shown):
+    cells = cells_of(shown)
+    if cells[0] != f"{line['record_id']:04x}":
+        return True
+    if line["kind"] != "event":
+        return f"0x{line['record_type']:02x}" not in cells[-1 if line["kind"] != "oem_timestamped" else 2] and f"0x{line['record_type']:02x}" not in shown
+    if line["timestamp"] is not None and cells[1] != line["timestamp"].replace("T", " ").rstrip("Z"):
+        return True
+    if line["timestamp"] is None and re.match(r"\d{4}-", cells[1]):
+        return True
+    return cells[2:] != [
+        f"{line['sensor_type_name']} #0x{line['sensor_number']:02x}",
+        line["event"],
+        {"asserted": "Asserted", "deasserted": "Deasserted"}[line["direction"]],
+    ]
+
+
+# ---- inventories
+
+# The labels of the text form, and the keys of the object.
+LABELS = {
+    "Chassis Type": ("chassis", "type_name"), "Chassis Part Number": ("chassis", "part_number"),
+    "Chassis Serial": ("chassis", "serial_number"), "Board Mfg": ("board", "manufacturer"),
+    "Board Product": ("board", "product_name"), "Board Serial": ("board", "serial_number"),
+    "Board Part Number": ("board", "part_number"), "Board FRU ID": ("board", "fru_file_id"),
+    "Product Manufacturer": ("product", "manufacturer"), "Product Name": ("product", "name"),
+    "Product Part Number": ("product", "part_number"), "Product Version": ("product", "version"),
+    "Product Serial": ("product", "serial_number"), "Product Asset Tag": ("product", "asset_tag"),
+    "Product FRU ID": ("product", "fru_file_id"),
+}
+
+
+def inventory_lines(line):
+    """The lines of the text form that an object means, but for multirecords."""
+    if line["state"] == "elsewhere":
+        return [f"FRU ({line['name']}): elsewhere, not read"]
+    # The text form prints device 0 before it meets its locator, and so without a name.
+    name = "" if line["name"] is None or line["fru_device_id"] == 0 else f" ({line['name']})"
+    found = [f"FRU {line['fru_device_id']}{name}"]
+    if line["state"] == "not_present":
+        return [*found, "not present"]
+    if line["state"] == "faulty":
+        return [*found, f"FRU fault: {line['fault'].replace('_', ' ')}"]
+    for area in "chassis", "board", "product":
+        title = area.capitalize()
+        if line[f"{area}_fault"] is not None:
+            found.append(f"{title} fault: {line[f'{area}_fault'].replace('_', ' ')}")
+        if line[area] is None:
+            continue
+        if area == "board":
+            made = line["board"]["manufactured"]
+            found.append("Board Mfg Date: " + ("unspecified" if made is None else made[:16].replace("T", " ")))
+        for label, (owner, key) in LABELS.items():
+            if owner == area and line[area][key] is not None:
+                found.append(f"{label}: {line[area][key]}")
+        found += [f"{title} Extra: {text}" for text in line[area]["extra"] if text]
+    return found
+
+
+def is_of_records(shown):
+    return re.match(r"(DC |Power |Management |Multirecord|OEM |Record|Records )", shown) is not None
+
+
+def inventories_differ(lines, text):
+    shown = [block.split("\n") for block in text.split("\n\n") if block]
+    if len(shown) != len(lines):
+        return True
+    return any(
+        inventory_lines(line) != [row for row in rows if not is_of_records(row)] for line, rows in zip(lines, shown)
+    )
+
+
+# ---- comparing
+
+
+def objects(text):
+    return [json.loads(line, parse_float=str) for line in text.splitlines()]
+
+
+def compare(name):
+    told, kinds = [], set()
+    for words, differs in (
+        (("sdr", "list", "all"), record_differs), (("sel", "list"), entry_differs), (("fru",), None), (("sdr", "hex"), None),
+        (("sdr", "info"), None), (("sel", "info"), None),
+    ):
+        status, text, message = run(name, *words)
+        json_status, out, json_message = run(name, "--json", *words)
+        lines = objects(out)
+        kinds |= {(line["object"], line.get("kind"), tuple(line)) for line in lines}
+        end = lines.pop() if lines else {}
+        what = f"{name}: {' '.join(words)}"
+        if (status, message) != (json_status, json_message) and not words[0] == "sel":
+            told.append(f"{what}: {status} {message!r} {json_status} {json_message!r}")
+        if end.get("count") != len(lines) or end["status"] != json_status or (end["message"] or "") != json_message.rstrip("\n"):
+            told.append(f"{what}: {end}")
+        if differs:
+            shown = text.split("\n")[:-1]
+            if len(shown) != len(lines):
+                told.append(f"{what}: {len(lines)} objects and {len(shown)} lines")
+            told += [f"{what}: {line}\n  {row}" for line, row in zip(lines, shown) if differs(line, row)]
+        elif words == ("fru",) and inventories_differ(lines, text):
+            told.append(f"{what}:\n{text}\n{out}")
+        elif words == ("sdr", "hex"):
+            rows = [f"sdr {line['record_id']:04x} {line['next_record_id']:04x} {line['raw']}" for line in lines]
+            if rows != text.split("\n")[1:-1] and rows != text.split("\n")[:-1]:
+                told.append(f"{what}:\n{text}\n{out}")
+    return told, kinds
+
+
+def main():
+    with tempfile.TemporaryDirectory() as folder:
+        rng = random.Random(SEED)
+        names = list(EXAMPLES)
+        for n in range(GENERATED):
+            names.append(f"{folder}/{n}.image")
+            with open(names[-1], "w", encoding="ascii") as file:
+                file.write(image(rng))
+        with multiprocessing.Pool(4) as pool:
+            found = pool.map(compare, names, chunksize=20)
+    told = [text for texts, _ in found for text in texts]
+    orders = {}
+    for object_, kind, keys in sorted(set().union(*(kinds for _, kinds in found)), key=str):
+        if orders.setdefault((object_, kind), keys) != keys:
+            told.append(f"keys of {object_} {kind}: {keys} and {orders[object_, kind]}")
+    for text in told[:MOST_TOLD]:
+        print(text)
+    if told:
+        sys.exit(f"{len(told)} differences")
+
+
+main()
