@@ -94,18 +94,24 @@ fn push_named(alloc: Global, text: &mut String, area: &AreaView<'_>) -> Result<(
     push_field(alloc, text, area.fru_file_id(), "\n")
 }
 
+/// The line of an area without a fault.
+fn named(rt: &impl Abort, alloc: Global, area: Option<Result<AreaView<'_>, AreaFault>>) -> String {
+    let area = area.expect(rt, "an area").expect(rt, "an area");
+    let mut text = String::new(alloc);
+    push_named(alloc, &mut text, &area).expect(rt, "memory");
+    text
+}
+
 #[test]
 fn fields_have_names(rt: HostRuntime) {
     let alloc = rt.alloc();
     let bytes = bytes_of(&rt, alloc, NAMED);
     let inventory = FruView::read(&bytes).expect(&rt, "an inventory");
-    let areas = [inventory.chassis(), inventory.board(), inventory.product()];
-    let mut text = String::new(alloc);
-    for area in areas {
-        let area = area.expect(&rt, "an area").expect(&rt, "an area");
-        push_named(alloc, &mut text, &area).expect(&rt, "memory");
-    }
-    assert_text(&rt, Ok(text), NAMES, "fields");
+    let chassis = named(&rt, alloc, inventory.chassis());
+    let board = named(&rt, alloc, inventory.board());
+    let product = named(&rt, alloc, inventory.product());
+    let names = format!(in alloc; "{chassis}{board}{product}");
+    assert_text(&rt, names, NAMES, "fields");
 }
 
 #[test]
