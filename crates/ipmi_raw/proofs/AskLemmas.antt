@@ -1,4 +1,4 @@
--- A call that fails as the request that it sends does.
+-- A call fails with the failure of its request.
 use Rattle.std.proofs.Common.{◌≡◌, ℕ, ap, MatchBool, Some, Result, Ok, Err, List, subst, sym}
 use Rattle.ipmi_bus.specs.declared.code.Code.{Code}
 use Rattle.ipmi_bus.specs.Seen.{failing_code}
@@ -27,14 +27,14 @@ hears_failed {P} {K} {V} tool request Gives old new result code same heard gives
 
 -- ---- what was sent
 
--- the same, by equal numbers of the unit and equal texts
+-- the same exchange, for an equal unit and an equal text
 pub exchanged_as : {P : Type 0} (brings : Exchanges P) (old new : P) (lun lun' : ℕ) (text text' : List ℕ)
     (came : Result (Unit {0}) Lost) (reply : List ℕ) → lun ≡ lun' → text ≡ text'
     → brings old new lun text came reply → brings old new lun' text' came reply
 exchanged_as brings old new lun lun' text text' came reply same_lun same_text h =
     subst (λ (l : ℕ). brings old new l text' came reply) same_lun (subst (λ (t : List ℕ). brings old new lun t came reply) same_text h)
 
--- a failure that is counted afterwards sends nothing
+-- counting a failure afterwards sends nothing
 pub sends_counted : {P K : Type 0} (brings : Exchanges P) (tool : Tool) (request : Request)
     (old middle new : RawController P K) (came : Result (Unit {0}) Lost) → new.peer ≡ middle.peer
     → new.text ≡ middle.text → Exchanged brings tool request old middle came

@@ -1,4 +1,4 @@
--- Texts that FreeIPMI prints for no reply to a request.
+-- Texts that FreeIPMI does not print for any reply to a request.
 use Rattle.std.proofs.Common.{◌≡◌, ◌≢◌, ℕ, ◌<◌, ◌++◌, List, sym, ◌∙◌, arith, codes}
 use Rattle.std.proofs.lemmas.List.{append_cancel_left}
 use Rattle.ipmi_bus.specs.declared.controller.Shelf.{Shelf}
@@ -24,7 +24,7 @@ command_lt (InventorySize id) = omega arith
 command_lt (ReadInventory part) = omega arith
 command_lt (Reading lun number) = omega arith
 
--- a text that begins as that of a reply, and that no code and no bytes follow as they do in one
+-- a text that begins like a reply, but does not continue with a code and bytes
 pub no_reply : (request : Request) (text rest : List ℕ) → text ≢ codes "ipmi_cmd_raw: session timeout\n"
     → text ≡ codes "rcvd:" ++ rest
     → ((code : ℕ) (bytes : List ℕ) → code < 256 → AreData bytes

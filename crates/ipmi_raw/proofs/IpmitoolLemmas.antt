@@ -1,4 +1,4 @@
--- Completion codes as ipmitool prints them, and texts that it prints for no reply to a request.
+-- Completion codes in ipmitool's output, and texts that it does not print for any reply to a request.
 use Rattle.std.proofs.Common.{get_or, ◌≡◌, ◌≢◌, ◌⊎◌, inl, inr, ℕ, ◌-◌, ◌/◌, ◌%◌, ◌<◌, ◌≤◌, ◌++◌, true, false, None, Some, List, [], ◌∷◌, length, take, drop, slice_index, refl, sym, ap, ◌∙◌, arith, codes, nat_le, nat_eq, not, Bool, MatchBool}
 use Rattle.std.specs.List.{list_any}
 use Rattle.std.proofs.lemmas.Bool.{lt-ltb, le-ltb}
@@ -13,15 +13,15 @@ use Rattle.ipmi_raw.specs.Words.{digits, two_digits, number, ending, words_from,
 use Rattle.ipmi_raw.specs.Ipmitool.{refusal, IsMeaning, code_text, IsReplyText}
 use Rattle.ipmi_raw.proofs.WordLemmas.{digits_are, same_digit}
 
--- a digit of ipmitool's
+-- a hex digit in ipmitool's letter case
 abbrev pub digit : ℕ → ℕ
 digit value = slice_index (digits Ipmitool) value
 
--- a code with these digits, and what comes after it and the brackets' end
+-- the text after the digits of a code: the closing bracket, then `after`
 abbrev Closed : List ℕ → List ℕ
 Closed after = codes "): " ++ after
 
--- a code has one digit or two
+-- a code has one or two digits
 by_size : (code : ℕ) → ((code < 16) × (number Ipmitool code ≡ digit code ∷ [])) ⊎ ((16 ≤ code) × (number Ipmitool code ≡ two_digits Ipmitool code))
 by_size code = of (leb_tells 16 code)
   where
@@ -30,7 +30,7 @@ by_size code = of (leb_tells 16 code)
     of (inl is) = inr (is.1, rw (le-ltb code 16 is.1) refl)
     of (inr is) = inl (is.1, rw (lt-ltb code 16 is.1) refl)
 
--- no digit closes the brackets
+-- no digit is a closing bracket
 no_bracket : (value : ℕ) → value < 16 → digit value ≢ 41
 no_bracket value lt e =
     let none : hex_digit_value (digit value) ≡ None = ap hex_digit_value e in
@@ -63,7 +63,7 @@ no_code text rest first is short long code after lt e = of (by_size code)
         let others : rest ≡ digit (code % 16) ∷ Closed after = cc in
         long (code / 16) (code % 16) (omega (arith, size.0)) (omega arith) (omega arith) same after others
 
--- codes with the same text are the same
+-- codes with equal texts are equal
 pub same_code : (a b : ℕ) (xs ys : List ℕ) → a < 256 → b < 256
     → number Ipmitool a ++ (codes "): " ++ xs) ≡ number Ipmitool b ++ (codes "): " ++ ys) → (a ≡ b) × (xs ≡ ys)
 same_code a b xs ys lta ltb e = of (by_size a) (by_size b)
@@ -99,7 +99,7 @@ same_code a b xs ys lta ltb e = of (by_size a) (by_size b)
         let low : a % 16 ≡ b % 16 = same_digit Ipmitool (a % 16) (b % 16) (omega arith) (omega arith) lows in
         (omega arith, rests)
 
--- a text is of a code's meaning and the end, or of none
+-- a text is a code's meaning and the ending, or it is not for any meaning
 pub meaning_or_none : (text front : List ℕ) (has_feed : Bool) → text ≡ front ++ ending Ipmitool
     → has_feed ≡ list_any (λ byte. nat_eq byte 10) front
     → MatchBool (not has_feed)
@@ -111,7 +111,7 @@ meaning_or_none text front true e has = λ meaning is f.
     let both : true ≡ false = has ∙ (ap (list_any (λ byte. nat_eq byte 10)) same ∙ is) in
     cc
 
--- a text that begins as the tool's refusal of the request, and goes on as in none
+-- a text that begins like the tool's message for a failed request, but does not continue like one
 pub no_reply : (request : Request) (text rest : List ℕ)
     → ((bytes : List ℕ) → AreData bytes → text ≢ words_from Ipmitool 0 bytes)
     → text ≡ refusal request ++ rest → rest ≢ codes ")\n. \n"
@@ -124,7 +124,7 @@ no_reply request text rest no_data begins heard none (Refused code) is =
 no_reply request text rest no_data begins heard none Silent is =
     heard (append_cancel_left (refusal request) rest (codes ")\n. \n") (sym begins ∙ is))
 
--- a text that does not begin as the tool's refusal of the request, and is not of data
+-- a text that does not begin like the tool's message for a failed request, and is not of data
 pub no_front : (request : Request) (text front : List ℕ)
     → ((bytes : List ℕ) → AreData bytes → text ≢ words_from Ipmitool 0 bytes)
     → front ≡ refusal request → ((rest : List ℕ) → text ≢ front ++ rest)
@@ -135,7 +135,7 @@ no_front request text front no_data is none (Refused code) of =
 no_front request text front no_data is none Silent of =
     none (codes ")\n. \n") (of ∙ ap (λ (xs : List ℕ). xs ++ codes ")\n. \n") (sym is))
 
--- a code that does not refuse
+-- code 00h is not a failure
 pub no_zero : (rest coded after : List ℕ) (found : ℕ) → rest ≡ codes " rsp=0x" ++ coded
     → coded ≡ number Ipmitool found ++ (codes "): " ++ after) → found < 256 → found ≡ 0
     → (code : ℕ) (meaning : List ℕ) → 0 < code → code < 256 → IsMeaning meaning → rest ≢ codes " rsp=0x" ++ code_text code meaning
@@ -144,7 +144,7 @@ no_zero rest coded after found begins is lt zero code meaning some lt2 means e =
     let both = same_code found code after (meaning ++ ending Ipmitool) lt lt2 (sym is ∙ same) in
     absurd (omega (arith, both.0, zero, some))
 
--- a zero before another digit, or alone and not before the brackets' end
+-- a zero that is followed by another digit, or by anything but the closing bracket
 pub no_zero_first : (text : List ℕ) (high : ℕ) → 1 ≤ length text → high ≡ 0 → digit high ≡ get_or text 0 0
     → ((rest : List ℕ) → take (length text - 1) (drop 1 text) ≢ codes "): " ++ rest)
     → (code : ℕ) (after : List ℕ) → code < 256 → text ≢ number Ipmitool code ++ (codes "): " ++ after)

@@ -1,4 +1,4 @@
--- A text is of at most one reply.
+-- A text represents at most one reply.
 use Rattle.std.proofs.Common.{◌⊎◌, inl, inr, ◌≡◌, ◌≢◌, Bool, true, false, cond, ℕ, ◌+◌, ◌<◌, ◌&&◌, ◌==◌, nat_lt, ◌%◌, ◌++◌, List, [], ◌∷◌, refl, sym, ap, ◌∙◌, arith, codes}
 use Rattle.std.proofs.lemmas.List.{append_cancel_left}
 use Rattle.std.proofs.lemmas.List.Elements.{All-tail}
@@ -22,12 +22,12 @@ no_word_after : (breaks : Bool) (byte : ℕ) (rest : List ℕ) → ending Ipmito
 no_word_after true byte rest e = absurd (unequal 46 32 (inr (omega arith)) cc)
 no_word_after false byte rest e = absurd (unequal 10 32 (inl (omega arith)) cc)
 
--- the end is no word
+-- the ending does not begin with a word
 no_word_at_end : (tool : Tool) (i byte : ℕ) (rest : List ℕ) → ending tool ≢ break_before tool i ++ (word tool byte ++ rest)
 no_word_at_end Ipmitool i byte rest e = no_word_after (nat_lt 0 i && (i % 16 == 0)) byte rest e
 no_word_at_end FreeIpmi i byte rest e = cc
 
--- texts of words that are the same are of the same bytes
+-- equal texts of words have equal bytes
 same_words : (tool : Tool) (i : ℕ) (xs ys : List ℕ) → AreBytes xs → AreBytes ys → words_from tool i xs ≡ words_from tool i ys → xs ≡ ys
 same_words tool i [] [] are are2 e = refl
 same_words tool i [] (y ∷ ys) are are2 e = absurd (no_word_at_end tool i y (words_from tool (i + 1) ys) e)

@@ -1,4 +1,4 @@
--- An exchange over the streams of one of the units, which are taken out and put back.
+-- An exchange over the streams of one unit. The streams are taken out and then put back.
 use Rattle.std.proofs.Common.{◌≡◌, ◌<◌, ◌==◌, if◌then◌else◌, ℕ, Bool, true, false, Option, None, Some, IfSome, IsSome, Result, Ok, Err, OnOk, List, refl, subst, ap, ◌∙◌}
 use Rattle.std.specs.Io.KnownBytes.{Appends, Consumes}
 use Rattle.ipmi_raw.specs.declared.peer.Lost.{Lost}
@@ -6,7 +6,7 @@ use Rattle.ipmi_raw.specs.declared.piped.Units.{Units}
 use Rattle.ipmi_raw.specs.declared.streams.Streams.{Streams}
 use Rattle.ipmi_raw.specs.Piped.{IsExchange, IsOverUnit, Known, streams_of, with_streams}
 
--- what was put in last is there
+-- the streams put in last are there
 last_put : {R W : Type 0} (unit : ℕ) (one other : Option (Streams R W)) (units : Units R W)
     → with_streams unit other (with_streams unit one units) ≡ with_streams unit other units
 last_put {R} {W} unit one other units = of (unit == 0) (unit == 1) (unit == 2) (unit == 3)
@@ -27,7 +27,7 @@ opens : {S : Type 0} (unit : ℕ) (s : S) (came : Result (Unit {0}) Lost) → un
 opens unit s (Ok done) lt = (lt, refl)
 opens unit s (Err lost) lt = tt
 
--- these were given back, and those had been open
+-- `one` are the streams returned, and `other` were already open: they are equal
 abbrev Gives : {R W : Type 0} → Streams R W → Streams R W → Type 0
 Gives {R} {W} one other = ◌≡◌ {A = Result (Streams R W) Lost} (Ok one) (Ok other)
 

@@ -1,4 +1,4 @@
--- The reply that is read of a text is the one that an honest peer means.
+-- The reply read from a text is the one that an honest peer gave.
 use Rattle.std.proofs.Common.{◌≡◌, ℕ, true, List, Result, Ok, Err, is_err, subst}
 use Rattle.ipmi_bus.specs.Seen.{Seen}
 use Rattle.ipmi_raw.specs.declared.reply.Reply.{Reply}
@@ -16,7 +16,7 @@ one_reply : (tool : Tool) (request : Request) (one other : Reply) (text : List �
 one_reply Ipmitool request one other text is too = one_reply_of_ipmitool request one other text is too
 one_reply FreeIpmi request one other text is too = one_reply_of_freeipmi request one other text is too
 
--- it has data of the right length, and is an honest controller's answer
+-- its data has the right length, and it is the answer of an honest controller
 pub means : (tool of_peer : Tool) (request : Request) (reply : Reply) (text : List ℕ) (s t : Seen) → tool ≡ of_peer
     → IsReplyText tool request reply text → Replies of_peer request text s t
     → IsDataIfAny request (given request reply) × IsAnswer request (given request reply) s t
@@ -25,22 +25,22 @@ means tool of_peer request reply text s t same_tool is meant =
     one_reply of_peer request meant.reply reply text meant.text_is (subst (λ (x : Tool). IsReplyText x request reply text) same_tool is) in
     subst (λ (x : Reply). IsDataIfAny request (given request x) × IsAnswer request (given request x) s t) same (meant.fits, meant.answers)
 
--- ---- replies that are not heard
+-- ---- no usable reply
 
--- none came
+-- no reply came
 pub no_reply : (tool : Tool) (request : Request) (came : Result (Unit {0}) Lost) (text : List ℕ) → is_err came ≡ true
     → IsUnheard tool request came text
 no_reply tool request (Err lost) text e = tt
 no_reply tool request (Ok done) text e = cc
 
--- the text is of no reply
+-- the text is not of a reply
 pub unread : (tool of_peer : Tool) (request : Request) (came : Result (Unit {0}) Lost) (text text' : List ℕ) → tool ≡ of_peer
     → text ≡ text' → ((reply : Reply) → ¬ IsReplyText tool request reply text) → IsUnheard of_peer request came text'
 unread tool of_peer request (Err lost) text text' same_tool same_text none = tt
 unread tool of_peer request (Ok done) text text' same_tool same_text none = λ reply is fits.
     none reply (rw same_tool (rw same_text is))
 
--- it is of one whose data has a wrong length
+-- the text is of a reply with data of a wrong length
 pub unfit : (tool of_peer : Tool) (request : Request) (came : Result (Unit {0}) Lost) (reply : Reply) (text text' : List ℕ)
     → tool ≡ of_peer → text ≡ text' → IsReplyText tool request reply text → ¬ IsDataIfAny request (given request reply)
     → IsUnheard of_peer request came text'

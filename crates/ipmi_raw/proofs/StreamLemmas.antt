@@ -1,4 +1,4 @@
--- Where a tool has printed all of a reply, as it is read byte by byte.
+-- The end of a reply in a tool's output, which is read byte by byte.
 use Rattle.std.proofs.Common.{inl, inr, ◌≡◌, ◌≢◌, ℕ, Bool, true, false, nat_eq, ◌++◌, List, refl, codes, MatchBool}
 use Rattle.std.specs.List.{ends_with}
 use Rattle.std.proofs.lemmas.Bool.Decides.{Decides-eqb}

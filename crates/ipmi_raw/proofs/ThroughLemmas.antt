@@ -1,4 +1,4 @@
--- What the answers of a controller at the other end of a peer say of it, they say of the one that asks through the peer.
+-- The answers of a controller at the other end of a peer are also the answers of the controller over that peer.
 use Rattle.std.proofs.Common.{◌≡◌, ℕ, ◌+◌, ◌<◌, ◌==◌, Bool, true, false, Option, Some, None, Result, Ok, Err, IsOk, MatchOption, List, length, drop, refl, ◌∙◌}
 use Rattle.ipmi_bus.specs.declared.code.Code.{Code}
 use Rattle.ipmi_bus.specs.declared.code.CodeClass.{CodeClass}
@@ -116,7 +116,7 @@ gives_piece ask part into s t c d row h = record {
   counts = counts (ask.offset + part.got == length row.bytes) s t c d h.counts;
 }
 
--- what a plain controller owes for a part
+-- the duty of a plain controller for a part
 abbrev OwesPart : Asked → Result Part Code → Seen → Type 0
 OwesPart ask result s = MatchOption (look (rows_of ask.shelf s.store) ask.id) (result ≡ Err not_present)
     (λ row. ask.offset < length row.bytes

@@ -1,4 +1,4 @@
--- Words of a text, read one after the other.
+-- Reads the words of a text one after the other.
 use Rattle.std.proofs.Common.{◌≡◌, ◌≢◌, Bool, true, false, nat_eq, ℕ, ◌+◌, ◌/◌, ◌%◌, ◌<◌, ◌≤◌, ◌++◌, Some, List, [], ◌∷◌, length, slice_index, refl, sym, ap, subst, ◌∙◌, append-nil, arith}
 use Rattle.std.proofs.lemmas.List.{append_assoc, append_cancel_left, length-append}
 use Rattle.std.proofs.lemmas.List.Elements.{All-tail}
@@ -12,7 +12,7 @@ use Rattle.ipmi_raw.specs.declared.tool.Tool.{Tool}
 use Rattle.ipmi_raw.specs.declared.tool.Tool.TheVariants.{Ipmitool, FreeIpmi}
 use Rattle.ipmi_raw.specs.Words.{digits, word, break_before, ending, words_from, AreData}
 
--- what `==` says of two texts
+-- the meaning of `==` on two texts
 pub agree : (xs ys : List ℕ) (r : Bool) → r ≡ pointwise nat_eq xs ys → r ≡ true → xs ≡ ys
 agree xs ys r says is = (slice_eq-Decides Decides-eqb xs ys r says).0 is
 
@@ -40,8 +40,8 @@ same_word tool a b xs ys lta ltb e =
     let same_low : a % 16 ≡ b % 16 = same_digit tool (a % 16) (b % 16) (omega arith) (omega arith) low in
     (omega arith, rest)
 
--- the bytes are read from the text, and `rest` is left of it: what the rest says is what the text says after them, and
--- nothing else
+-- the bytes were read from the text, and `rest` is the rest of it: the text consists of the words of these bytes, then those of
+-- the rest
 pub record IsReadTo (tool : Tool) (text bytes rest : List ℕ) : Type 0 where
   pub whole : (more : List ℕ) → words_from tool (length bytes) more ≡ rest → words_from tool 0 (bytes ++ more) ≡ text
   pub only : (all : List ℕ) → AreBytes all → words_from tool 0 all ≡ text

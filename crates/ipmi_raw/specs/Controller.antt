@@ -45,22 +45,22 @@ abbrev pub Exchanged : {P K : Type 0} → Exchanges P → Tool → Request → R
 Exchanged brings tool request old new came =
     brings old.peer new.peer (lun_of request) (request_text tool request) came new.text.items
 
--- no reply came, or what came is the text of no reply to the request whose data, if it has any, has the right length
+-- no reply came, or the received text is not of a reply to the request with data of the right length
 abbrev pub IsUnheard : Tool → Request → Result (Unit {0}) Lost → List ℕ → Type 0
 IsUnheard tool request (Err lost) text = ⊤
 IsUnheard tool request (Ok done) text =
     (reply : Reply) → IsReplyText tool request reply text → ¬ IsDataIfAny request (given request reply)
 
--- What a call sends, over any peer: if the connection was not lost before it, the request. If it lasts, a reply came, and if it
--- does not, none that can be heard.
+-- A call sends its request over any peer, unless the connection was already lost. If the connection is lost afterwards, no usable
+-- reply came; otherwise a reply came.
 abbrev pub Sends : {P K : Type 0} → Exchanges P → Tool → Request → RawController P K → RawController P K → Type 0
 Sends brings tool request old new = old.is_lost ≡ false
     → (came : Result (Unit {0}) Lost) × Exchanged brings tool request old new came
     × MatchBool new.is_lost (IsUnheard tool request came new.text.items) (came ≡ Ok tt)
 
--- What a call hears, over any peer. While the connection lasts, the text that came is of a reply to the request, with data of the
--- right length, and the call gives what this says. If it is lost after the call, the call fails with FFh. If it was lost before,
--- nothing is sent, and nothing but counts changes. The clock and the pause always stay.
+-- The result of a call over any peer. If the connection is not lost, the received text is of a reply to the request, with data of
+-- the right length, and the call returns what that reply says. If it is lost after the call, the call fails with FFh. If it was
+-- lost before, nothing is sent, and only counts change. The clock and the pause never change.
 pub record Hears {P K : Type 0} (tool : Tool) (request : Request) (Gives : Result (List ℕ) Code → Type 0) (old new : RawController P K)
     (failure : Option ℕ) : Type 0 where
   pub lasts : new.is_lost ≡ false → (reply : Reply) × IsReplyText tool request reply new.text.items

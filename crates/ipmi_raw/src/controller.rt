@@ -1,4 +1,4 @@
-//! A management controller behind a peer.
+//! A management controller that is asked through a peer.
 ghost use Rattle.std.specs.Prelude.{None, Result, Ok, ◌≡◌, ◌+◌, ◌<◌, ◌≤◌, IfSome, MatchOption, IfOk, OnErr, false, length, take, drop, option_map};
 ghost use Rattle.ipmi_bus.specs.Counts.{Counts};
 ghost use Rattle.ipmi_bus.specs.Shelf.{id_in};
@@ -25,7 +25,7 @@ const CONNECTION_LOST: Code = Code(0xFF);
 /// The reservation number for a controller without reservations, as bytes of a reply.
 const NO_RESERVATION: [u8; 2] = [0; 2];
 
-/// A management controller behind a peer.
+/// A management controller that is asked through a peer.
 ///
 /// The connection is lost if the peer reports that, or if its text is not a reply to the request. From then on
 /// nothing is sent, and each call fails with FFh.
@@ -44,7 +44,7 @@ pub struct RawController<P, K> {
 }
 
 impl<P: Peer, K: Clock> RawController<P, K> {
-    /// The controller behind the peer.
+    /// The controller at the other end of the peer.
     pub fn new(peer: P, clock: K, pause: Duration) -> RawController<P, K>
         ensures seen { seen_of P.seen result ≡ seen_through (P.seen peer) zero_counts false }
         ensures lost { last_words result ≡ None }

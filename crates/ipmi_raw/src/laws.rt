@@ -10,7 +10,7 @@ pub fn one_reply_of_a_text()
     ensures freeipmi { OneReply freeipmi_text.IsReplyText }
 {}
 
-/// In ipmitool's output of data each byte is at its place, and there is nothing else.
+/// In ipmitool's output of data each byte is at its position, and there is nothing else.
 #[tactic(auto, using(crate::proofs::PlaceLemmas::bytes_at_places, crate::proofs::PlaceLemmas::bytes_are_all))]
 pub fn bytes_stand_at_their_places()
     ensures places { BytesStandAtPlaces }

@@ -21,7 +21,7 @@ const FIRST_REQUEST: &[u8] = b"raw 0x06 0x01\necho .\n";
 /// The last logical unit that a message has room for (IPMI v2.0, section 7.2).
 const LAST_UNIT: u8 = 3;
 
-/// What opens the streams of a tool.
+/// Opens the streams of a tool.
 pub trait Open {
     /// The tool's output. It is read byte by byte.
     type Replies: Read + Drop;
@@ -42,7 +42,7 @@ struct Units<R, W> {
 }
 
 impl<R: Drop, W: Drop> Units<R, W> {
-    /// Puts these in the place of the streams of a unit, and gives what was there. A unit above 3 has none.
+    /// Replaces the streams of a unit, and returns the old ones. A unit above 3 has none.
     fn replace(&mut self, unit: u8, streams: Option<Streams<R, W>>) -> Option<Streams<R, W>>
         ensures was { result ≡ streams_of unit self.old }
         ensures now { self.new ≡ with_streams unit streams self.old }
@@ -90,7 +90,7 @@ impl<O: Open> Piped<O> {
     }
 }
 
-/// The unit whose streams have a request to this logical unit.
+/// The unit whose streams carry a request to this logical unit.
 fn unit_of(tool: Tool, lun: u8) -> u8
     ensures { result ≡ unit_of tool lun }
 {
@@ -100,8 +100,8 @@ fn unit_of(tool: Tool, lun: u8) -> u8
     }
 }
 
-/// The streams of the tool that sends requests to the unit, which are opened if they are not. `reply` gets what ipmitool prints
-/// as it opens its session.
+/// The streams of the tool that sends requests to the unit. Opens them if they are not open. Then `reply` receives what
+/// ipmitool prints when it opens its session.
 fn opened<O: Open>(
     streams: Option<Streams<O::Replies, O::Requests>>,
     opener: &mut O,

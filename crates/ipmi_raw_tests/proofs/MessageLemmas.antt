@@ -7,7 +7,7 @@ use Rattle.ipmi_raw.specs.declared.tool.Tool.{Tool}
 use Rattle.ipmi_raw.specs.Words.{bytes_after, two_digits}
 use Rattle.ipmi_raw.proofs.WordLemmas.{same_word}
 
--- the bytes were read, and the rest of the text is left: what the text has is these, and then what the rest has
+-- the text consists of the bytes read so far and those of the rest
 pub record IsReadTo (tool : Tool) (before end text bytes rest : List ℕ) : Type 0 where
   pub only : (all : List ℕ) → AreBytes all → text ≡ bytes_after tool before all ++ end
       → (more : List ℕ) × (all ≡ bytes ++ more) × AreBytes more × (rest ≡ bytes_after tool before more ++ end)
@@ -39,7 +39,7 @@ read_all tool before end text bytes rest r at all are e =
     let o = r.only all are e in
     no_more tool before end bytes rest all o.0 at o.1 o.3
 
--- a byte more is read, or there is none
+-- one more byte is read, or there is none
 one_more : (tool : Tool) (before end bytes rest all more : List ℕ) → rest ≢ end → all ≡ bytes ++ more → AreBytes more
     → rest ≡ bytes_after tool before more ++ end
     → (byte : ℕ) × (next : List ℕ) × (more ≡ byte ∷ next) × (byte < 256) × AreBytes next

@@ -1,4 +1,4 @@
--- Texts that refuse a request.
+-- Texts with a completion code other than 00h.
 use Rattle.std.proofs.Common.{◌≡◌, ◌<◌, ℕ, ◌++◌, List, [], refl, ◌∙◌, arith, codes}
 use Rattle.std.proofs.lemmas.List.{append_assoc}
 use Rattle.std.proofs.lemmas.List.Elements.{All-nil}

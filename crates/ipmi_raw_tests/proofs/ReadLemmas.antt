@@ -1,4 +1,4 @@
--- A reply to the request as a controller reads it is one to the request.
+-- A reply to a request as the controller reads it is a reply to the original request.
 use Rattle.std.proofs.Common.{◌≡◌, ◌<◌, ◌≤◌, ◌+◌, ◌==◌, ◌&&◌, nat_le, if◌then◌else◌, ℕ, ◌%◌, ◌/◌, ◌*◌, Some, None, Ok, Err, Result, List, [], drop, refl, sym, subst, arith}
 use Rattle.std.proofs.lemmas.Bool.Decides.{nat_tests}
 use Rattle.ipmi_bus.specs.declared.code.Code.{Code}
@@ -25,7 +25,7 @@ use Rattle.ipmi_raw.specs.Request.{for_shelf, IsRequest, lun_of, message_of}
 use Rattle.ipmi_raw_tests.specs.Asked.{asked_by, of_eight}
 use Rattle.ipmi_raw_tests.specs.Replied.{IsReply}
 
--- the request as the controller reads it, which does not see how many bytes more than a whole entry were asked for
+-- the request as the controller reads it; a count for a whole log entry, or more, is read as a whole entry
 abbrev pub as_read : Request → Request
 as_read (Reserve shelf) = Reserve shelf
 as_read (Get part) =
@@ -75,7 +75,7 @@ answers_more shelf reservation id offset few more (Err code) into s t le h = rec
   plain = h.plain;
 }
 
--- a reply to a request for fewer bytes is one to a request for more
+-- a reply to a request for fewer bytes is also a reply to a request for more
 pub reply_more : (part : RecordPart) (few : ℕ) (reply : Reply) (s t : Seen) → few ≤ part.count
     → IsReply (Get (record part { count = few })) reply s t → IsReply (Get part) reply s t
 reply_more part few (Data bytes) s t le h = (
@@ -105,7 +105,7 @@ reply_as_read (InventorySize id) reply s t is = is
 reply_as_read (ReadInventory part) reply s t is = is
 reply_as_read (Reading lun number) reply s t is = is
 
--- its text is one of the other
+-- the text for the one request is also a text for the other
 pub text_as_read : (tool : Tool) (sent : Request) (reply : Reply) (text : List ℕ) → IsReplyText tool (as_read sent) reply text
     → IsReplyText tool sent reply text
 text_as_read tool (Reserve shelf) reply text is = is
@@ -120,7 +120,7 @@ text_as_read tool (InventorySize id) reply text is = is
 text_as_read tool (ReadInventory part) reply text is = is
 text_as_read tool (Reading lun number) reply text is = is
 
--- ---- what a message asks for
+-- ---- the request of a message
 
 number_is : (n : ℕ) → n % 256 + 256 * (n / 256) ≡ n
 number_is n = omega arith

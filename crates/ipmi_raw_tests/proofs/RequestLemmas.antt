@@ -1,4 +1,4 @@
--- The bytes of the message of a request, and the request that they ask for.
+-- The bytes of a request's message, and the request read from them.
 use Rattle.std.proofs.Common.{◌≡◌, ◌<◌, ◌≤◌, ◌==◌, ◌&&◌, nat_le, if◌then◌else◌, ℕ, ◌%◌, ◌/◌, Bool, true, false, List, [], ◌∷◌, ◌++◌, length, sym, ap, ◌∙◌, codes, arith}
 use Rattle.std.proofs.lemmas.List.{append_cancel_left}
 use Rattle.std.proofs.lemmas.List.Elements.{All-nil, All-cons}
@@ -74,7 +74,7 @@ lun_lt (InventorySize id) is = omega arith
 lun_lt (ReadInventory part) is = omega arith
 lun_lt (Reading lun number) is = is.0
 
--- ---- the text of a request, as it is read
+-- ---- reading the text of a request
 
 pub rest_of_ipmitool : (sent : Request) (text rest : List ℕ) → request_text Ipmitool sent ≡ text → text ≡ codes "raw" ++ rest
     → rest ≡ bytes_after Ipmitool (codes " 0x") (message_of sent) ++ codes "\necho .\n"

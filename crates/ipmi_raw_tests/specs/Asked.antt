@@ -1,11 +1,11 @@
--- The request that a message asks for, as a controller reads it.
+-- The request of a message, as a controller reads it.
 use Rattle.std.specs.Prelude.{ℕ, ◌+◌, ◌*◌, ◌==◌, ◌&&◌, nat_lt, if◌then◌else◌, Option, Some, None, List, [], ◌∷◌}
 use Rattle.ipmi_bus.specs.declared.controller.Shelf.{Shelf}
 use Rattle.ipmi_bus.specs.declared.controller.Shelf.TheVariants.{Sdr, Sel}
 use Rattle.ipmi_raw.specs.declared.request.Request.{Request}
 use Rattle.ipmi_raw.specs.declared.request.Request.TheVariants.{Reserve, Get, Info, InventorySize, ReadInventory, Reading}
 
--- of a network function and a command alone
+-- with a network function and a command only
 abbrev pub of_two : ℕ → ℕ → Option Request
 of_two function command =
     if (function == 0x0A) && (command == 0x20) then Some (Info Sdr)
@@ -21,21 +21,21 @@ of_three lun function command number =
     else if (function == 0x04) && (command == 0x2D) then Some (Reading lun number)
     else None
 
--- with four
+-- with four bytes of data
 abbrev pub of_six : ℕ → ℕ → ℕ → ℕ → ℕ → Option Request
 of_six function command id offset count =
     if (function == 0x0A) && ((command == 0x11) && (nat_lt 0 count && nat_lt count 255))
     then Some (ReadInventory (record { id = id; offset = offset; count = count }))
     else None
 
--- a part of a record
+-- for a part of a record
 abbrev pub part_of : Shelf → ℕ → ℕ → ℕ → ℕ → Option Request
 part_of shelf reservation id offset count =
     if nat_lt 0 count && nat_lt count 255
     then Some (Get (record { shelf = shelf; reservation = reservation; id = id; offset = offset; count = count }))
     else None
 
--- with six: FFh asks for the sixteen bytes of a whole entry of the event log
+-- with six bytes of data: FFh asks for the sixteen bytes of a whole event log entry
 abbrev pub of_eight : ℕ → ℕ → ℕ → ℕ → ℕ → ℕ → Option Request
 of_eight function command reservation id offset count =
     if (function == 0x0A) && (command == 0x23) then part_of Sdr reservation id offset count
@@ -43,7 +43,7 @@ of_eight function command reservation id offset count =
     then part_of Sel reservation id offset (if (offset == 0) && (count == 0xFF) then 16 else count)
     else None
 
--- a number of two bytes
+-- a two-byte number
 abbrev pub number : ℕ → ℕ → ℕ
 number low high = low + 256 * high
 

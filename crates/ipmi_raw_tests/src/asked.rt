@@ -1,4 +1,4 @@
-//! The request that a message asks for.
+//! The request of a message.
 ghost use Rattle.std.specs.Prelude.{◌≡◌, IfSome};
 ghost use Rattle.ipmi_raw.specs.Request.{IsRequest};
 ghost use Rattle.ipmi_raw_tests.specs.Asked.{asked_by, of_eight, of_six, of_three, of_two, part_of};
@@ -106,7 +106,7 @@ fn of_eight(
     None
 }
 
-/// The request that a message to a logical unit asks for.
+/// The request of a message to a logical unit.
 pub fn asked_by(lun: u8, message: &[u8]) -> Option<Request>
     ensures is { result ≡ asked_by lun message.now }
     ensures sound { IfSome result (λ asked. IsRequest asked) }

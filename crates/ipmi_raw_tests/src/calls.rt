@@ -19,7 +19,7 @@ pub enum Call {
 /// The most bytes that a test asks for.
 const ROOM: usize = 32;
 
-/// Bytes of a record after the id of the next one.
+/// The id of the next record, then bytes of a record.
 fn part<C: Controller>(
     rt: &impl Abort,
     alloc: Global,
@@ -49,7 +49,7 @@ fn fru_part<C: Controller>(
     Ok(hex::encode(alloc, &into[..usize::from(got)]).expect(rt, "memory"))
 }
 
-/// Makes the call, and gives its result as a text.
+/// Makes the call, and returns its result as a text.
 fn answer<C: Controller>(
     rt: &impl Abort,
     alloc: Global,

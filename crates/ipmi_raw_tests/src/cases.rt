@@ -1,4 +1,4 @@
-//! The replies that are read of a text.
+//! The replies read from texts.
 use ipmi_bus::Shelf;
 use ipmi_raw::{RecordPart, Reply, Request};
 use std::alloc::Global;
@@ -22,7 +22,7 @@ pub fn get_sdr() -> Request {
     })
 }
 
-/// The reply in a text.
+/// Reads the reply in a text.
 fn read(reader: Reader, request: Request, text: &[u8]) -> Option<Reply> {
     match reader {
         Reader::Ipmitool => ipmi_raw::ipmitool::read_reply(request, text),

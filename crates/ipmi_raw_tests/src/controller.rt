@@ -1,4 +1,4 @@
-//! Calls of a controller behind a tool, in both dialects. The numbers are those of the tables of IPMI v2.0.
+//! Calls of a controller that is asked through a tool, in both dialects. The numbers are from the tables of IPMI v2.0.
 use crate::calls::{Call, assert_call};
 use crate::tools::{Script, Sleeper, controller};
 use ipmi_bus::Shelf;
@@ -7,7 +7,7 @@ use std::alloc::Global;
 use std::cell::Cell;
 use std::process::Abort;
 
-/// The outcome of a call: its result, what the tool said if the connection is lost, and the milliseconds of sleep.
+/// The outcome of a call: its result, the tool's last output if the connection is lost, and the milliseconds of sleep.
 type Outcome<'s> = (&'s str, Option<&'s str>, u128);
 
 /// Asserts the outcome of a call through a tool with this script.
@@ -32,7 +32,7 @@ fn assert_call_through(
     assert!(rt; sleeper.0.get() == slept, "{call:?} gives {wanted}: sleeps");
 }
 
-/// `(call, (what ipmitool is sent, what it prints), (what FreeIPMI's tool is sent, what it prints), result)`.
+/// `(call, (ipmitool's input, its output), (input of FreeIPMI's tool, its output), result)`.
 const CALLS: &[(Call, (&str, &str), (&str, &str), &str)] = &[
     (
         Call::Reserve(Shelf::Sdr),
@@ -206,7 +206,7 @@ const REFUSALS: &[(Call, &str, &str, u128)] = &[
     (Call::FruPart(7, 4), "81", "81", 500),
 ];
 
-/// The line that asks FreeIPMI's tool for the call, and the command byte in its reply.
+/// The line that makes FreeIPMI's tool send the request, and the command byte in its reply.
 fn line_of(call: Call) -> (&'static str, &'static str) {
     match call {
         Call::Reserve(Shelf::Sdr) => ("00 0A 22\n", "22"),

@@ -1,4 +1,4 @@
-//! What `ipmi-raw` of FreeIPMI prints for replies to Get SDR.
+//! The output of FreeIPMI's `ipmi-raw` for replies to Get SDR.
 use crate::cases::{Reader, assert_replies, assert_reply, get_sdr};
 use std::alloc::Global;
 use std::process::Abort;

@@ -1,4 +1,4 @@
-//! What `ipmitool exec` prints for replies to Get SDR, and for its mark.
+//! The output of `ipmitool exec` for replies to Get SDR, with the end mark.
 use crate::cases::{Reader, assert_replies, assert_reply, get_sdr};
 use ipmi_raw::Request;
 use std::alloc::Global;

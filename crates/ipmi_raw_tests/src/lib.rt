@@ -1,5 +1,5 @@
-//! Tests of ipmi_raw: the texts of requests and replies in both dialects, and controllers behind them. One controller
-//! is behind tools that a test plays. Another is behind a tool in memory over an image, and is proved honest.
+//! Tests of ipmi_raw: the texts of requests and replies in both dialects, and controllers that are asked through them. For
+//! one controller the tests play the tools. For another the tool is in memory, over an image, and is proved honest.
 #![tactic(auto)]
 
 mod answer;

@@ -1,4 +1,4 @@
-//! Commands over an image behind a tool, in both dialects. Each prints the same as over the image.
+//! Commands over an image that is asked through a tool, in both dialects. Each prints the same as over the image itself.
 use crate::calls::{Call, assert_call};
 use crate::memory::controller_over;
 use crate::tools::Sleeper;
@@ -28,7 +28,7 @@ info sel 510300000401000020ffffffff02
 end
 ";
 
-/// The words, split at commas, then what they print.
+/// The words, split at commas, then the expected output.
 const LISTINGS: &str = "sdr,list,all
 CPU Temp         | 45 degrees C      | ok
 PSU1             | FRU 1             | na
@@ -89,7 +89,7 @@ fn command(rt: &impl Abort, alloc: Global, line: &str) -> Command {
     command
 }
 
-/// Asserts what a command prints over the image behind the tool.
+/// Asserts the output of a command over the image, asked through the tool.
 fn assert_output(rt: &impl Abort, alloc: Global, tool: Tool, line: &str, wanted: &str) {
     let image = Image::read(alloc, IMAGE.as_bytes()).expect(rt, "an image");
     let sleeper = Sleeper(Cell::new(0));

@@ -1,4 +1,4 @@
-//! A peer in memory: a tool whose controller is an image.
+//! A peer in memory: a tool over an image.
 ghost use Rattle.std.specs.Prelude.{◌≡◌, ⊤};
 ghost use Rattle.ipmi_image.specs.Controllers.{seen_of};
 ghost use Rattle.ipmi_bus.specs.Seen.{IsPlain};
@@ -12,7 +12,7 @@ use ipmi_image::{Image, ImageController};
 use ipmi_raw::{Lost, Peer, RawController, ReplyText, Tool};
 use std::time::{Clock, Duration};
 
-/// A tool whose controller is an image. It reads the text of each request, and prints the text of the reply.
+/// A tool over an image. It reads the text of each request, and prints the text of the reply.
 #[derive(Drop)]
 pub struct MemoryPeer {
     tool: Tool,
@@ -58,8 +58,8 @@ impl Peer for MemoryPeer {
     }
 }
 
-/// A controller behind a tool over the image. It is plain and has the image's store. So all that is promised of a
-/// listing over a plain controller is promised here, through requests and replies as texts.
+/// A controller that is asked through a tool over the image. It is plain and has the image's store, so all promises for
+/// listings over a plain controller hold here too, with requests and replies as texts.
 pub fn controller_over<K: Clock>(tool: Tool, image: Image, clock: K) -> RawController<MemoryPeer, K>
     ensures plain { IsPlain (⟦<RawController<MemoryPeer, K> as Controller>⟧.seen result) }
     ensures store { (⟦<RawController<MemoryPeer, K> as Controller>⟧.seen result).store ≡ image }

@@ -1,4 +1,4 @@
-//! The message of a request, read from the text that a tool is sent.
+//! The message of a request, read from the input of a tool.
 ghost use Rattle.std.specs.Prelude.{ℕ, List, ◌≡◌, ◌≤◌, ◌++◌, MatchOption, length};
 ghost use Rattle.ipmi_text.specs.Bytes.{AreBytes};
 ghost use Rattle.ipmi_raw.specs.Peer.{request_text};
@@ -16,7 +16,7 @@ const LARGEST_MESSAGE_LEN: usize = 8;
 /// Network function, command and data.
 pub type Message = ArrayVec<u8, LARGEST_MESSAGE_LEN>;
 
-/// The bytes in a text, with the same word before the digits of each.
+/// Reads the bytes in a text. The same text comes before the digits of each.
 fn read_bytes(tool: Tool, before: &[u8], end: &[u8], text: &[u8]) -> Option<Message>
     ensures { (bytes : List ℕ) → length bytes ≤ 8 → AreBytes bytes → text.now ≡ bytes_after tool before.now bytes ++ end.now →
         MatchOption result ⊥ (λ message. message.items ≡ bytes) }

@@ -1,4 +1,4 @@
-//! What a tool prints of a reply.
+//! A tool's output for a reply.
 ghost use Rattle.std.specs.Prelude.{◌≡◌, ◌+◌, ◌-◌, ◌*◌, ◌/◌, ◌≤◌, [], ◌++◌, codes, length};
 ghost use Rattle.ipmi_raw.specs.FreeIpmi.{received};
 ghost use Rattle.ipmi_raw.specs.Ipmitool.{refusal};
@@ -35,7 +35,7 @@ fn push_word(tool: Tool, text: &mut ReplyText, byte: u8)
     );
 }
 
-/// Appends what is printed before the word with this number.
+/// Appends the text before the word with this number.
 fn push_break(tool: Tool, text: &mut ReplyText, i: usize)
     requires { length text.old.items + 1 ≤ 1024 }
     ensures items { text.new.items ≡ text.old.items ++ break_before tool i }
@@ -58,7 +58,7 @@ fn push_words(tool: Tool, text: &mut ReplyText, bytes: &[u8])
     push(text, tool.ending());
 }
 
-/// Appends a byte with no leading zero, as `%x` of C prints it.
+/// Appends a byte like `%x` in C: without a leading zero.
 fn push_number(tool: Tool, text: &mut ReplyText, byte: u8)
     requires { length text.old.items + 2 ≤ 1024 }
     ensures items { text.new.items ≡ text.old.items ++ number tool byte }
@@ -78,7 +78,7 @@ fn push_number(tool: Tool, text: &mut ReplyText, byte: u8)
     }
 }
 
-/// Appends what ipmitool prints of a completion code, and the mark of the reply's end.
+/// Appends ipmitool's output for a completion code, and the end mark.
 fn push_refused(request: Request, code: u8, text: &mut ReplyText)
     requires empty { text.old.items ≡ [] }
     ensures { text.new.items ≡ ((refusal request ++ codes " rsp=0x") ++ number Ipmitool code) ++ codes "): Unknown\n. \n" }
@@ -89,7 +89,7 @@ fn push_refused(request: Request, code: u8, text: &mut ReplyText)
     push(text, b"): Unknown\n. \n");
 }
 
-/// Appends what ipmitool prints of a reply, and the mark of its end.
+/// Appends ipmitool's output for a reply, and the end mark.
 fn push_ipmitool(request: Request, reply: &Reply, text: &mut ReplyText)
     requires empty { text.old.items ≡ [] }
     requires can { CanBePrinted reply.now }
@@ -105,7 +105,7 @@ fn push_ipmitool(request: Request, reply: &Reply, text: &mut ReplyText)
     }
 }
 
-/// Appends what FreeIPMI's tool prints of a completion code and data.
+/// Appends the output of FreeIPMI's tool for a completion code and data.
 fn push_received(request: Request, code: u8, bytes: &[u8], text: &mut ReplyText)
     requires empty { text.old.items ≡ [] }
     requires few { length bytes.now ≤ 255 }
@@ -117,7 +117,7 @@ fn push_received(request: Request, code: u8, bytes: &[u8], text: &mut ReplyText)
     push_words(Tool::FreeIpmi, text, bytes);
 }
 
-/// Appends what FreeIPMI's tool prints of a reply.
+/// Appends the output of FreeIPMI's tool for a reply.
 #[tactic(auto, using(crate::proofs::PrintedLemmas::refused_by_freeipmi))]
 fn push_freeipmi(request: Request, reply: &Reply, text: &mut ReplyText)
     requires empty { text.old.items ≡ [] }
@@ -131,7 +131,7 @@ fn push_freeipmi(request: Request, reply: &Reply, text: &mut ReplyText)
     }
 }
 
-/// Replaces the text with what the tool prints of a reply to the request.
+/// Replaces the text with the tool's output for a reply to the request.
 pub fn print_reply(tool: Tool, request: Request, reply: &Reply, text: &mut ReplyText)
     requires { CanBePrinted reply.now }
     ensures { IsReplyText tool request reply.now text.new.items }

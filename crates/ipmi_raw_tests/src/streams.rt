@@ -1,11 +1,11 @@
-//! How far the output of a tool is read.
+//! Reading the output of a tool up to the end of a reply.
 use crate::tools::Wanted;
 use ipmi_raw::{Lost, Piped, ReplyText, Streams, Tool};
 use std::alloc::Global;
 use std::io::{self, Error, ErrorKind, Read, Write};
 use std::process::Abort;
 
-/// A request. Tools of both kinds are sent it here.
+/// A request. These tests send it to both kinds of tools.
 const REQUEST: &[u8] = b"raw 0x0a 0x22\necho .\n";
 
 /// Asserts the result of one request to a tool that prints this, and the text of its reply.
@@ -102,7 +102,7 @@ fn a_tool_that_takes_no_request_may_say_why(rt: HostRuntime) {
     assert!(&rt; reply.as_slice() == printed.as_slice(), "it says why");
 }
 
-/// Takes each request, and fails to hand it on.
+/// Accepts each request, and fails to flush it.
 #[derive(Drop)]
 struct Stuck;
 
@@ -153,7 +153,7 @@ impl Read for Halting {
     }
 }
 
-/// Asserts the result of a request to a tool that is read haltingly.
+/// Asserts the result of a request to a tool whose output comes with interrupts.
 fn assert_halting_exchange(rt: &impl Abort, text: &'static [u8], wanted: Result<(), Lost>) {
     let reader = Halting { text, gives: false };
     let mut streams = Streams {

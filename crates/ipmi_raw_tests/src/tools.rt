@@ -1,4 +1,4 @@
-//! Tools for tests: what each has to be sent, and what it prints.
+//! Tools for tests: the input that each expects, and its output.
 ghost use Rattle.std.specs.Prelude.{◌≤◌, IfOk, length};
 
 use ipmi_raw::{Open, Piped, RawController, Tool};
@@ -6,7 +6,7 @@ use std::cell::Cell;
 use std::io::{self, Chain, Error, ErrorKind, Read, Write};
 use std::time::{Clock, Duration};
 
-/// What a tool has to be sent: first, and then. It takes no other bytes, as if it had ended.
+/// The input that a tool expects, in two pieces. It accepts no other bytes, as if it had ended.
 #[derive(Drop)]
 pub struct Wanted<'s>(pub &'s [u8], pub &'s [u8]);
 
@@ -30,10 +30,10 @@ impl Write for Wanted<'_> {
     }
 }
 
-/// A tool: its logical unit, what it is sent, and what it prints.
+/// A tool: its logical unit, its expected input, and its output.
 pub type Script<'s> = (u8, &'s str, &'s str);
 
-/// What ipmitool is sent first, to open its session, and what it prints. A warning comes before the reply.
+/// The first request to ipmitool, which opens its session, and its output. A warning comes before the reply.
 const FIRST: (&[u8], &[u8]) = (
     b"raw 0x06 0x01\necho .\n",
     b"Unable to Get Channel Cipher Suites\n 20 81 02 30 02\n. \n",
@@ -82,7 +82,7 @@ impl Clock for Sleeper {
     }
 }
 
-/// A controller that is asked through these tools.
+/// The controller that is asked through these tools.
 pub type Asked<'s, 'c> = RawController<Piped<Scripts<'s>>, &'c Sleeper>;
 
 /// A controller over these tools, with a pause of half a second.

@@ -1,4 +1,4 @@
--- Nothing was read so far.
+-- Nothing has been read yet.
 use Rattle.std.proofs.Common.{[]}
 use Rattle.std.specs.Io.KnownBytes.{Consumes}
 use Rattle.ipmi_raw.proofs.streams.read_byte.Given as goal

@@ -1,4 +1,4 @@
--- What was read so far is the text, and it has no end of a reply.
+-- The text has all bytes read so far, and they do not contain the end of a reply.
 use Rattle.std.proofs.Common.{◌≡◌, length}
 use Rattle.std.specs.Io.KnownBytes.{Consumes}
 use Rattle.ipmi_raw.specs.Streams.{IsEnded, IsNotEndedWithin}

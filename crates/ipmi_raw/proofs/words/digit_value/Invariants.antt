@@ -1,4 +1,4 @@
--- No digit below this one is it.
+-- The digit is none of the lower ones.
 use Rattle.std.proofs.Common.{ℕ, ◌≢◌, ◌<◌, slice_index}
 use Rattle.ipmi_raw.specs.Words.{digits}
 use Rattle.ipmi_raw.proofs.words.digit_value.Given as goal

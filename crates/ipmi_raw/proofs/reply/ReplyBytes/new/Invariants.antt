@@ -1,4 +1,4 @@
--- So many bytes are copied.
+-- The first bytes are copied.
 use Rattle.std.proofs.Common.{◌≡◌, ◌++◌, drop, length}
 use Rattle.ipmi_text.specs.Bytes.{AreBytes}
 use Rattle.ipmi_raw.proofs.reply.ReplyBytes.new.Given as goal
