@@ -8,10 +8,10 @@ use ipmi_records::{EventEntry, FullSensor, SdrView, SelView};
 use std::alloc::{AllocError, Global};
 use std::process::Abort;
 
-/// Where `CPU_TEMP` has the linearization.
+/// The position of the linearization in `CPU_TEMP`.
 const LINEARIZATION: usize = 23;
 
-/// `event data|details by CPU_TEMP;details by no record` of asserted threshold events.
+/// `event data|details with CPU_TEMP;details without a record` of asserted threshold events.
 const THRESHOLDS: &str =
     "595c5a|Reading 92 degrees C > threshold 90;Reading raw 0x5c > threshold raw 0x5a
 500405|Reading 4 degrees C < threshold 5;Reading raw 0x04 < threshold raw 0x05
@@ -31,7 +31,7 @@ f90c0a|data 2 0x0c, data 3 0x0a;data 2 0x0c, data 3 0x0a
 a9ffff|;
 f9ffff|data 2 0xff, data 3 0xff;data 2 0xff, data 3 0xff";
 
-/// The same of deasserted events.
+/// The same for deasserted events.
 const DEASSERTED: &str =
     "575455|Reading 84 degrees C, threshold 85;Reading raw 0x54, threshold raw 0x55
 570005|Reading 0 degrees C, threshold 5;Reading raw 0x00, threshold raw 0x05
@@ -39,7 +39,7 @@ const DEASSERTED: &str =
 475455|Reading 84 degrees C;Reading raw 0x54
 175455|Threshold 85 degrees C;Threshold raw 0x55";
 
-/// `event/reading type and sensor type, event data|details`: states, severities and codes of manufacturers.
+/// `event/reading type and sensor type, event data|details`: states, severities and OEM codes.
 const STATES: &str =
     "0701 422102|was transition to Non-Critical from OK, severity transition to Critical from less severe
 6f0d 41f000|was Drive Presence
@@ -127,7 +127,7 @@ fn entry_of(rt: &impl Abort, event_type: u8, sensor_type: u8, digits: &str) -> [
     ]
 }
 
-/// The event that the bytes of an entry are.
+/// The event in the bytes of an entry.
 fn event_of<'a>(rt: &impl Abort, bytes: &'a [u8; 16]) -> EventEntry<'a> {
     match SelView::read(bytes) {
         SelView::Event(event) => event,
@@ -135,7 +135,7 @@ fn event_of<'a>(rt: &impl Abort, bytes: &'a [u8; 16]) -> EventEntry<'a> {
     }
 }
 
-/// The details of an event after a bar, which was there before.
+/// A bar, followed by the details of an event.
 fn details_text(
     alloc: Global,
     event: &EventEntry<'_>,
@@ -173,8 +173,8 @@ fn assert_details_by_record(
     );
 }
 
-/// Asserts the details of a threshold event, with and without `CPU_TEMP`. Bit 7 of the event type is set when it is
-/// deasserted.
+/// Asserts the details of a threshold event, with and without `CPU_TEMP`. Bit 7 of the event type is set if the event
+/// is deasserted.
 fn assert_threshold_details(rt: &impl Abort, alloc: Global, event_type: u8, case: &str) {
     let (digits, wanted) = parts(rt, case);
     let (by_record, raw) = wanted.split_once(';').expect(rt, case);

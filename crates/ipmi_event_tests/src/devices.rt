@@ -4,9 +4,9 @@ use ipmi_events::device_name;
 use std::alloc::Global;
 use std::process::Abort;
 
-/// `records|id of the device|name`, which is `(none)` without a locator. A locator is of another device, not logical,
-/// at another address, at another LUN, of a controller or too short for its type, or lacks its last byte. The first of
-/// two locators counts.
+/// `records|id of the device|name`, which is `(none)` without a locator. Some locators are for another device, not logical,
+/// at another address or LUN, for a controller, too short for their type, or without their last byte. The first of two
+/// locators counts.
 const NAMES: &str = "\
 010051110f200180000000000a0100c450535531|01|PSU1
 010051110f200180000000000a0100c450535531|00|(none)

@@ -1,17 +1,17 @@
-//! The calls that make a text of an event or a name, once with ample memory, and once with requests refused.
+//! The calls that make a text of an event or a name, with ample memory and with requests refused.
 use crate::cases::{assert_text, assert_text_or_refused};
 use ipmi_events::{Sensors, device_name, event_line, push_sensor_name};
 use ipmi_records::{SdrView, SelView};
 use std::alloc::{AllocError, Global};
 
-/// An event-only record of three sensors from number 30h on. Their letters begin with Z, and the ID string is 6-bit
-/// ASCII.
+/// An event-only record of three sensors, starting with number 30h. Their letters begin with Z, and the ID string is
+/// 6-bit ASCII.
 const FANS: [u8; 20] = [
     0x01, 0x00, 0x51, 0x03, 0x0f, 0x20, 0x00, 0x30, 0x1d, 0x01, 0x04, 0x03, 0x13, 0x19, 0x00, 0x00,
     0x84, 0x66, 0xe8, 0x02,
 ];
 
-/// An event of the second sensor. Event data 2 has the state before.
+/// An event of the second sensor. Event data 2 has the previous state.
 const EVENT: [u8; 16] = [
     0x01, 0x00, 0x02, 0x01, 0x00, 0x00, 0x20, 0x20, 0x00, 0x04, 0x04, 0x31, 0x03, 0x41, 0xf0, 0xff,
 ];
@@ -46,7 +46,7 @@ fn device(alloc: Global) -> Result<String, AllocError> {
     Ok(device_name(alloc, &PSU1, 1)?.unwrap_or(String::new(alloc)))
 }
 
-// With ample memory each call gives its text.
+// With ample memory each call returns its text.
 #[test]
 fn not_always_out_of_memory(rt: HostRuntime) {
     let view = SdrView::read(&FANS).expect(&rt, "a record");
@@ -55,7 +55,7 @@ fn not_always_out_of_memory(rt: HostRuntime) {
     assert_text(&rt, device(rt.alloc()), "PSU1", "device");
 }
 
-// With memory refused each call gives its text, or fails when out of memory.
+// With memory refused each call returns its text, or fails when out of memory.
 #[test]
 fn memory_may_be_refused(rt: HostRuntime) {
     let view = SdrView::read(&FANS).expect(&rt, "a record");

@@ -4,10 +4,10 @@ use ipmi_fixtures::CPU_TEMP;
 use std::alloc::Global;
 use std::process::Abort;
 
-/// Records beside `CPU_TEMP`, one a line. A compact one of four sensors from number 10h on. An event-only one of three
-/// from 30h on. One of a sensor that an earlier record is of. One that is too short for its type. Another of its
-/// sensor, 40h. An event-only one of five sensors from FEh on, of a software id at LUN 3. A FRU locator. Compact ones
-/// with a share count of 0, without a name, and of 1. One whose last byte is missing.
+/// Records after `CPU_TEMP`, one per line: a compact one of four sensors, starting with number 10h; an event-only one of
+/// three, starting with 30h; a second record of sensor 12h; one that is too short for its type; a good one of the same
+/// sensor, 40h; an event-only one of five sensors, starting with FEh, of a software id at LUN 3; a FRU locator; compact
+/// ones with a share count of 0, without a name, and with a share count of 1; one without its last byte.
 const RECORDS: &str = "0200510220200010200100000c6f0000000000000000000401000000000000c544494d4d20
 03005103102000301d01040313190000c446616e20
 0400510220200012200100000c6f0000000000000000000000000000000000c54c61746572
@@ -19,7 +19,7 @@ const RECORDS: &str = "0200510220200010200100000c6f00000000000000000004010000000
 0a00510221200060200100000c6f0000000000000000000100000000000000c653696e676c65
 0b00510222200070200100000c6f0000000000000000000100000000000000c7437574206f66";
 
-/// The bytes of `CPU_TEMP` and the other records, one record after another.
+/// The concatenated bytes of `CPU_TEMP` and the other records.
 fn record_bytes(rt: &impl Abort, alloc: Global) -> Vec<u8> {
     let mut bytes = CPU_TEMP.to_vec(alloc).expect(rt, "memory");
     for line in RECORDS.lines() {

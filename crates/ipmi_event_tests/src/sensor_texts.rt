@@ -8,7 +8,7 @@ use ipmi_text::Reading;
 use std::alloc::{AllocError, Global};
 use std::process::Abort;
 
-/// `changes of CPU_TEMP|what the sensor answered|line after the name`.
+/// `changes of CPU_TEMP|reading|line after the name`.
 const FULL_LINES: &str =
     "|2dc00000|01h | processor 1 | 45 degrees C      | ok  | - | - | - | 85 | 90 | 95
 |none|01h | processor 1 | no reading        | ns  | - | - | - | 85 | 90 | 95
@@ -49,15 +49,15 @@ const FULL_LINES: &str =
 const DOOR: &str = "030051021f2003050701000005030000000000\
     00c000000000000000000000c4446f6f72";
 
-/// A compact record of four memory sensors from number 10h on. Its name ends in a space, to which the names of the
-/// sensors add the numbers 1 to 4.
+/// A compact record of four memory sensors, starting with number 10h. Its name ends with a space; the names of the sensors
+/// add the numbers 1 to 4.
 const DIMMS: &str = "0200510220200010200100000c6f00000000\
     00000000000401000000000000c544494d4d20";
 
 /// An event-only record.
 const EVT1: &str = "05005103102000302281126f00000000c445565431";
 
-/// `what the sensor of DOOR answered|line`.
+/// `reading of the sensor of DOOR|line`.
 const COMPACT_LINES: &str =
     "00400200|Door             | 05h | system board 1 | State Asserted    | ok  | - | - | - | - | - | -
 none|Door             | 05h | system board 1 | no reading        | ns  | - | - | - | - | - | -";
@@ -118,7 +118,7 @@ Status: ok
 
 ";
 
-/// A compact record without a name. Its share count is 1, so that its sensor is alone.
+/// A compact record without a name. Its share count is 1, so it has one sensor.
 const ALONE: &str = "0a0051021b200060200100000c6f00000000\
     00000000000100000000000000c0";
 
@@ -156,12 +156,12 @@ const ENTITIES: &str = "00 unspecified
 90 entity 0x90
 ff entity 0xff";
 
-/// What a sensor answered: the digits of its four bytes, or `none`.
+/// A reading: the digits of its four bytes, or `none`.
 fn answer_of(rt: &impl Abort, text: &str) -> Option<Reading> {
     ipmi_fixtures::answer_of(text).expect(rt, text)
 }
 
-/// `CPU_TEMP` with changes such as `14=6f`, which commas separate.
+/// `CPU_TEMP` with changes such as `14=6f`, separated by commas.
 fn changed(rt: &impl Abort, changes: &str) -> [u8; 56] {
     ipmi_fixtures::changed(changes).expect(rt, changes)
 }
@@ -275,10 +275,10 @@ const CPU_TEMP_LINE: &str =
     "CPU Temp         | 01h | processor 1 | 90 degrees C      | ucr | - | - | - | 85 | 90 | 95
 ";
 
-/// A text, unless memory runs out.
+/// A text, or out of memory.
 type Made = Result<String, AllocError>;
 
-/// The calls that make a text of a sensor, each with its text.
+/// The calls that make a text of a sensor, each with the expected text.
 fn calls(alloc: Global, view: &SdrView<'_>, answer: Option<Reading>) -> [(Made, &'static str); 2] {
     [
         (sensor_line(alloc, view, answer), CPU_TEMP_LINE),
@@ -286,7 +286,7 @@ fn calls(alloc: Global, view: &SdrView<'_>, answer: Option<Reading>) -> [(Made, 
     ]
 }
 
-// With ample memory each call gives its text.
+// With ample memory each call returns its text.
 #[test]
 fn not_always_out_of_memory(rt: HostRuntime) {
     let view = SdrView::read(&CPU_TEMP).expect(&rt, "a record");
@@ -295,7 +295,7 @@ fn not_always_out_of_memory(rt: HostRuntime) {
     }
 }
 
-// With memory refused each call gives its text, or fails when out of memory.
+// With memory refused each call returns its text, or fails when out of memory.
 #[test]
 fn memory_may_be_refused(rt: HostRuntime) {
     let view = SdrView::read(&CPU_TEMP).expect(&rt, "a record");

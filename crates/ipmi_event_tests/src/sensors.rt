@@ -8,7 +8,7 @@ use ipmi_text::Reading;
 use std::alloc::{AllocError, Global};
 use std::process::Abort;
 
-/// `owner, LUN and number|id of the record`, which is 0 where there is none.
+/// `owner, LUN and number|id of the record`, which is 0 if there is none.
 const FOUND: &str = "200001|1
 200002|0
 20000f|0
@@ -41,8 +41,8 @@ const FOUND: &str = "200001|1
 000000|0
 ffffff|0";
 
-/// `modifier and share count, offset, number of the sensor|name` of sensors that share `DIMM`. Bytes 24 and 25 of the
-/// record have the first two.
+/// `modifier and share count, offset, number of the sensor|name` of sensors that share `DIMM`. The first two are bytes 24
+/// and 25 of the record.
 const NAMES: &str = "040110|DIMM 1
 040111|DIMM 2
 040113|DIMM 4
@@ -64,7 +64,7 @@ const NAMES: &str = "040110|DIMM 1
 010510|DIMM \n\
 110510|DIMM ";
 
-/// A compact record of sensors from number 10h on. The ID string is `DIMM `.
+/// A compact record of several sensors, starting with number 10h. The ID string is `DIMM `.
 const DIMM: [u8; 37] = [
     0x02, 0x00, 0x51, 0x02, 0x20, 0x20, 0x00, 0x10, 0x20, 0x01, 0x00, 0x00, 0x0c, 0x6f, 0x00, 0x00,
     0x00, 0x00, 0x00, 0x00, 0x00, 0x00, 0x00, 0x04, 0x01, 0x00, 0x00, 0x00, 0x00, 0x00, 0x00, 0xc5,
@@ -150,7 +150,7 @@ fn records_of_other_kinds_give_names(rt: HostRuntime) {
     }
 }
 
-/// An event of the third memory sensor, at the controller's own address, over channel 1.
+/// An event of the third memory sensor, at address 20h, over channel 1.
 const DIMM_EVENT: [u8; 16] = [
     0x01, 0x00, 0x02, 0x00, 0x00, 0x00, 0x00, 0x20, 0x10, 0x04, 0x0c, 0x12, 0x6f, 0x01, 0xff, 0xff,
 ];

@@ -1,5 +1,5 @@
-//! The words of events, compared with a second list of them, which another person typed from the standard. Where the
-//! tables shorten the standard's words, the list has the short ones.
+//! The words of events, compared with a second list, which another person typed from the standard. If the tables shorten
+//! the standard's words, the list has the short ones.
 use crate::cases::{assert_text, byte_of, parts};
 use ipmi_events::{EventInWords, event_words};
 use std::alloc::Global;
@@ -273,7 +273,7 @@ const SPECIFIC: &str = "05 00|General Chassis Intrusion
 2c 06|FRU Deactivation In Progress
 2c 07|FRU Communication Lost";
 
-/// `event/reading type|how many offsets have words`.
+/// `event/reading type|number of offsets with words`.
 const GENERIC_COUNTS: &str = "01|12
 02|3
 03|2
@@ -287,7 +287,7 @@ const GENERIC_COUNTS: &str = "01|12
 0b|8
 0c|4";
 
-/// `sensor type|how many sensor-specific offsets have words`.
+/// `sensor type|number of sensor-specific offsets with words`.
 const SPECIFIC_COUNTS: &str = "05|7
 06|6
 07|13
@@ -319,7 +319,7 @@ const SPECIFIC_COUNTS: &str = "05|7
 2b|8
 2c|8";
 
-/// `event/reading type and sensor type, offset|what is printed`.
+/// `event/reading type and sensor type, offset|printed text`.
 const WITHOUT_WORDS: &str = "0001 00|offset 0 of type 0x00
 0101 0c|offset 12 of type 0x01
 0c01 04|offset 4 of type 0x0c
@@ -378,7 +378,7 @@ fn sensor_specific_events_have_the_words_of_the_second_list(rt: HostRuntime) {
     }
 }
 
-/// Asserts the number of offsets of a type that have words.
+/// Asserts the number of offsets with words of a type.
 fn assert_count(rt: &impl Abort, event_type: u8, sensor_type: u8, wanted: usize) {
     let count = (0..=u8::MAX)
         .filter(|offset| event_words(event_type, sensor_type, *offset).is_some())
@@ -444,7 +444,7 @@ fn no_more_sensor_specific_events_have_words(rt: HostRuntime) {
     }
 }
 
-/// Asserts that an event has no words, and what is printed instead.
+/// Asserts that an event has no words, and the text printed instead.
 fn assert_no_words(rt: &impl Abort, alloc: Global, case: &str) {
     let (code, wanted) = parts(rt, case);
     let (types, offset) = code.split_once(' ').expect(rt, case);

@@ -1,4 +1,4 @@
--- An event has details, and one text of them.
+-- An event has exactly one text of details.
 use Rattle.std.proofs.Common.{◌≡◌, ◌∙◌, ℕ, ℤ, Bool, true, false, Option, None, Some, List, ◌==◌, refl, sym}
 use Rattle.ipmi_text.specs.Laws.{DecimalExists, DecimalIsUnique}
 use Rattle.ipmi_text.specs.ReadingValue.{reading_value}

@@ -11,7 +11,7 @@ use Rattle.ipmi_records.specs.declared.sdr.SdrView.{SdrView}
 use Rattle.ipmi_events.specs.Sensors.{first_record, IsIndex, is_of_sensor, IsPlaceOf, names, noted, records_in, sensor_for, slot_of, view_at, view_of}
 use Rattle.ipmi_events.proofs.RecordLemmas.{last_record, len_of_first, next_record}
 
--- the first records are those before the place, and the index is theirs
+-- the index is that of the records before the place
 pub record IsIndexTo (place : ℕ) (bytes places : List ℕ) : Type 0 where
   pub records : List (List ℕ)
   pub within : place ≤ length bytes
@@ -21,7 +21,7 @@ pub record IsIndexTo (place : ℕ) (bytes places : List ℕ) : Type 0 where
 at_end : (bytes : List ℕ) → view_at bytes (length bytes) ≡ None
 at_end bytes = let e : drop (length bytes) bytes ≡ [] = drop-length bytes in rw e refl
 
--- ---- one record more
+-- ---- one more record
 
 place_more : (bytes : List ℕ) (owner lun number place old : ℕ) (known here : Option SdrView)
     → view_at bytes place ≡ here → IsPlaceOf bytes old known
@@ -74,7 +74,7 @@ get_or-replicate_same zero x k = refl
 get_or-replicate_same (suc n) x zero = refl
 get_or-replicate_same (suc n) x (suc k) = get_or-replicate_same n x k
 
--- no record yet
+-- at the start: no record
 pub index_none : (bytes places : List ℕ)
     → ((slot : ℕ) → get_or places slot (length bytes) ≡ length bytes) → IsIndexTo 0 bytes places
 index_none bytes places empty = record {
@@ -84,7 +84,7 @@ index_none bytes places empty = record {
   index = λ owner lun number o n. empty (slot_of owner lun number);
 }
 
--- no record is left
+-- at the end: all records
 pub index_all : (place : ℕ) (bytes places : List ℕ) → IsIndexTo place bytes places
     → first_record (drop place bytes) ≡ None → IsIndex bytes (records_in bytes) places
 index_all place bytes places all none =

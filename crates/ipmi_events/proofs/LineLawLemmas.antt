@@ -1,4 +1,4 @@
--- An entry has one line in words.
+-- An entry has exactly one line in words.
 use Rattle.std.proofs.Common.{◌≡◌, ◌∙◌, ℕ, Option, List, ◌<◌, slice_index, refl, sym, arith}
 use Rattle.std.proofs.lemmas.Grind.{common_steps}
 use Rattle.ipmi_text.specs.Bytes.{AreBytes}

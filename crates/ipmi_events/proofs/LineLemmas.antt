@@ -1,4 +1,4 @@
--- The line of a sensor out of its columns.
+-- The line of a sensor consists of its columns.
 use Rattle.std.proofs.Common.{◌≡◌, ◌∙◌, ℕ, List, [], ◌∷◌, ◌++◌, Option, append_assoc, codes, refl}
 use Rattle.std.specs.List.{flat_map}
 use Rattle.ipmi_events.specs.Below.{Reading, SdrView, Sensor, columns_line, padded_to, shown_of}
@@ -6,7 +6,7 @@ use Rattle.ipmi_events.specs.SensorLines.{AppendsColumns, AppendsPadded, IsLineO
 use Rattle.ipmi_events.specs.Shown.{IsReadingInWords}
 use Rattle.ipmi_events.specs.Status.{status_in_words}
 
--- the columns after the first, ` | ` before each, and the line's end
+-- ` | ` comes before each column after the first, and a line feed at the end
 columns_after : (first : List ℕ) (columns : List (List ℕ))
     → columns_line (first ∷ columns) ≡ first ++ (flat_map (λ column. codes " | " ++ column) columns ++ codes "\n")
 columns_after first [] = refl

@@ -1,4 +1,4 @@
--- Names that are appended, and what follows them; locators among records.
+-- Appending names and their suffixes; finding locators among records.
 use Rattle.std.proofs.Common.{◌≡◌, ◌∙◌, ℕ, ◌-◌, None, Some, List, [], ◌∷◌, ◌++◌, length, take, drop, take_all, filter_map, append_assoc, append-nil, refl, sym, ap, arith}
 use Rattle.std.specs.List.{find}
 use Rattle.std.specs.Option.{option_or}
@@ -10,13 +10,13 @@ use Rattle.ipmi_events.specs.Name.{followed_by, locates, locator_for}
 use Rattle.ipmi_events.specs.Sensors.{first_record, records_in, view_of}
 use Rattle.ipmi_events.proofs.RecordLemmas.{last_record, next_record}
 
--- a suffix after a name that made the text longer
+-- a suffix after a name, if the name made the text longer
 pub followed_some : (old text name suffix new : List ℕ) → text ≡ old ++ name
     → (length text ≡ length old → ⊥) → new ≡ text ++ suffix → new ≡ old ++ followed_by suffix name
 followed_some old text [] suffix new is differs new_is = absurd (differs (ap length (is ∙ append-nil old)))
 followed_some old text (c ∷ name) suffix new is differs new_is = new_is ∙ rw is (append_assoc old (c ∷ name) suffix)
 
--- the first record is the locator, or those after it have it
+-- the first record is the locator, or the locator is among the later records
 locator_for-next : (id : ℕ) (bytes first : List ℕ) → Some first ≡ first_record bytes
     → locator_for id (records_in bytes)
     ≡ option_or (locator_for id (first ∷ [])) (locator_for id (records_in (drop (length first) bytes)))

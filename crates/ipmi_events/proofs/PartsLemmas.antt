@@ -1,4 +1,4 @@
--- Parts of a text, a list of them after another.
+-- Appending lists of parts to a text.
 use Rattle.std.proofs.Common.{◌≡◌, ◌∙◌, ℕ, ◌+◌, ◌<◌, Bool, true, false, ◌||◌, List, [], ◌∷◌, ◌++◌, append_assoc, ap, sym, refl, length, get_or, drop}
 use Rattle.std.proofs.lemmas.List.{drop_more}
 use Rattle.ipmi_events.specs.declared.event_data.EventData.{EventData}
@@ -22,7 +22,7 @@ pub has_parts_append : (parts more : List (List ℕ))
 has_parts_append [] more = refl
 has_parts_append (part ∷ parts) more = refl
 
--- the parts of one list are appended, and then those of another
+-- the parts of two lists are appended one after the other
 pub pushed_both : (before said : Bool) (parts more : List (List ℕ)) (text middle after : List ℕ)
     → said ≡ (before || has_parts parts) → middle ≡ text ++ parts_text before parts
     → after ≡ middle ++ parts_text said more
@@ -30,7 +30,7 @@ pub pushed_both : (before said : Bool) (parts more : List (List ℕ)) (text midd
 pushed_both before said parts more text middle after said_is middle_is after_is =
     rw (after_is, middle_is, said_is, append_assoc text, parts_text-append before parts more) refl
 
--- the first parts that are left are appended
+-- the first of the remaining parts are appended
 pub pushed_parts : (before said : Bool) (parts more : List (List ℕ)) (text all : List ℕ)
     → text ++ parts_text (before || said) (parts ++ more) ≡ all
     → (text ++ parts_text (before || said) parts)
@@ -46,7 +46,7 @@ said_parts true parts more all h = h
 said_parts false [] more all h = h
 said_parts false (part ∷ parts) more all h = h
 
--- what the fields from a place on say: what the first says, and then the others
+-- the text of the fields from an index: that of the first, then that of the others
 pub fields_text-drop : (fields : List ExtensionField) (i : ℕ) (field : ExtensionField)
     (event : EventData) (byte : ℕ) → i < length fields → field ≡ get_or fields i field
     → fields_text (drop i fields) event byte

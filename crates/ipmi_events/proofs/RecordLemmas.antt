@@ -1,4 +1,4 @@
--- Records one after another.
+-- Concatenated records.
 use Rattle.std.proofs.Common.{◌≡◌, ◌∙◌, ℕ, zero, suc, ◌+◌, ◌≤◌, nat_le, Bool, true, false, if◌then◌else◌, None, Some, List, [], ◌∷◌, ◌++◌, length, take, drop, refl, sym, ap, arith}
 use Rattle.std.specs.List.{AllPass, concat}
 use Rattle.std.proofs.lemmas.Bool.Decides.{nat_tests}
@@ -13,7 +13,7 @@ unfolding first_records
 no_records zero = refl
 no_records (suc most) = refl
 
--- a record has a byte at least, so that as many as there are bytes are all
+-- a record has at least one byte, so there are at most as many records as bytes
 enough : (most more : ℕ) (bytes : List ℕ) → length bytes ≤ most → length bytes ≤ more
     → first_records most bytes ≡ first_records more bytes
 unfolding first_records
@@ -30,7 +30,7 @@ enough (suc most) (suc more) bytes le le' =
     by true e = e
     by false e = refl
 
--- ---- the next one
+-- ---- the next record
 
 next_by_len : (bytes : List ℕ) → nat_le (sdr_len bytes) (length bytes) ≡ true
     → records_in bytes ≡ take (sdr_len bytes) bytes ∷ records_in (drop (sdr_len bytes) bytes)
@@ -48,7 +48,7 @@ last_by_len bytes short =
     enough (length bytes) (suc (length bytes)) bytes (omega arith) (omega arith)
     ∙ rw short refl
 
--- what the first record is, where there is one
+-- the first record, if there is one
 record Begins (bytes first : List ℕ) : Type 0 where
   pub whole : nat_le (sdr_len bytes) (length bytes) ≡ true
   pub firstis : first ≡ take (sdr_len bytes) bytes
@@ -85,7 +85,7 @@ last_record bytes is = by (nat_le (sdr_len bytes) (length bytes)) refl is
     by true whole is = absurd (grind (arith, is))
     by false short is = last_by_len bytes short
 
--- ---- records put together
+-- ---- concatenated records are found again
 
 first_of_two : (bytes more : List ℕ) → is_whole_record bytes ≡ true
     → records_in (bytes ++ more) ≡ bytes ∷ records_in more

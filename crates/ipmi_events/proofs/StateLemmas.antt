@@ -1,4 +1,4 @@
--- States that are joined one by one.
+-- Joining states one by one.
 use Rattle.std.proofs.Common.{◌≡◌, ◌∙◌, ℕ, ◌+◌, ◌==◌, List, [], ◌∷◌, ◌++◌, true, false, append_assoc, append-nil, arith, codes, cond, filter, length, refl, sym}
 use Rattle.std.specs.List.{flat_map, join_by, range_with_len}
 use Rattle.std.proofs.lemmas.Grind.{flat_map-append}
@@ -7,7 +7,7 @@ use Rattle.std.proofs.lemmas.List.FromFn.{filter_of_map_range_with_len_more}
 use Rattle.ipmi_events.specs.Below.{Sensor, has_bit}
 use Rattle.ipmi_events.specs.States.{joined_states, or_no_state, set_states, state_words, states_in_words}
 
--- the states that are set, of the first ones
+-- the states below `count` that are set
 abbrev pub set_below : ℕ → ℕ → List ℕ
 set_below count states = filter (λ state. has_bit state states) (range_with_len 0 count)
 
@@ -16,7 +16,7 @@ set_more : (count states : ℕ)
 set_more count states =
     rw (map-id (range_with_len 0 count), map-id (range_with_len 0 (count + 1))) at (filter_of_map_range_with_len_more {X = ℕ} (λ state. has_bit state states) (λ state. state) 0 count count (omega arith))
 
--- what stands between the parts that are joined and the next one
+-- the separator after these parts, before the next one
 abbrev pub separator_after : List ℕ → List ℕ → List ℕ
 separator_after separator [] = []
 separator_after separator (part ∷ parts) = separator
@@ -32,7 +32,7 @@ one_more f separator [] part = append-nil (f part)
 one_more f separator (first ∷ parts) part =
     rw (flat_map-append (λ y. separator ++ f y) parts (part ∷ []), append-nil (separator ++ f part)) (sym (append_assoc (f first) (flat_map (λ y. separator ++ f y) parts) (separator ++ f part)))
 
--- a state that is set is joined
+-- a state that is set is appended
 pub state_joined : (sensor : Sensor) (states count : ℕ) (old text new separator : List ℕ)
     → has_bit count states ≡ true
     → separator ≡ separator_after (codes ", ") (set_below count states)
@@ -46,7 +46,7 @@ state_joined sensor states count old text new separator is_set separator_is text
       new_is ∙ rw (text_is, separator_is, more, one_more (state_words sensor.event_type sensor.sensor_type) (codes ", ") (set_below count states) count) (append_assoc old (joined_states sensor (set_below count states)) _),
     )
 
--- one that isn't changes nothing
+-- a state that is not set changes nothing
 pub state_passed : (states count : ℕ) → has_bit count states ≡ false
     → set_below (count + 1) states ≡ set_below count states
 state_passed states count is_not = (rw is_not at (set_more count states)) ∙ append-nil (set_below count states)
@@ -62,7 +62,7 @@ some_set : (sensor : Sensor) (separator parts : List ℕ)
 some_set sensor separator [] separator_is is_empty = absurd (cc (rw separator_is at is_empty))
 some_set sensor separator (part ∷ parts) separator_is is_empty = refl
 
--- where there is no separator in the end, no state is set
+-- if the separator is empty at the end, no state is set
 pub none_told : (sensor : Sensor) (states count : ℕ) (old text separator : List ℕ) → count ≡ 15
     → separator ≡ separator_after (codes ", ") (set_below count states)
     → text ≡ old ++ joined_states sensor (set_below count states)
@@ -72,7 +72,7 @@ none_told sensor states count old text separator all separator_is text_is is_emp
     let none_is : set_states states ≡ [] = rw all at none in
     rw (text_is, none, append-nil old, none_is) refl
 
--- where there is one, the text tells all that are
+-- otherwise the text has all states that are set
 pub all_told : (sensor : Sensor) (states count : ℕ) (old text separator : List ℕ) → count ≡ 15
     → separator ≡ separator_after (codes ", ") (set_below count states)
     → text ≡ old ++ joined_states sensor (set_below count states)

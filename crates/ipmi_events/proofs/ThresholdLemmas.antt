@@ -1,10 +1,10 @@
--- Columns of thresholds that are appended one by one.
+-- Appending columns of thresholds one by one.
 use Rattle.std.proofs.Common.{◌≡◌, ◌∙◌, ℕ, List, [], ◌∷◌, ◌++◌, Option, append_assoc, append-nil, codes, refl}
 use Rattle.std.proofs.lemmas.Grind.{flat_map-append}
 use Rattle.ipmi_events.specs.Below.{Appends, Threshold}
 use Rattle.ipmi_events.specs.SensorLines.{AppendsColumns, AreThresholdColumns, IsThresholdColumn}
 
--- a column after others
+-- one more column
 one_more : (told : Option (List ℕ)) (thresholds : List Threshold) (threshold : Threshold)
     (columns : List (List ℕ)) (column : List ℕ) → AreThresholdColumns told thresholds columns
     → IsThresholdColumn told threshold column
@@ -13,7 +13,7 @@ one_more told [] threshold columns column are is = (column, [], (is, (refl, rw a
 one_more told (first ∷ thresholds) threshold columns column are is =
     (are.0, are.1 ++ column ∷ [], (are.2.0, (one_more told thresholds threshold are.1 column are.2.1.0 is, rw are.2.1.1 refl)))
 
--- one more is appended, after ` | `
+-- one more column is appended after ` | `
 pub column_appended : (told : Option (List ℕ)) (thresholds : List Threshold) (threshold : Threshold)
     (old text begun new : List ℕ) → AppendsColumns told thresholds old text
     → begun ≡ text ++ codes " | " → Appends (IsThresholdColumn told threshold) begun new

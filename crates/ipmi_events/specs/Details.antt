@@ -9,8 +9,8 @@ abbrev pub AreDetails : Bool → EventData → Option (List ℕ) → List ℕ �
 AreDetails true event full text = IsThresholdDetails event full text
 AreDetails false event full text = text ≡ discrete_details event
 
--- the details of a threshold event (type 01h) or another event, with the full record of its sensor
--- if there is one
+-- the details of a threshold event (type 01h) or of another event, given the full record of its
+-- sensor if there is one
 abbrev pub IsDetails : List ℕ → Option (List ℕ) → List ℕ → Type 0
 IsDetails bytes full text =
     AreDetails ((data_of bytes).event_type == 0x01) (data_of bytes) full text

@@ -41,7 +41,7 @@ full_of _ = None
 
 -- ---- lines
 
--- bits 3:0 of the first byte of its data
+-- the offset: bits 3:0 of the first byte of event data
 abbrev pub event_offset : List ℕ → ℕ
 event_offset event = slice_index (event_data event) 0 % 16
 

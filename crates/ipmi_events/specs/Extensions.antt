@@ -354,21 +354,21 @@ bits_of Bits.Bit0 byte = byte % 2
 abbrev pub value_in : ExtensionField → ℕ → ℕ
 value_in field byte = bits_of field.bits byte
 
--- the event has the field
+-- whether the event has the field, by its sensor type and offset
 abbrev pub is_of : ExtensionField → EventData → Bool
 is_of field event =
     field.sensor_type == event.sensor_type && (nat_le field.first_offset event.offset
     && nat_le event.offset field.last_offset)
 
--- a flag is its label alone, if its bit is set; a number is in decimal, if the table has no words
--- for it
+-- words for the value; a flag adds nothing to its label, and has no text if its bit is 0; a number
+-- without words in the table is in decimal
 abbrev pub text_in_form : Form → List (List ℕ) → ℕ → Option (List ℕ)
 text_in_form Form.Words words value = words_at words value
 text_in_form Form.Flag words value = if value == 0 then None else Some []
 text_in_form Form.Decimal words value = Some (unwrap_or (words_at words value) (decimal value))
 text_in_form Form.Hex words value = Some (codes "0x" ++ hex_byte value)
 
--- words after a label, if there are any
+-- the label followed by the words, if there are any
 abbrev pub words_parts : List ℕ → Option (List ℕ) → List (List ℕ)
 words_parts label words = option_to_list (option_map (λ text. label ++ text) words)
 
@@ -379,7 +379,7 @@ field_parts field event byte =
     then words_parts field.label (text_in_form field.form field.words (value_in field byte))
     else []
 
--- the texts of fields of a byte, in order
+-- the texts of the fields of a byte, in order
 unfoldable pub fields_text : List ExtensionField → EventData → ℕ → List (List ℕ)
 fields_text [] event byte = []
 fields_text (field ∷ fields) event byte =

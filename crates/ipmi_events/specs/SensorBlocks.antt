@@ -6,7 +6,7 @@ use Rattle.ipmi_events.specs.Entities.{entity_in_words}
 use Rattle.ipmi_events.specs.Shown.{IsReadingInWords}
 use Rattle.ipmi_events.specs.Status.{status_in_words}
 
--- how many sensors share the record, where it is more than one
+-- the number of sensors that share the record, if it is more than one
 abbrev pub sharing_line : Option Sharing → List ℕ
 sharing_line None = []
 sharing_line (Some sharing) =
@@ -14,8 +14,8 @@ sharing_line (Some sharing) =
     then labelled (codes "Shared by") (decimal sharing.count ++ codes " sensors")
     else []
 
--- which sensor it is: its record with the name, its number, those that share the record, where it is asked for, and what
--- it senses
+-- the identity of the sensor: its record with the name, its number, the sensors that share the record, its owner and LUN, its
+-- entity and its type
 abbrev pub identity_lines : ℕ → SdrView → Sensor → List ℕ
 identity_lines id view sensor = labelled_lines (
     (codes "Record", word_h id)
@@ -27,7 +27,7 @@ identity_lines id view sensor = labelled_lines (
     ∷ (codes "Kind", sensor_type_text_of sensor.sensor_type)
     ∷ []))
 
--- its reading and its status
+-- the reading and the status of the sensor
 pub record AreShownLines (view : SdrView) (sensor : Sensor) (reading : Option Reading)
     (text : List ℕ) : Type 0 where
   pub column : List ℕ
@@ -41,7 +41,7 @@ AreThresholdLines (SdrView.Full bytes) sensor text =
     AreThresholdTexts bytes (thresholds_of sensor) text
 AreThresholdLines _ sensor text = text ≡ []
 
--- with an empty line at the end; of the sensors that share a record, what is said is that of the first
+-- the block ends with an empty line; for sensors that share a record, it describes the first
 pub record IsBlockOfSensor (id : ℕ) (view : SdrView) (sensor : Sensor) (reading : Option Reading)
     (text : List ℕ) : Type 0 where
   pub shown : List ℕ

@@ -59,8 +59,8 @@ head_columns view sensor =
     ++ (codes " | " ++ (byte_h sensor.number
     ++ (codes " | " ++ (entity_in_words sensor.entity ++ codes " | "))))
 
--- the record's name, as it is searched for by name; number, entity, reading, status, and the thresholds from the lowest
--- to the highest. Of the sensors that share a record, the number and the reading are those of the first.
+-- The name of the record, by which `sensor get` finds it, then number, entity, reading, status, and the thresholds from lowest to
+-- highest. For sensors that share a record, the number and the reading are those of the first.
 pub record IsLineOfSensor (view : SdrView) (sensor : Sensor) (reading : Option Reading)
     (text : List ℕ) : Type 0 where
   pub column : List ℕ

@@ -21,7 +21,7 @@ abbrev pub IsReading : Option (List ℕ) → ℕ → List ℕ → Type 0
 IsReading None raw text = text ≡ raw_byte_text raw
 IsReading (Some full) raw text = IsRawText full raw text
 
--- the same without units
+-- the value without units
 abbrev pub IsLimit : Option (List ℕ) → ℕ → List ℕ → Type 0
 IsLimit None raw text = text ≡ raw_byte_text raw
 IsLimit (Some full) raw text = IsRawValue full raw text

@@ -32,7 +32,7 @@ pub(crate) enum Bits {
 pub(crate) enum Form {
     /// As words from a table. A field without words is not printed.
     Words,
-    /// As its label alone, if its bit is set.
+    /// As its label if its bit is set. Otherwise it is not printed.
     Flag,
     /// As words if the table has words for it, otherwise as a decimal number.
     Decimal,
@@ -47,10 +47,10 @@ pub(crate) struct Field {
     first_offset: u8,
     last_offset: u8,
     bits: Bits,
-    /// The label printed before it.
+    /// The label, printed before the words or the number.
     pub(crate) label: &'static str,
     pub(crate) form: Form,
-    /// The words of its codes. Most numbers have none.
+    /// The words of its codes. For most decimal fields there are none.
     pub(crate) words: &'static [&'static str],
 }
 
@@ -473,7 +473,7 @@ impl Field {
             && event.offset <= self.last_offset
     }
 
-    /// Its number in a byte.
+    /// The number in the field's bits of a byte.
     pub(crate) fn value_in(&self, byte: u8) -> u8
         ensures { result ≡ value_in self.now byte }
     {

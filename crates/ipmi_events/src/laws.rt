@@ -1,16 +1,16 @@
-//! Laws of tables and lines. They follow from the definitions, so they hold for any code that makes such a one.
+//! Laws of tables and lines. They follow from the definitions, so they hold for any code that makes such a text.
 ghost use Rattle.std.specs.Prelude.{◌≡◌, ℕ, List};
 ghost use Rattle.std.specs.List.{AllPass, concat};
 ghost use Rattle.ipmi_events.specs.Laws.{DetailsAreUnique, DetailsExist, EventInWordsExists, EventInWordsIsUnique};
 ghost use Rattle.ipmi_events.specs.Sensors.{is_whole_record, records_in};
 
-/// Concatenated whole records are found again.
+/// Splitting concatenated whole records gives these records again.
 pub fn records_are_found_again()
     ensures { (records : List (List ℕ)) → AllPass is_whole_record records →
         records_in (concat records) ≡ records }
 {}
 
-/// What an event's data say is one text, so what `push_details` appends is the only one.
+/// An event has at most one text of details, so the text that `push_details` appends is the only one.
 pub fn one_text_of_details()
     ensures { DetailsAreUnique }
 {

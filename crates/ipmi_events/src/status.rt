@@ -50,9 +50,9 @@ fn passed_status(bits: u8) -> &'static str
     }
 }
 
-/// The status of a sensor by the answer of Get Sensor Reading for it, if there is one: `ok`, or of a threshold sensor the
-/// worst threshold that its reading passes, as `ucr` for the upper critical one; `ns` without a reading, and `na` where
-/// another controller owns the sensor.
+/// The status of a sensor, from the answer of Get Sensor Reading if there is one: `ok`, or for a threshold sensor the
+/// worst threshold that its reading has passed, such as `ucr` for the upper critical one. It is `ns` without a reading,
+/// and `na` if another controller owns the sensor.
 pub fn status_in_words(sensor: &Sensor, reading: Option<Reading>) -> &'static str
     ensures { result.now ≡ status_in_words sensor.now (shown_of sensor.now reading) }
 {

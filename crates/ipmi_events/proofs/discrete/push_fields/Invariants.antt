@@ -3,7 +3,7 @@ use Rattle.ipmi_events.specs.Extensions.{fields_text}
 use Rattle.ipmi_events.specs.Parts.{has_parts, parts_text}
 use Rattle.ipmi_events.proofs.discrete.push_fields.Given as goal
 
--- the parts so far, with those of the fields that are left after them
+-- The text so far, followed by the parts of the remaining fields, is the whole text.
 abbrev pub invariant-loop-field : goal.invariant-loop-field
 invariant-loop-field l =
     (string_bytes l.text ++ parts_text (l.before || l.said) (fields_text (drop l.field-index l.fields) l.event l.value)

@@ -3,7 +3,7 @@ use Rattle.std.proofs.lemmas.List.{length-drop}
 use Rattle.ipmi_events.proofs.IndexLemmas.{index_all, index_more, index_none}
 use Rattle.ipmi_events.proofs.sensors.note_records.Goals as goal
 
--- what a slice from a place on is
+-- the slice from a place to the end
 from_place : (place : ℕ) (bytes : List ℕ) → take (length bytes - place) (drop place bytes) ≡ drop place bytes
 from_place place bytes = take_all (length bytes - place) (drop place bytes) (omega (arith, length-drop place bytes))
 

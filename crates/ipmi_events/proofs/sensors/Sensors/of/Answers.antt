@@ -3,7 +3,7 @@ use Rattle.std.proofs.Math.Seq.{take-append_seam}
 use Rattle.ipmi_events.proofs.IndexLemmas.{get_or-replicate_same}
 use Rattle.ipmi_events.proofs.sensors.Sensors.of.Goals as goal
 
--- what is written through a slice of a whole `Vec`
+-- the contents of a `Vec` after writing through a slice of all of it
 written_back : (len : ℕ) (new rest : List ℕ) → len ≡ length new → take len (new ++ rest) ≡ new
 written_back len new rest e = rw e (take-append_seam new rest)
 
