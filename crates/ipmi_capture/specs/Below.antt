@@ -1,4 +1,4 @@
--- The words of the crates below that this crate cites, passed on from one place. Declares nothing.
+-- Re-exports the definitions of lower crates that this crate uses. Declares nothing.
 pub use Rattle.ipmi_text.specs.declared.reading.Reading.{Reading}
 pub use Rattle.ipmi_text.specs.Hex.{byte_h, hex_byte}
 pub use Rattle.ipmi_records.specs.declared.sdr.SdrFault.{SdrFault}

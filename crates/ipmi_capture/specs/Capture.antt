@@ -1,4 +1,4 @@
--- When the store of an image is a capture of a controller's store.
+-- The store of an image is a capture of a controller's store.
 use Rattle.std.specs.Prelude.{◌≡◌, ℕ, Option, None, Result, Ok, Err, List, ◌∷◌, All, filter_map, length, take, ◌⊎◌}
 use Rattle.std.specs.List.{Any}
 use Rattle.ipmi_capture.specs.Below.{First, info_of, inventory_of, EndsBy, IsWalk, reading_of, Row, rows_of, Sdr, SdrFault, SdrView, sdr_view_of, Sel, Shelf, Store, WalkEnd}
@@ -8,12 +8,12 @@ use Rattle.ipmi_records.specs.Sdr as sdr
 
 -- ---- what records name
 
--- the LUN and number of the sensor that a record names for a reading; a faulty record names none
+-- the LUN and number of the sensor whose reading is requested for a record; none for a faulty record
 abbrev pub sensor_named : Result SdrView SdrFault → Option (ℕ × ℕ)
 sensor_named (Ok view) = sdr.reading_of view
 sensor_named (Err fault) = None
 
--- the FRU device whose inventory is asked for on account of a record
+-- the FRU device whose inventory is requested for a record
 abbrev pub device_named : Result SdrView SdrFault → Option ℕ
 device_named (Ok view) = sdr.fru_of view
 device_named (Err fault) = None
@@ -26,12 +26,12 @@ devices_of rows = filter_map (λ row. device_named (sdr_view_of row.bytes)) rows
 
 -- ---- a capture
 
--- the rows of the image's shelf are these and no others, and are their own walk from the first record, which ends so
+-- the rows of the image's shelf are exactly this walk, and it is their walk from the first record, with this end
 abbrev pub HasWalk : Shelf → Store → List Row → WalkEnd → Type 0
 HasWalk shelf image walk end = (rows_of shelf image ≡ walk)
     × IsWalk (rows_of shelf image) First walk × EndsBy (rows_of shelf image) First walk end
 
--- the walk of the store's shelf from its first record, and how it ends, are those of the image's, which has no other rows
+-- the image's shelf has the same walk from the first record as the store's, with the same end, and no other rows
 abbrev pub SameWalk : Shelf → Store → Store → Type 0
 SameWalk shelf image store = (walk : List Row) (end : WalkEnd)
     → IsWalk (rows_of shelf store) First walk → EndsBy (rows_of shelf store) First walk end
@@ -43,7 +43,7 @@ SameReading image store key = reading_of key.0 key.1 image ≡ reading_of key.0 
 abbrev pub SameInventory : Store → Store → ℕ → Type 0
 SameInventory image store id = inventory_of id image ≡ inventory_of id store
 
--- the image has none, or what the store has
+-- the image has no value, or the value of the store
 abbrev pub NoneOrSame : {V : Type 0} → Option V → Option V → Type 0
 NoneOrSame of_image of_store = (of_image ≡ None) ⊎ (of_image ≡ of_store)
 
@@ -55,8 +55,8 @@ abbrev pub OwnInventories : Store → Store → Type 0
 OwnInventories image store =
     (id : ℕ) → NoneOrSame (inventory_of id image) (inventory_of id store)
 
--- the image has of the store both walks, both infos, the reading of each sensor that a record names, and the inventories of
--- device 0 and of each device that a record names; and it has no record, reading or inventory that is not the store's
+-- The image has both walks and both infos of the store, the reading of each sensor that a record names, and the inventories of
+-- device 0 and of each device that a record names. It has no record, reading or inventory that differs from the store's.
 pub record IsCaptureOf (image store : Store) : Type 0 where
   pub sdr : SameWalk Sdr image store
   pub sel : SameWalk Sel image store
@@ -69,8 +69,8 @@ pub record IsCaptureOf (image store : Store) : Type 0 where
 
 -- ---- a capture that lacks something
 
--- the same walk, and its end is noted unless it is done; or the image has the first records of it, and no others, and the
--- records after them were left out, maybe none
+-- the same walk, whose end is noted unless it is FFFFh; or the image has only the first records of the walk, and the records
+-- after them were left out (there may be none)
 abbrev pub WalkOrLeft : Shelf → List Left → Store → Store → Type 0
 WalkOrLeft shelf left image store = (walk : List Row) (end : WalkEnd)
     → IsWalk (rows_of shelf store) First walk → EndsBy (rows_of shelf store) First walk end
@@ -85,7 +85,7 @@ abbrev pub InventoryOrLeft : List Left → Store → Store → ℕ → Type 0
 InventoryOrLeft left image store id =
     SameOrLeft (LacksInventory id) left (inventory_of id image) (inventory_of id store)
 
--- of each of these the image has what the store has, unless just that was left out; and it has nothing that is not the store's
+-- The image has each of these items of the store, unless that item was left out. It has nothing that differs from the store.
 pub record IsCaptureBut (left : List Left) (image store : Store) : Type 0 where
   pub sdr : WalkOrLeft Sdr left image store
   pub sel : WalkOrLeft Sel left image store

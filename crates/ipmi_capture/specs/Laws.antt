@@ -1,4 +1,4 @@
--- What a command prints over a capture: the same as over the store of the controller.
+-- A command prints the same over a capture as over the controller's store.
 use Rattle.std.specs.Prelude.{◌≡◌, ◌≢◌, ℕ, Bool, true, false, IsTrue, Option, None, Some, List, [], ◌∷◌, All}
 use Rattle.std.specs.List.{Contains, filter}
 use Rattle.ipmi_capture.specs.Below.{EndsBy, First, has_id, Id, IsStore, IsWalk, Place, Row, rows_of, Sdr, sdr_view_of, Sel, Shelf, start_of, Store, WalkEnd}
@@ -12,19 +12,19 @@ use Rattle.ipmi_commands.specs.Run.{OnPlan}
 use Rattle.ipmi_commands.specs.Texts.{IsTextOver, row_is_of_kind}
 use Rattle.ipmi_command_line.specs.declared.task.Task.{Task}
 
--- the id is that of a row on the walk of the shelf from its first record
+-- the id of a row on the walk of the shelf from its first record
 abbrev pub IsOnWalk : Shelf → Store → ℕ → Type 0
 IsOnWalk shelf store id = (walk : List Row) (end : WalkEnd)
     → IsWalk (rows_of shelf store) First walk → EndsBy (rows_of shelf store) First walk end
     → IsTrue (has_id walk id)
 
--- at the first record, at the end, or at such an id
+-- the first record, the end, or the id of such a row
 abbrev pub IsKnownPlace : Shelf → Store → Place → Type 0
 IsKnownPlace shelf store (Id id) = IsOnWalk shelf store id
 IsKnownPlace shelf store _ = Unit {0}
 
--- the command asks only for ids on the image's walks, and for device 0 or devices that its records name; `image rewrite` asks a
--- controller nothing
+-- the command asks only for ids on the image's walks, for device 0, and for devices that its records name; `image rewrite` is
+-- left out, as it does nothing over a controller
 abbrev pub IsOfCapture : Store → Task → Option ℕ → Type 0
 IsOfCapture image (Task.SelList count) from = IsKnownPlace Sel image (start_of from)
 IsOfCapture image (Task.SelGet id) from = IsKnownPlace Sel image (Id id)
@@ -34,14 +34,14 @@ IsOfCapture image (Task.Info shelf) from = Unit {0}
 IsOfCapture image Task.Rewrite from = ⊥
 IsOfCapture image task from = IsKnownPlace Sdr image (start_of from)
 
--- a text of the item over one store is one over the other
+-- the texts of the item over one store are its texts over the other
 abbrev pub SameText : Store → Store → Item → Type 0
 SameText image store item = (text : List ℕ)
     → (IsTextOver image item.subject text → IsTextOver store item.subject text)
     × (IsTextOver store item.subject text → IsTextOver image item.subject text)
 
--- such a command has over both stores the same plan, and each of its items has the same texts, so that what a run printed
--- before it stopped is the same too; with whatever tries, which bound only the calls
+-- A command has the same plan over both stores, and each item has the same texts. So runs that stop at the same item print the
+-- same. The tries may differ, as they affect only the number of calls.
 abbrev pub PrintsTheSame : Store → Store → Wording → Task → Option ℕ → Type 0
 PrintsTheSame image store wording task from = (tries tries' : ℕ)
     → OnPlan (job_in wording task from) tries store (λ plan calls.
@@ -53,10 +53,10 @@ CapturesPrintTheSame = (image store : Store) (wording : Wording) (task : Task) (
     → IsStore image → IsStore store → IsCaptureOf image store → IsOfCapture image task from
     → PrintsTheSame image store wording task from
 
--- ---- where something was left out
+-- ---- a capture that lacks something
 
--- whether a command walks the shelf: to list its records or entries, or all inventories, or for the names of sensors, which
--- events have in words and as objects
+-- whether a command walks the shelf: to list records or entries, to list all inventories, or for the names of sensors of events
+-- in words and as objects
 abbrev pub is_walked : Shelf → Task → Wording → Bool
 is_walked Sel (Task.SelList count) wording = true
 is_walked Sel (Task.SelGet id) wording = true
@@ -69,7 +69,7 @@ is_walked Sdr (Task.Info shelf) wording = false
 is_walked Sdr (Task.Fru (Some id)) wording = false
 is_walked Sdr task wording = true
 
--- the sensors whose readings it asks for: those that a record of its kind, or with its name, names
+-- the sensors whose readings the command requests: those named by records of its kind, or with its name
 abbrev pub sensors_asked : Task → List Row → List (ℕ × ℕ)
 sensors_asked (Task.List kind) rows = sensors_of (filter (row_is_of_kind kind) rows)
 sensors_asked (Task.Elist kind) rows = sensors_of (filter (row_is_of_kind kind) rows)
@@ -77,13 +77,13 @@ sensors_asked (Task.Get name) rows =
     sensors_of (filter (λ row. view_has_name name (sdr_view_of row.bytes)) rows)
 sensors_asked task rows = []
 
--- the devices whose inventories it asks for
+-- the devices whose inventories the command requests
 abbrev pub devices_asked : Task → List Row → List ℕ
 devices_asked (Task.Fru None) rows = 0 ∷ devices_of rows
 devices_asked (Task.Fru (Some id)) rows = id ∷ []
 devices_asked task rows = []
 
--- a command needs nothing of what was left out
+-- a command does not need the item left out
 pub record IsUnneeded (image : Store) (wording : Wording) (task : Task) (left : Left) : Type 0 where
   pub records : (shelf : Shelf) → LacksRecords shelf left → is_walked shelf task wording ≡ false
   pub info : (shelf : Shelf) → LacksInfo shelf left → task ≢ Task.Info shelf
@@ -91,7 +91,7 @@ pub record IsUnneeded (image : Store) (wording : Wording) (task : Task) (left : 
       → ¬ Contains (sensors_asked task image.sdr) (lun, number)
   pub inventory : (id : ℕ) → LacksInventory id left → ¬ Contains (devices_asked task image.sdr) id
 
--- so it is over a capture that lacks only what the command does not need
+-- the same over a capture that lacks only items that the command does not need
 abbrev pub CapturesPrintWhatTheyHave : Type 0
 CapturesPrintWhatTheyHave =
     (left : List Left) (image store : Store) (wording : Wording) (task : Task) (from : Option ℕ)

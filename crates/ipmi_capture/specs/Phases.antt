@@ -1,4 +1,4 @@
--- What each part of a capture leaves, for the contracts of private functions.
+-- The effect of each phase of a capture, for the contracts of private functions.
 use Rattle.std.specs.Prelude.{◌≡◌, ◌≢◌, ℕ, ◌+◌, ◌*◌, ◌<◌, ◌≤◌, ◌==◌, ◌||◌, IsTrue, Bool, false, true, Option, Some, None, Err, List, ◌++◌, All, map, take, length, slice_index_or, ◌⊎◌}
 use Rattle.std.specs.List.{Any}
 use Rattle.std.specs.Option.{option_to_list}
@@ -10,19 +10,19 @@ use Rattle.ipmi_capture.specs.declared.left.Left.{Left}
 
 -- ---- over any controller
 
--- more was left out, and this holds of each
+-- more items were left out, and `P` holds for each
 pub record Adds (P : Left → Type 0) (left left' : List Left) : Type 0 where
   pub more : List Left
   pub grows : left' ≡ left ++ more
   pub all : All P more
 
--- a reading that the image has not
+-- a reading that the image lacks
 pub record IsUnread (image : Store) (left : Left) : Type 0 where
   pub key : ℕ × ℕ
   pub lacks : LacksReading key.0 key.1 left
   pub none : reading_of key.0 key.1 image ≡ None
 
--- an inventory that the image has not
+-- an inventory that the image lacks
 pub record IsUnkept (image : Store) (left : Left) : Type 0 where
   pub id : ℕ
   pub lacks : LacksInventory id left
@@ -30,8 +30,8 @@ pub record IsUnkept (image : Store) (left : Left) : Type 0 where
 
 -- ---- over an honest controller
 
--- a phase of a capture, with the list of what was left out before it and after it: the list grows. If no store is added, the
--- fact holds, and what the new entries say of the store is true
+-- A phase of a capture, with the list of items left out before and after it: the list grows. If no store is added, the fact
+-- holds, and the new items are true of the store.
 pub record Captures (tries : ℕ) (s s' : Seen) (left left' : List Left) (Fact : Type 0) : Type 0 where
   pub more : List Left
   pub grows : left' ≡ left ++ more
@@ -40,32 +40,32 @@ pub record Captures (tries : ℕ) (s s' : Seen) (left left' : List Left) (Fact :
   pub told : s'.stores_added ≡ s.stores_added → All (IsTrueOf s.store) more
   pub plain : IsTrue s.plain → All (PlainLeaves s.store) left → All (PlainLeaves s.store) left'
 
--- these are the rows of the walk, and its end is noted; or they are the first of them, and the others were left out
+-- the rows are the whole walk, and its end is noted; or they are its first rows, and the others were left out
 abbrev pub AreRowsOf : Shelf → List Left → List Row → List Row → WalkEnd → Type 0
 AreRowsOf shelf left rows walk end = ((rows ≡ walk) × EndIsNoted shelf left end)
     ⊎ ((rows ≡ take (length rows) walk) × Any (LacksRecords shelf) left)
 
--- so of the walk of the shelf from its first record
+-- the same for the walk of the shelf from its first record
 abbrev pub AreWalk : Shelf → List Left → Store → List Row → Type 0
 AreWalk shelf left store rows = (walk : List Row) (end : WalkEnd)
     → IsWalk (rows_of shelf store) First walk → EndsBy (rows_of shelf store) First walk end
     → AreRowsOf shelf left rows walk end
 
--- the rows that came, by why there are no more: all of the walk, or the first ones
+-- the rows read, by why reading stopped: the whole walk, or its first rows
 abbrev pub CameOf : List Row → WalkEnd → List Row → Option Ended → Type 0
 CameOf walk end rows None = (rows ≡ walk) × (end ≡ Done)
 CameOf walk end rows (Some (Cycle n)) = (rows ≡ walk) × (end ≡ CycleAt n)
 CameOf walk end rows (Some (Missing n)) = (rows ≡ walk) × (end ≡ MissingAt n)
 CameOf walk end rows (Some ended) = rows ≡ take (length rows) walk
 
--- over a plain controller the records end as the walk does
+-- over a plain controller reading stops only at the end of the walk
 abbrev pub PlainEnds : Option Ended → Type 0
 PlainEnds None = Unit {0}
 PlainEnds (Some (Cycle n)) = Unit {0}
 PlainEnds (Some (Missing n)) = Unit {0}
 PlainEnds (Some ended) = ⊥
 
--- a shelf was read: where no store is added, along its walk
+-- a shelf was read; if no store is added, along its walk
 pub record Walks (shelf : Shelf) (tries : ℕ) (s s' : Seen) (rows : List Row) (ended : Option Ended) : Type 0 where
   pub along : s'.stores_added ≡ s.stores_added → (walk : List Row) (end : WalkEnd)
       → IsWalk (rows_of shelf s.store) First walk → EndsBy (rows_of shelf s.store) First walk end
@@ -73,9 +73,9 @@ pub record Walks (shelf : Shelf) (tries : ℕ) (s s' : Seen) (rows : List Row) (
   pub plain : IsTrue s.plain → PlainEnds ended
   pub counts : AreCounted tries (map (Left.Records shelf) (option_to_list ended)) s s'
 
--- ---- what is put into the image
+-- ---- items put into the image
 
--- a reading that came is put after the others
+-- a reading, if there is one, is put after the others
 abbrev pub HasRead : ℕ → ℕ → Option Reading → Store → Store → Type 0
 HasRead lun number None old new = new ≡ old
 HasRead lun number (Some reading) old new = new ≡ with_reading lun number reading old
@@ -84,7 +84,7 @@ abbrev pub HasInventory : ℕ → Option (List ℕ) → Store → Store → Type
 HasInventory id None old new = new ≡ old
 HasInventory id (Some bytes) old new = new ≡ with_inventory id bytes old
 
--- the reading of each marked sensor is the store's, or was left out, and there is none that is not the store's
+-- the reading of each marked sensor is the store's, or was left out; no reading differs from the store's
 pub record HasReadings (marks : List Bool) (left : List Left) (image store : Store) : Type 0 where
   pub named : (key : ℕ × ℕ) → IsSensorKey key
       → slice_index_or marks (sensor_place key) false ≡ true → ReadingOrLeft left image store key
@@ -96,37 +96,37 @@ pub record HasInventories (marks : List Bool) (left : List Left) (image store : 
       → InventoryOrLeft left image store id
   pub own : OwnInventories image store
 
--- what is left out where an inventory was refused with this code, and its size was asked for after that: the size, if that call
--- failed with the same code
+-- the item left out after an inventory was refused with this code and its size was requested again: the size, if that call failed
+-- with the same code; otherwise the inventory
 abbrev pub IsLeftByRefusal : Code → Option ℕ → Left → Type 0
 IsLeftByRefusal code failure (Left.Size id c) = (c ≡ code) × (failure ≡ Some code.0)
 IsLeftByRefusal code failure (Left.Inventory id ended) =
     (ended ≡ FruEnded.Refused code) × (failure ≢ Some code.0)
 IsLeftByRefusal code failure left = ⊥
 
--- as many refusals came as are told of, but for the one that is known
+-- there were as many refusals as the item stands for, besides the one already counted
 abbrev pub IsRefusedAgain : Seen → Seen → Left → Type 0
 IsRefusedAgain s s' left = s.refusals + refusals_in left ≤ s'.refusals + refusals_for (unread_in left)
 
--- over a plain controller the reading of an inventory does not end so
+-- over a plain controller, reading an inventory does not end this way
 abbrev pub IsNotPlain : FruEnded → Type 0
 IsNotPlain ended = PlainMayAnswer (Err ended) → ⊥
 
--- ---- calls, of any controller
+-- ---- calls, over any controller
 
--- of a cursor: it asks for at most 65,536 records, and its part size falls at most seven times
+-- for a cursor: it requests at most 65,536 records, and reduces its part size at most seven times
 abbrev pub most_on_walk : Shelf → ℕ → ℕ
 most_on_walk shelf tries = 65536 * step_call_bound tries (largest_len shelf) + 7
 
--- of four cursors
+-- for four cursors
 abbrev pub most_on_shelf : Shelf → ℕ → ℕ
 most_on_shelf shelf tries = 4 * most_on_walk shelf tries
 
--- of an inventory, and once more of its size
+-- for an inventory, and once more for its size
 abbrev pub most_for_inventory : ℕ → ℕ
 most_for_inventory tries = fru_call_bound tries 65535 + 1
 
--- of both shelves, both infos, 1024 readings and 255 inventories
+-- for both shelves, both infos, 1024 readings and 255 inventories
 abbrev pub most_calls : ℕ → ℕ
 most_calls tries = most_on_shelf Sdr tries + most_on_shelf Sel tries + 2 * (tries + 1)
     + 1024 * (tries + 1) + 255 * most_for_inventory tries

@@ -1,4 +1,4 @@
-//! Captures a controller: reads all that it holds into an image.
+//! Captures a controller: reads its contents into an image.
 ghost use Rattle.std.specs.Prelude.{◌≡◌, ◌+◌, ◌<◌, ◌≤◌, All, IfOk, IsTrue, None, OnOk, []};
 ghost use Rattle.std.specs.List.{list_all};
 ghost use Rattle.ipmi_capture.specs.Below.{AsksAtMost, info_of, IsHonest, IsPlain, rows_of, StaysHonest, Store, with_info, with_rows};
@@ -16,7 +16,7 @@ use ipmi_bus::{Controller, Shelf};
 use ipmi_image::{Image, ImageBuilder};
 use std::alloc::{AllocError, Global};
 
-/// How a controller is asked: for at most so many bytes at once, and again after so many troubles of one thing.
+/// The settings for requests: the largest part in bytes, and the number of troubles allowed for each item.
 #[derive(Clone, Copy)]
 pub(crate) struct Asking {
     pub(crate) alloc: Global,
@@ -24,19 +24,19 @@ pub(crate) struct Asking {
     pub(crate) tries: u8,
 }
 
-/// What was read of a controller.
+/// The result of a capture.
 #[derive(Drop)]
 pub struct Captured {
-    /// What came.
+    /// The image of what was read.
     pub image: Image,
-    /// What did not come, and why.
+    /// The items left out, each with the reason.
     pub left: Vec<Left>,
-    /// Whether all came but infos, readings and sizes that the controller refused to tell, and inventories without bytes. A
-    /// connection that is lost refuses all that is asked after it: `RawController::lost` of `ipmi_raw` says so.
+    /// Whether only infos, readings and sizes that the controller refused, inventories without bytes, and cycles are left
+    /// out. A lost connection refuses all later requests; then `RawController::lost` of `ipmi_raw` is Some.
     pub is_whole: bool,
 }
 
-/// Puts the records of a shelf into the image, and notes why there are no more.
+/// Puts the records of a shelf into the image, and notes why it stopped before FFFFh, if it did.
 fn note_shelf<C: Controller, P: Progress>(
     asking: Asking,
     ctl: &mut C,
@@ -85,16 +85,16 @@ fn note_info<C: Controller>(
     note(left, lacks)
 }
 
-/// Reads all that the controller holds: the records of both shelves along their next ids, both infos, the readings of the
-/// sensors and the inventories of the devices that records name, each once, and the inventory of device 0. It asks for at most
-/// `part` bytes at once, and lets each thing meet `tries` troubles; after a refusal it goes on with what is next.
+/// Reads the contents of the controller: the records of both shelves along their next ids, both infos, the inventory of
+/// device 0, and once each the readings of the sensors and the inventories of the devices that records name. A request is
+/// for at most `part` bytes. Each item may have `tries` troubles. After a refusal it continues with the next item.
 ///
-/// What is left out is not in the image, over any controller. An honest controller counted `tries` + 1 troubles for each item
-/// that was given up, one refusal for each that was refused, and two for a size. If it adds no store meanwhile, the image has
-/// exactly its items, except those that were left out. Each walk end but that of a whole walk is noted. A noted end is true of
-/// the store, and so is an inventory noted as empty. If nothing was left out, the image is a capture. Over a plain controller
-/// only an inventory without bytes is left out. If stores are added, `Cursor::step` says that the controller had each record as
-/// it was lent; that the image has just these records is only tested.
+/// Over any controller, an item left out is not in the image. An honest controller counted `tries` + 1 troubles for each
+/// item given up, one refusal for each refused item, and two for a size. If it adds no store meanwhile, the image has exactly
+/// the controller's items, except those left out. A walk that does not end with FFFFh is noted with its end. Such an end is
+/// true of the store, and so is an inventory noted as empty. If nothing was left out, the image is a capture. Over a plain
+/// controller only inventories without bytes are left out. If stores are added, the contract of `Cursor::step` says that the
+/// controller had each record when it was returned; that the image has exactly these records is only tested.
 pub fn capture<C: Controller, P: Progress>(
     alloc: Global,
     ctl: &mut C,

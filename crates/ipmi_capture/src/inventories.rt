@@ -16,11 +16,11 @@ use ipmi_bus::{Code, Controller, FruEnded, LAST_FRU_DEVICE_ID, read_fru};
 use ipmi_image::ImageBuilder;
 use std::alloc::AllocError;
 
-/// The id that is no FRU device's.
+/// FFh, which is not the id of a FRU device.
 const NO_DEVICE: u8 = LAST_FRU_DEVICE_ID + 1;
 
-/// What is left out after a refusal with this code: nothing if there is no inventory. The code may have refused the size or a
-/// part, so the size is asked for once more.
+/// The item left out after a refusal with this code; None if there is no inventory. Either the size or a part may have been
+/// refused, so the size is requested once more.
 fn left_by_refusal<C: Controller>(ctl: &mut C, id: u8, code: Code) -> Option<Left>
     ensures calls { (C.seen ctl.new).calls ≤ (C.seen ctl.old).calls + 1 }
     ensures asked { AsksAtMost 0 (C.seen ctl.old) (C.seen ctl.new) }
@@ -41,7 +41,7 @@ fn left_by_refusal<C: Controller>(ctl: &mut C, id: u8, code: Code) -> Option<Lef
     }
 }
 
-/// What is left out where an inventory was not read.
+/// The item left out if an inventory was not read.
 fn left_by<C: Controller>(ctl: &mut C, id: u8, ended: FruEnded) -> Result<Option<Left>, AllocError>
     ensures calls { (C.seen ctl.new).calls ≤ (C.seen ctl.old).calls + 1 }
     ensures asked { AsksAtMost 0 (C.seen ctl.old) (C.seen ctl.new) }
@@ -59,7 +59,7 @@ fn left_by<C: Controller>(ctl: &mut C, id: u8, ended: FruEnded) -> Result<Option
     }
 }
 
-/// Puts the inventory of the device into the image, where it has one, and says what it left out.
+/// Puts the inventory of the device into the image, if it has one. Returns the item left out, if any.
 fn capture_inventory<C: Controller, P: Progress>(
     asking: Asking,
     ctl: &mut C,

@@ -1,9 +1,9 @@
-//! Laws of captures, the contract of a function that does nothing.
+//! Laws of captures: the contract of a function that does nothing.
 ghost use Rattle.ipmi_capture.specs.Laws.{CapturesPrintTheSame, CapturesPrintWhatTheyHave};
 
 /// A command has the same plan and texts over a capture as over the controller's store, if it asks only for ids on walks and
-/// for devices that records name. The capture may lack what the command does not ask for: `sel list` and `sdr list fru` need
-/// no readings, and `fru print 1` needs no other inventory.
+/// for devices that records name. The capture may lack items that the command does not ask for: `sel list` and
+/// `sdr list fru` need no readings, and `fru print 1` needs no other inventory.
 pub fn captures_print_the_same()
     ensures all { CapturesPrintTheSame }
     ensures part { CapturesPrintWhatTheyHave }

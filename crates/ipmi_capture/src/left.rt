@@ -1,4 +1,4 @@
-//! What of a controller is not in its image.
+//! The items of a controller that are not in its image.
 ghost use Rattle.std.specs.Prelude.{◌≡◌, ◌++◌, OnOk, Some};
 ghost use Rattle.std.specs.Option.{option_to_list};
 ghost use Rattle.std.specs.List.{list_all};
@@ -10,12 +10,12 @@ use ipmi_text::{ByteH, HexByte};
 use std::alloc::AllocError;
 use std::fmt;
 
-/// Why a reading or an info did not come.
+/// Why a reading or an info was not read.
 #[derive(Clone, Copy, Debug, PartialEq, Eq)]
 pub enum Unread {
     /// The controller refused with this code.
     Refused(Code),
-    /// More troubles came than the tries allow.
+    /// There were more troubles than the tries allow.
     GaveUp,
 }
 
@@ -34,7 +34,7 @@ impl fmt::Display for Unread {
 }
 
 impl Unread {
-    /// Why a value did not come, by how its retrieval ended.
+    /// Why a value was not read, from the end of its retrieval.
     pub(crate) fn of(ended: Ended) -> Unread
         ensures { result ≡ unread_of ended }
     {
@@ -45,17 +45,17 @@ impl Unread {
     }
 }
 
-/// What of a controller is not in its image, and why. It is displayed as one line, without a line feed.
+/// An item of a controller that is not in its image, with the reason. It is displayed as one line, without a line feed.
 #[derive(Clone, Copy, Debug, PartialEq, Eq)]
 pub enum Left {
-    /// The records of the shelf after those that came. A cycle or a missing record leaves none out: it is only
-    /// noted.
+    /// The records of the shelf after those that were read. After a cycle or a missing record there are no others; this
+    /// is only noted.
     Records(Shelf, Ended),
     /// The info of the shelf.
     Info(Shelf, Unread),
     /// The reading of the sensor with this number at this LUN.
     Reading { lun: u8, number: u8, unread: Unread },
-    /// The inventory of the FRU device with this id: the controller refused it with this code, and then to say how long it is.
+    /// The inventory of the FRU device with this id: the controller refused it with this code, and then refused its size.
     Size(u8, Code),
     /// The inventory of the FRU device with this id: it has no bytes, and an image has no empty inventory.
     Empty(u8),
@@ -63,7 +63,7 @@ pub enum Left {
     Inventory(u8, FruEnded),
 }
 
-/// Why an inventory was not read, as a line says it.
+/// Why an inventory was not read, as printed in a line.
 #[derive(Clone, Copy)]
 struct Why(FruEnded);
 
@@ -132,7 +132,8 @@ impl fmt::Display for Left {
 }
 
 impl Left {
-    /// Whether an image is whole without it: an info, a reading or a size that the controller refuses to tell is not missed.
+    /// Whether an image is whole without the item: a cycle, an inventory without bytes, or an info, a reading or a size that
+    /// the controller refused.
     pub(crate) fn leaves_whole(&self) -> bool
         ensures { result ≡ leaves_whole self.now }
     {
@@ -147,14 +148,14 @@ impl Left {
     }
 }
 
-/// Whether an image is whole without all of these.
+/// Whether an image is whole without all these items.
 pub(crate) fn is_whole(list: &[Left]) -> bool
     ensures { result ≡ list_all leaves_whole list.now }
 {
     list.iter().all(|left| left.leaves_whole())
 }
 
-/// Adds what was left out, if anything was.
+/// Appends the item left out, if there is one.
 pub(crate) fn note(list: &mut Vec<Left>, left: Option<Left>) -> Result<(), AllocError>
     ensures { OnOk result (list.new.items ≡ list.old.items ++ option_to_list left) }
 {

@@ -1,4 +1,4 @@
-//! Reads all that a management controller holds, and makes an image of it.
+//! Reads the contents of a management controller into an image.
 #![tactic(auto)]
 
 mod capturing;

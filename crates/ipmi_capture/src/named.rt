@@ -1,4 +1,4 @@
-//! What the sensor data records of an image name: the sensors and the devices that are asked next.
+//! The sensors and devices that the sensor data records of an image name. They are read next.
 ghost use Rattle.std.specs.Prelude.{◌≡◌, ◌<◌, ◌==◌, ◌||◌, false, slice_index_or, IfOk, IfSome, Ok, length, option_map, vec_len};
 ghost use Rattle.ipmi_capture.specs.Capture.{device_named, sensor_named};
 ghost use Rattle.ipmi_capture.specs.Named.{IsSensorKey, marked, Names, sensor_place};
@@ -9,13 +9,14 @@ use ipmi_image::ImageBuilder;
 use ipmi_records::SdrView;
 use std::alloc::{AllocError, Global};
 
-/// How many sensors there can be: 256 at each of four LUNs.
+/// The number of possible sensors: 256 at each of four LUNs.
 pub(crate) const SENSOR_PLACES: u16 = 1024;
 
-/// How many ids of devices there can be.
+/// The number of possible device ids.
 const DEVICE_PLACES: u16 = 256;
 
-/// Sensors and devices, each marked at its place: a sensor's is its LUN times 256 and its number, a device's its id.
+/// Sensors and devices, each marked at its index. The index of a sensor is its LUN times 256 plus its number, that of a
+/// device is its id.
 #[derive(Drop)]
 pub(crate) struct Named {
     pub(crate) sensors: Vec<bool>,
@@ -24,7 +25,7 @@ pub(crate) struct Named {
     ghost device_places: { vec_len devices ≡ 256 },
 }
 
-/// Marks the place, if there is one.
+/// Marks the index, if there is one.
 fn mark(marks: &mut [bool], place: Option<usize>)
     requires { IfSome place (λ p. p < length marks.old) }
     ensures { marks.new ≡ marked marks.old place }
@@ -34,7 +35,7 @@ fn mark(marks: &mut [bool], place: Option<usize>)
     }
 }
 
-/// The place of the sensor that a record names.
+/// The index of the sensor that a record names.
 fn place_of_sensor(view: &SdrView<'_>) -> Option<usize>
     ensures is { result ≡ option_map sensor_place (sensor_named (Ok view.now)) }
     ensures fits { IfSome (sensor_named (Ok view.now)) IsSensorKey }
@@ -44,7 +45,7 @@ fn place_of_sensor(view: &SdrView<'_>) -> Option<usize>
 }
 
 impl Named {
-    /// Marks what the record names.
+    /// Marks the sensor and the device that the record names.
     fn add(&mut self, bytes: &[u8])
         ensures sensors { self.new.sensors.items ≡ marked self.old.sensors.items
             (option_map sensor_place (sensor_named (sdr_view_of bytes.now))) }
@@ -60,7 +61,7 @@ impl Named {
         mark(&mut self.devices, view.fru_of().map(usize::from));
     }
 
-    /// Whether the sensor at this place is named.
+    /// Whether the sensor at this index is named.
     pub(crate) fn has_sensor(&self, place: u16) -> bool
         requires { place < 1024 }
         ensures { result ≡ slice_index_or self.now.sensors.items place false }
@@ -75,7 +76,7 @@ impl Named {
         id == 0 || self.devices[usize::from(id)]
     }
 
-    /// What the sensor data records of the image name.
+    /// The sensors and devices that the sensor data records of the image name.
     pub(crate) fn of(alloc: Global, image: &ImageBuilder) -> Result<Named, AllocError>
         ensures { IfOk result (λ named. Names image.now.sdr named.sensors.items named.devices.items) }
     {

@@ -1,15 +1,15 @@
-//! Tells how far a capture is.
+//! Reports the progress of a capture.
 
 use ipmi_bus::Shelf;
 
 /// Receives each item as it comes, for example to count it.
 pub trait Progress {
-    /// A record of the shelf came; if the shelf is read again, also one that came before.
+    /// A record of the shelf was read; if the shelf is read again, its records are counted again.
     fn record(&mut self, shelf: Shelf);
 
-    /// The reading of a sensor came.
+    /// The reading of a sensor was read.
     fn reading(&mut self);
 
-    /// An inventory came.
+    /// An inventory was read.
     fn inventory(&mut self);
 }

@@ -14,7 +14,7 @@ use ipmi_bus::{Controller, Shelf, read_info, read_reading};
 use ipmi_image::ImageBuilder;
 use std::alloc::AllocError;
 
-/// Puts the info of the shelf into the image, where the controller has one, and says what it left out.
+/// Puts the info of the shelf into the image, if the controller has one. Returns the item left out, if any.
 pub(crate) fn capture_info<C: Controller>(
     asking: Asking,
     ctl: &mut C,
@@ -41,7 +41,7 @@ pub(crate) fn capture_info<C: Controller>(
     }
 }
 
-/// Puts the reading of the sensor into the image, where it has one, and says what it left out.
+/// Puts the reading of the sensor into the image, if it has one. Returns the item left out, if any.
 fn capture_reading<C: Controller, P: Progress>(
     asking: Asking,
     ctl: &mut C,

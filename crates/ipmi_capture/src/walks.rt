@@ -9,11 +9,11 @@ use ipmi_bus::{Controller, Cursor, Ended, Shelf};
 use ipmi_image::ImageBuilder;
 use std::alloc::AllocError;
 
-/// How often a shelf is begun again, where a record that its chain names is not there.
+/// The number of times that a shelf is read again after a next id without a record.
 const TIMES_AGAIN: u32 = 3;
 
-/// Puts the records of the shelf into the image, along their next ids, and says why there are no more: None is the end.
-/// A record that an image can't hold, as its id is FFFFh, is malformed.
+/// Puts the records of the shelf into the image, following their next ids. Returns why it stopped; None after the last record.
+/// A record with id FFFFh is malformed, as an image can't hold it.
 fn walk_shelf<C: Controller, P: Progress>(
     asking: Asking,
     ctl: &mut C,
@@ -47,8 +47,8 @@ fn walk_shelf<C: Controller, P: Progress>(
     }
 }
 
-/// Puts the records of the shelf into the image. If a next id has no record, the shelf may have
-/// changed: it starts again, up to three times.
+/// Puts the records of the shelf into the image. If a next id has no record, the shelf may have changed, so it starts again,
+/// up to three times.
 pub(crate) fn capture_shelf<C: Controller, P: Progress>(
     asking: Asking,
     ctl: &mut C,
