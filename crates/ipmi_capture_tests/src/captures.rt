@@ -1,11 +1,11 @@
-//! Captures of controllers over an image: the text of the captured image, and a line for each thing that is left out.
+//! Captures of controllers over an image: the text of the captured image, and a line for each item left out.
 use ipmi_bus::{Code, Controller, Ended, FruEnded, Shelf};
 use ipmi_capture::{Captured, Left, Progress, Unread, capture};
 use ipmi_image::{Image, ImageController, Mood, Scripted, image_text};
 use std::alloc::Global;
 use std::process::Abort;
 
-/// A compact sensor 30h at LUN 0, a locator of FRU device 1, and one of each other thing that an image can hold.
+/// A compact sensor 30h at LUN 0, a locator of FRU device 1, and one item of each other kind.
 pub(crate) const SAVED: &str = "ipmi-image 2
 sdr 0001 - 010051021b2000300000000000000000000000000000000000000000000000c0
 sdr 0002 - 020051110b20018000000000000000c0
@@ -42,7 +42,7 @@ info sel 510100000201000000ffffffff00
 end
 ";
 
-/// The number of records, readings and inventories that were reported.
+/// The number of records, readings and inventories reported as progress.
 #[derive(Default, Drop)]
 pub(crate) struct Came {
     records: u32,
@@ -68,7 +68,7 @@ fn image(rt: &impl Abort, alloc: Global, text: &str) -> Image {
     Image::read(alloc, text.as_bytes()).expect(rt, text)
 }
 
-/// A line for each thing that is left out, and `not whole` if the image is not.
+/// A line for each item left out, and `not whole` if the image is not whole.
 fn left_out_text(rt: &impl Abort, alloc: Global, captured: &Captured) -> String {
     let mut text = String::new(alloc);
     for left in captured.left.as_slice() {
@@ -82,7 +82,7 @@ fn left_out_text(rt: &impl Abort, alloc: Global, captured: &Captured) -> String 
     text
 }
 
-/// Asserts the captured image, and what is left out.
+/// Asserts the captured image and the items left out.
 fn assert_capture<C: Controller>(
     rt: &impl Abort,
     alloc: Global,
@@ -104,8 +104,8 @@ fn assert_capture<C: Controller>(
     came
 }
 
-/// As many plain moods, and then the moods of these words: `busy`, `cancel`, `plain`, `grant` for parts of 3 bytes,
-/// `refuse` for C1h, `none` for CCh, and `change` to `WITHOUT_READING`.
+/// `plain` plain moods, and then the moods of these words: `busy`, `cancel`, `plain`, `grant` for parts of 3 bytes,
+/// `refuse` with C1h, `none` for CCh, and `change` to `WITHOUT_READING`.
 fn moods(rt: &impl Abort, alloc: Global, plain: u8, words: &str) -> Vec<Mood> {
     let mut list = Vec::new(alloc);
     for _ in 0..plain {
@@ -126,7 +126,7 @@ fn moods(rt: &impl Abort, alloc: Global, plain: u8, words: &str) -> Vec<Mood> {
     list
 }
 
-/// Asserts the capture of a controller over `SAVED`. Its calls meet these moods, after `plain` plain ones.
+/// Asserts the capture of a controller over `SAVED`. Its calls have `plain` plain moods, then these moods.
 fn assert_capture_in_moods(
     rt: &impl Abort,
     alloc: Global,
@@ -140,7 +140,7 @@ fn assert_capture_in_moods(
     drop(ctl);
 }
 
-/// Asserts the capture of a plain controller over the image of this text, and how many records are told.
+/// Asserts the capture of a plain controller over the image of this text, and the number of records reported.
 fn assert_plain_capture(
     rt: &impl Abort,
     alloc: Global,
@@ -288,7 +288,7 @@ fn a_chain_that_breaks_off_is_not_whole_and_one_that_turns_is(rt: HostRuntime) {
 #[test]
 fn a_shelf_is_begun_again_where_a_record_is_gone(rt: HostRuntime) {
     let alloc = rt.alloc();
-    // a reservation, a record, one that is not there, and a reservation
+    // a reservation, a record, a missing record, and a reservation
     let moods = moods(&rt, alloc, 3, "change");
     let mut ctl = Scripted::new(image(&rt, alloc, LOST), moods);
     let came = assert_capture(&rt, alloc, &mut ctl, 254, 3, WITHOUT_READING, "");
@@ -314,7 +314,7 @@ info sel 510100000201000000ffffffff00
 end
 ";
 
-/// Asserts the line of a thing that is left out.
+/// Asserts the line of an item left out.
 fn assert_line(rt: &impl Abort, alloc: Global, left: Left, wanted: &str) {
     let line = left.to_string(alloc).expect(rt, "memory");
     assert!(rt; line.as_str() == wanted, "got {line}");

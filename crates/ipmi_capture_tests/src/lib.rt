@@ -1,5 +1,5 @@
-//! Tests of ipmi_capture: captures of plain controllers, and of controllers that are busy, cancel, refuse, change, or
-//! give small parts.
+//! Tests of ipmi_capture: captures of plain controllers, and of controllers that are busy, cancel reservations, refuse,
+//! change, or return small parts.
 #![tactic(auto)]
 
 #[cfg(test)]

@@ -1,4 +1,4 @@
-//! The parts of a case. A case that lacks one fails, and names itself.
+//! Splitting a case into its parts. If a part is missing, the test fails and names the case.
 use std::process::Abort;
 
 /// A line before and after its first bar.
@@ -35,12 +35,12 @@ pub(crate) struct Case<'a> {
     pub words: &'a str,
     /// The name of the image.
     pub image: &'a str,
-    /// What else the first line has.
+    /// The rest of the first line.
     pub more: &'a str,
     pub wanted: &'a str,
 }
 
-/// The case of a text: `words|image|more`, then the lines that are wanted.
+/// Reads a case: `words|image|more`, then the expected lines.
 pub(crate) fn case_of<'a>(rt: &impl Abort, case: &'a str) -> Case<'a> {
     let (line, wanted) = first_line(rt, case);
     let (words, rest) = parts(rt, line);

@@ -8,7 +8,7 @@ use ipmi_bus::{Code, Controller, Event, FruSize, Part, Shelf, Tally};
 use ipmi_text::Reading;
 use std::process::Abort;
 
-/// The answer to a call that a controller has no other answer for.
+/// The answer to a call for which a controller has no other answer.
 const NO_ANSWER: Code = Code(0xFF);
 
 /// Counts each call, and passes it on. One call may be answered with a code instead.
@@ -138,8 +138,8 @@ impl Reply {
     }
 }
 
-/// Answers each call with the next reply, and repeats the last reply. It keeps the offset and the length of the last
-/// part that was asked for.
+/// Answers each call with the next reply, and repeats the last reply. It remembers the offset and the length of the last
+/// part requested.
 #[derive(Drop)]
 pub struct Replay<'a> {
     replies: &'a [Reply],
@@ -160,7 +160,7 @@ impl<'a> Replay<'a> {
         }
     }
 
-    /// Counts a call for a part of this many bytes, or 0 for any other call, and gives the next reply. The last reply is
+    /// Counts a call for a part of this many bytes, or 0 for any other call, and returns the next reply. The last reply is
     /// never used up.
     fn next_reply(&mut self, asked: u8) -> Reply
         ensures counted { IsCall asked (calls_only self.old.tally.counts)
@@ -192,7 +192,7 @@ impl<'a> Replay<'a> {
     }
 }
 
-/// Asserts the offset and the length of the last part that was asked for.
+/// Asserts the offset and the length of the last part requested.
 pub fn assert_last_request(rt: &impl Abort, ctl: &Replay, offset: u16, room: usize) {
     let got = ctl.offset;
     assert!(rt; got == offset, "asked from {got} on, not from {offset}");

@@ -1,8 +1,8 @@
-//! Tests of the commands, and of what they use: the bus, the command line, output and messages, and what a program does
-//! around a command.
+//! Tests of the commands and of what they use: the bus, the command line, output and messages, and the input and output of a
+//! program.
 //!
-//! A controller, a command, words and an outcome end by a call of `drop`, or are moved into a helper. Their parts are then
-//! dropped in one proof, not on each way out of a body.
+//! Controllers, commands, words and outcomes are dropped by a call of `drop`, or moved into a helper. Then their parts are
+//! dropped in one proof, not on each return of a body.
 #![tactic(auto)]
 
 #[cfg(test)]

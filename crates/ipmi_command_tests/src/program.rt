@@ -1,3 +1,3 @@
-//! What a program reads, and how it hands on what was printed.
+//! The input of a program, and flushing its output.
 pub(crate) mod input;
 pub(crate) mod printing;

@@ -21,7 +21,7 @@ fn take_first(got: &mut Vec<u8>, bytes: &[u8], most: usize) -> Result<usize>
     Ok(count)
 }
 
-/// Takes at most `most` bytes a call, and at most `room` in all. Then it fails, or takes none.
+/// Takes at most `most` bytes per call, and at most `room` in all. Then it fails, or takes none.
 #[derive(Drop)]
 pub struct Limited {
     pub got: Vec<u8>,
@@ -51,7 +51,7 @@ impl Limited {
         }
     }
 
-    /// Takes at most `most` bytes a call.
+    /// Takes at most `most` bytes per call.
     pub fn slow(alloc: Global, most: usize) -> Limited {
         Limited {
             got: Vec::new(alloc),

@@ -1,4 +1,4 @@
-//! Records, images and texts that the tests of several crates use. All are constants, or made of one.
+//! Records, images and texts that the tests of several crates use. All are constants, or made from one.
 #![tactic(auto)]
 
 mod images;

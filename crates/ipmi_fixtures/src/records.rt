@@ -1,4 +1,4 @@
-//! One record of each kind that most tests need, and what a sensor answers.
+//! One record of each kind that most tests need, and readings.
 use hex::FromHex;
 use ipmi_text::Reading;
 
@@ -31,8 +31,8 @@ pub const INFO: [u8; 14] = [
     0x51, 0x03, 0x00, 0x00, 0x04, 0x01, 0x00, 0x00, 0x20, 0xff, 0xff, 0xff, 0xff, 0x02,
 ];
 
-/// The record with another value of one byte. Bytes are counted from 1, as in the tables of the standard. It is `None`
-/// where the record has no such byte.
+/// The record with another value of one byte. Bytes are counted from 1, as in the tables of the standard. `None` if the
+/// record has no such byte.
 pub fn with_byte(record: [u8; 56], place: usize, value: u8) -> Option<[u8; 56]> {
     let mut record = record;
     let byte = record.get_mut(place.checked_sub(1)?)?;
@@ -40,8 +40,8 @@ pub fn with_byte(record: [u8; 56], place: usize, value: u8) -> Option<[u8; 56]> 
     Some(record)
 }
 
-/// `CPU_TEMP` with a change such as `14=6f`, which gives byte 14 the value 6Fh. Commas separate several. It is `None`
-/// where a change can't be read.
+/// `CPU_TEMP` with changes such as `14=6f`, separated by commas. This one gives byte 14 the value 6Fh. `None` if a change is
+/// malformed.
 pub fn changed(changes: &str) -> Option<[u8; 56]> {
     let mut record = CPU_TEMP;
     for change in changes.split_terminator(',') {
@@ -64,8 +64,8 @@ pub fn reading_of(bytes: [u8; 4]) -> Reading {
     }
 }
 
-/// What a sensor answered: the digits of its four bytes, or `none` where there is no such sensor. The outer `None` says
-/// that the text is neither.
+/// A reading: the digits of its four bytes, or `none` if there is no such sensor. The outer `None` means that the text is
+/// neither.
 pub fn answer_of(text: &str) -> Option<Option<Reading>> {
     if text == "none" {
         return Some(None);

@@ -1,5 +1,4 @@
-//! What is printed of the records. The texts were put together by hand, from the tables of the standard and the layout
-//! of each line.
+//! The texts of the records. They were put together by hand, from the tables of the standard and the layout of each line.
 
 /// The block of `CPU_TEMP` with the reading 2Dh. Scanning is enabled, and no threshold is crossed.
 pub const CPU_TEMP_BLOCK: &str = "Record: 0001h

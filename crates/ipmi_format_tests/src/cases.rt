@@ -1,20 +1,20 @@
-//! The parts of a case, bytes in hex, and texts that are compared with the expected ones.
+//! Splitting a case, reading bytes in hex, and comparing a text with the expected one.
 use std::alloc::{AllocError, Global};
 use std::process::Abort;
 
-/// A line before and after its first bar.
+/// The text of a line before and after its first bar.
 pub(crate) fn parts<'a>(rt: &impl Abort, line: &'a str) -> (&'a str, &'a str) {
     line.split_once('|').expect(rt, line)
 }
 
-/// A line before, between and after its first two bars.
+/// The text of a line before, between and after its first two bars.
 pub(crate) fn three_parts<'a>(rt: &impl Abort, line: &'a str) -> (&'a str, &'a str, &'a str) {
     let (first, rest) = parts(rt, line);
     let (second, third) = rest.split_once('|').expect(rt, line);
     (first, second, third)
 }
 
-/// The byte of two hex digits.
+/// The byte in two hex digits.
 pub(crate) fn byte_of(rt: &impl Abort, digits: &str) -> u8 {
     u8::from_str_radix(digits, 16).expect(rt, digits)
 }
@@ -24,7 +24,7 @@ pub(crate) fn bytes_of(rt: &impl Abort, alloc: Global, digits: &str) -> Vec<u8> 
     hex::decode(alloc, digits).expect(rt, digits)
 }
 
-/// Asserts that a call gave this text.
+/// Asserts that a call returned this text.
 pub(crate) fn assert_text(
     rt: &impl Abort,
     got: Result<String, AllocError>,
@@ -35,7 +35,7 @@ pub(crate) fn assert_text(
     assert!(rt; got.as_str() == wanted, "{case}: got {got}");
 }
 
-/// Asserts that a call gave this text, or that memory was refused.
+/// Asserts that a call returned this text, or that memory was refused.
 pub(crate) fn assert_text_or_refused(
     rt: &impl Abort,
     got: Result<String, AllocError>,
@@ -46,7 +46,7 @@ pub(crate) fn assert_text_or_refused(
     }
 }
 
-/// Asserts that a call gave this text, followed by this end.
+/// Asserts that a call returned this text, followed by this end.
 pub(crate) fn assert_text_with_end(
     rt: &impl Abort,
     got: Result<String, AllocError>,
@@ -69,7 +69,7 @@ pub(crate) fn bytes_of_lines(rt: &impl Abort, alloc: Global, lines: &str) -> Vec
     bytes
 }
 
-/// The line of a case at a place, counted from 0.
+/// The line of a case at this index, counted from 0.
 pub(crate) fn line_of<'a>(rt: &impl Abort, case: &'a str, place: usize) -> &'a str {
     case.lines().nth(place).expect(rt, case)
 }

@@ -1,4 +1,4 @@
-//! Worked inventories: their texts, and what is read of them.
+//! Worked inventories: their texts and their values.
 mod damaged;
 mod examples;
 mod inventories;

@@ -1,5 +1,5 @@
-//! Texts of fields, names, units, times, decimals and hex digits, by themselves and in other texts: cases that were
-//! worked by hand or by another program, and each table written once more.
+//! Texts of fields, names, units, times, decimals and hex digits, alone and within other texts. Cases were worked by hand or by
+//! another program, and each table was typed a second time.
 mod decimals;
 mod fields;
 mod hex_digits;

@@ -105,7 +105,7 @@ pub record IsTextOfArea (kind : AreaKind) (bytes text : List ℕ) : Type 0 where
 
 -- ---- records
 
--- the volts of two bytes from a place on: a signed number of 10 mV
+-- the volts in the two bytes at an offset: a signed number of 10 mV
 abbrev pub volts_at : ℕ → List ℕ → Fixed
 volts_at place bytes = record {
   0 = twos_complement 2 (little_from place 2 bytes) *ℤ pos (10 ^ 14);

@@ -163,7 +163,7 @@ impl<'a> AreaView<'a> {
         Ok(AreaView { kind, bytes: area })
     }
 
-    /// Whose area it is.
+    /// The kind of the area.
     pub fn kind(&self) -> AreaKind
         ensures { result ≡ self.now.kind }
     {

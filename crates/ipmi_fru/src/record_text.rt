@@ -64,16 +64,16 @@ const FIRST_TEXT: u8 = 0x01;
 /// The last subtype of a management access record whose data is text.
 const LAST_TEXT: u8 = 0x06;
 
-/// Which record of direct current it is.
+/// The kind of a DC record.
 #[derive(Clone, Copy, Debug, PartialEq, Eq)]
 pub enum DcKind {
-    /// What a supply gives.
+    /// A DC output.
     Output,
-    /// A load.
+    /// A DC load.
     Load,
 }
 
-/// What a record is printed as.
+/// The form in which a record is printed.
 #[derive(Clone, Copy, Debug, PartialEq, Eq)]
 pub enum RecordForm {
     /// A DC output or a DC load.
@@ -100,29 +100,29 @@ fn signed_at(bytes: &[u8], place: usize) -> i16
     number_at(bytes, place).cast_signed()
 }
 
-/// What a DC output or a DC load says (sections 18.2 and 18.3), with voltages in volts.
+/// The values of a DC output or a DC load (sections 18.2 and 18.3), with voltages in volts.
 #[derive(Clone, Copy, Debug, PartialEq, Eq)]
 pub struct DcFields {
     /// The number of the output or the load, 4 bits.
     pub number: u8,
-    /// Bit 7 of the byte that has the number: an output is a standby one.
+    /// Bit 7 of the byte with the number: the output is a standby output.
     pub standby: bool,
     /// The nominal voltage.
     pub nominal: Fixed,
-    /// The negative deviation of an output, or the least voltage of a load.
+    /// The negative deviation of an output, or the minimum voltage of a load.
     pub low: Fixed,
-    /// The positive deviation of an output, or the greatest voltage of a load.
+    /// The positive deviation of an output, or the maximum voltage of a load.
     pub high: Fixed,
     /// The ripple in millivolts.
     pub ripple: u16,
-    /// The least current in milliamperes.
+    /// The minimum current in milliamperes.
     pub least_current: u16,
-    /// The greatest current in milliamperes.
+    /// The maximum current in milliamperes.
     pub greatest_current: u16,
 }
 
 impl DcFields {
-    /// What the data of such a record say.
+    /// The values in the data of such a record.
     pub fn of(bytes: &[u8]) -> DcFields
         requires { 13 ≤ length bytes.now }
         ensures { result ≡ dc_fields bytes.now }
@@ -140,7 +140,7 @@ impl DcFields {
     }
 }
 
-/// The volts of two data bytes from a place on.
+/// The volts in the two data bytes at an offset.
 fn volts_at(bytes: &[u8], place: usize) -> Fixed
     requires { place + 2 ≤ length bytes.now }
     ensures { result ≡ volts_at place bytes.now }
@@ -148,7 +148,7 @@ fn volts_at(bytes: &[u8], place: usize) -> Fixed
     Fixed(i128::from(signed_at(bytes, place)) * TEN_MILLIVOLTS)
 }
 
-/// Appends the volts of two data bytes from a place on.
+/// Appends the volts in the two data bytes at an offset.
 fn push_volts(text: &mut String, bytes: &[u8], place: usize) -> Result<(), AllocError>
     requires { place + 2 ≤ length bytes.now }
     ensures { OnOk result (Appends (IsVoltsAt place bytes.now) (string_bytes text.old)
@@ -209,8 +209,7 @@ fn is_standby(byte: u8) -> bool
     byte & STANDBY != 0
 }
 
-/// ` standby` for a standby output, otherwise nothing. `byte` is the one that has the output's
-/// number.
+/// ` standby` for a standby output, otherwise nothing. `byte` is the byte with the output's number.
 fn standby_text(kind: DcKind, byte: u8) -> &'static str
     ensures { result.now ≡ standby_text kind byte }
 {
@@ -243,7 +242,8 @@ fn push_dc(text: &mut String, kind: DcKind, bytes: &[u8]) -> Result<(), AllocErr
     push_current(text, bytes)
 }
 
-/// The data of a management access record after its subtype, as text or in hex, by its subtype, which is the first byte.
+/// The data of a management access record after the first byte, which is its subtype. The subtype decides whether the data
+/// is text or is printed in hex.
 pub fn access_text(alloc: Global, bytes: &[u8]) -> Result<String, AllocError>
     requires { 1 ≤ length bytes.now }
     ensures { IfOk result (λ text. string_bytes text ≡ access_text bytes.now) }
@@ -275,8 +275,8 @@ fn push_other(alloc: Global, text: &mut String, view: &MultiView) -> Result<(), 
     write!(text, "Record 0x{kind}: {data}\n")
 }
 
-/// What a record is printed as, by its type and the number of its data bytes: a DC output and a DC load have at least 13
-/// of them, and a management access record one.
+/// The form in which a record is printed, by its type and the number of its data bytes: a DC output or a DC load has at
+/// least 13, a management access record at least one.
 pub fn form_of(view: &MultiView) -> RecordForm
     ensures { result ≡ form_of (record_of view.now) }
 {

@@ -1,13 +1,13 @@
-//! The bytes that pairs of hex digits are.
+//! Reads bytes from pairs of hex digits.
 ghost use Rattle.std.specs.Prelude.{◌≡◌, ℕ, ◌*◌, length, Some, None, MatchBool, unwrap_or};
 ghost use Rattle.std.specs.Result.{result_ok};
 ghost use Rattle.hex.specs.Hex.{hex_digit_value, pair_value};
 ghost use Rattle.ipmi_image.specs.Prelude.{bytes_in};
 
-/// Stands in the table for a character that is no hex digit.
+/// The entry of the table for a character that is not a hex digit.
 const NO_DIGIT: u8 = 64;
 
-/// The value of the digit of each character.
+/// The value of each character as a hex digit.
 const VALUES: [u8; 256] = [
     64, 64, 64, 64, 64, 64, 64, 64, 64, 64, 64, 64, 64, 64, 64, 64, 64, 64, 64, 64, 64, 64, 64, 64,
     64, 64, 64, 64, 64, 64, 64, 64, 64, 64, 64, 64, 64, 64, 64, 64, 64, 64, 64, 64, 64, 64, 64, 64,
@@ -29,7 +29,7 @@ fn value(digit: u8) -> u8
     VALUES[usize::from(digit)]
 }
 
-/// The byte that two hex digits are.
+/// The byte in two hex digits.
 fn pair(high: u8, low: u8) -> Option<u8>
     ensures { (place : ℕ) → result ≡ result_ok (pair_value high low place) }
 {
@@ -42,7 +42,7 @@ fn pair(high: u8, low: u8) -> Option<u8>
     Some(high * 16 + low)
 }
 
-/// Reads the bytes that pairs of hex digits are, and says whether all are digits.
+/// Reads the bytes in pairs of hex digits. Returns whether all characters are hex digits.
 pub(crate) fn read_pairs(digits: &[u8], bytes: &mut [u8]) -> bool
     requires { length digits.now ≡ 2 * length bytes.old }
     ensures { MatchBool result (bytes_in digits.now ≡ Some bytes.new) (bytes_in digits.now ≡ None) }

@@ -70,7 +70,7 @@ impl Line {
     }
 }
 
-/// The first word, and what comes after it and a space. A shelf's, which most lines have, is looked at first.
+/// The first word, and the text after it and a space. Checks for `sdr` and `sel` first, as most lines begin with them.
 fn first_word(line: &[u8]) -> Option<(&[u8], &[u8])>
     ensures { MatchOption result (pieces 32 line.now ≡ line.now ∷ [])
         (λ parts. pieces 32 line.now ≡ parts.0.now ∷ pieces 32 parts.1.now) }
@@ -83,7 +83,7 @@ fn first_word(line: &[u8]) -> Option<(&[u8], &[u8])>
     cut(line, b' ')
 }
 
-/// The two fields, where there are two.
+/// The two fields, if there are exactly two.
 fn two(fields: &[u8]) -> Option<(&[u8], &[u8])>
     ensures { MatchOption result ((line : _) → with_two line (pieces 32 fields.now) ≡ Err
         LineFault.Line) (λ t. pieces 32 fields.now ≡ t.0.now ∷ t.1.now ∷ []) }
@@ -129,7 +129,7 @@ fn parse_shelf(word: &[u8]) -> Option<Shelf>
     }
 }
 
-/// The three fields, where a space comes after four characters, and again after four more or after one.
+/// The three fields, if there is a space after four characters, and another after four more or after one.
 fn three_at_places(fields: &[u8]) -> Option<(&[u8], &[u8], &[u8])>
     ensures { IfSome result (λ t. fields.now ≡ t.0.now ++ 32 ∷ (t.1.now ++ 32 ∷ t.2.now)) }
 {
@@ -170,10 +170,10 @@ fn parse_row(
 {
     if let Some((id, next, hex)) = three_at_places(fields) {
         match read_row(bytes, version, shelf, id, next, hex) {
-            // what is read has no space, so that it is three fields
+            // no field contains a space, so these are three fields
             Ok(line) => return Ok(line),
             Err(LineFault::Memory) => return Err(LineFault::Memory),
-            // a space may be where a digit is missing
+            // a space may be in the place of a digit
             Err(_) => {}
         }
     }

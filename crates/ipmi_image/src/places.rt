@@ -8,24 +8,24 @@ use std::marker::Model;
 /// The keys that a page has room for: those with its high byte.
 const PAGE_KEYS: usize = 256;
 
-/// Stands in a page where a key has no place.
+/// The slot of a key that has no place.
 const NO_PLACE: u16 = u16::MAX;
 
-/// Which page a key is on.
+/// The page of a key.
 fn page_at(key: u16) -> usize
     ensures { result ≡ key / 256 }
 {
     usize::from(key >> 8)
 }
 
-/// Which slot of its page a key has.
+/// The slot of a key in its page.
 fn slot_at(key: u16) -> usize
     ensures { result ≡ key % 256 }
 {
     usize::from(key & 0xFF)
 }
 
-/// Fills a page up with slots that have no place.
+/// Fills a page with empty slots.
 fn fill(page: &mut Vec<u16>) -> Result<(), AllocError>
     ensures same { (slot : ℕ) → get_or page.new.items slot 65535 ≡ get_or page.old.items slot
         65535 }
@@ -40,7 +40,7 @@ fn fill(page: &mut Vec<u16>) -> Result<(), AllocError>
 /// Places by their keys, in a tree of two levels: a page for each high byte, with a slot for each low one.
 #[derive(Drop)]
 pub(crate) struct Places {
-    /// A page has no slots until its first key comes.
+    /// A page has no slots until its first key is added.
     pages: Vec<Vec<u16>>,
     alloc: Global,
 }
@@ -76,7 +76,7 @@ impl Places {
         Some(place)
     }
 
-    /// Makes pages up to this one, with no slots.
+    /// Adds pages up to this one, without slots.
     fn reach(&mut self, page: usize) -> Result<(), AllocError>
         ensures same { (key : ℕ) → place_in self.new key ≡ place_in self.old key }
         ensures room { OnOk result (page < length self.new) }
@@ -98,7 +98,7 @@ impl Places {
         Ok(())
     }
 
-    /// Puts the place of the key, for which there is room.
+    /// Stores the place of the key. There must be room for it.
     pub(crate) fn put(&mut self, key: u16, place: u16)
         requires room { HasRoom key self.old }
         requires place { place < 65535 }

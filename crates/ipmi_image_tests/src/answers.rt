@@ -44,7 +44,7 @@ part sdr 1 0 5 8|0002 01 aaeeeeeeeeeeeeee
 part sdr 1 2 0 7|ffff 07 020051c002bbcc
 part sdr 1 2 6 2|ffff 01 ccee";
 
-// Id 0000h is that of the first record.
+// Id 0000h requests the first record.
 #[test]
 fn a_part_is_as_long_as_asked_or_as_the_record_has(rt: HostRuntime) {
     assert_answers_of_text(&rt, rt.alloc(), SAVED, PARTS);
@@ -110,7 +110,7 @@ fn there_is_no_byte_past_the_end(rt: HostRuntime) {
     assert_answers_of_text(&rt, rt.alloc(), SAVED, PAST_THE_END);
 }
 
-/// The byte that a call asks for.
+/// The byte requested by a call.
 #[derive(Clone, Copy, Debug)]
 struct Asked {
     shelf: Shelf,
@@ -119,7 +119,7 @@ struct Asked {
     offset: u8,
 }
 
-/// Asserts that there is no record of this byte.
+/// Asserts that the record of this byte is not present.
 fn assert_no_byte(rt: &impl Abort, ctl: &mut ImageController, asked: Asked) {
     let mut into = [0xEE];
     let part = ctl.part(
@@ -166,7 +166,7 @@ fru_part ff 0 1|code cb
 fru_part ff 1 1|code cb
 fru_part ff ffff 1|code cb";
 
-/// Asserts that records with other ids are not there. Reservation 1 was given before.
+/// Asserts that there are no records with other ids. Reservation 1 was given before.
 fn assert_no_other_records(rt: &impl Abort, ctl: &mut ImageController) {
     assert_no_record(rt, ctl, Shelf::Sdr, 0x0003);
     assert_no_record(rt, ctl, Shelf::Sdr, 0x0100);
@@ -192,7 +192,7 @@ fn long_image(rt: &impl Abort, alloc: Global) -> String {
     ).expect(rt, "memory")
 }
 
-/// Asserts the length of a part for 254 bytes from this offset on.
+/// Asserts the length of a part if 254 bytes are requested from this offset.
 fn assert_part_length(rt: &impl Abort, ctl: &mut ImageController, offset: u8, got: u8) {
     let part = ctl.part(Shelf::Sdr, 1, 1, offset, &mut [0xEE; 254]);
     assert!(rt;
@@ -207,7 +207,7 @@ fn assert_fru_part_length(rt: &impl Abort, ctl: &mut ImageController, offset: u1
     assert!(rt; got == Ok(wanted), "{offset}: {got:?}");
 }
 
-/// Asserts that a part has the bytes that are left, and at most 254.
+/// Asserts that a part has the remaining bytes, at most 254.
 fn assert_part_lengths(rt: &impl Abort, ctl: &mut ImageController) {
     for (offset, got) in [(0, 254), (1, 254), (2, 254), (3, 253), (255, 1)] {
         assert_part_length(rt, ctl, offset, got);
@@ -236,7 +236,7 @@ fn the_longest_part_of_an_inventory_has_254_bytes(rt: HostRuntime) {
     drop(ctl);
 }
 
-/// Asserts that the next reservation has this number. The event log gets it if three divide the number.
+/// Asserts that the next reservation has this number. It is for the event log if the number is divisible by three.
 fn assert_reservation(rt: &impl Abort, ctl: &mut ImageController, number: u16) {
     let shelf = if number % 3 == 0 {
         Shelf::Sel
@@ -274,7 +274,7 @@ part sel 1 1 10 1|code c9
 part sel 2 1 10 1|code c5
 part sdr 1 1 2 1|code c5";
 
-// Id 0000h is that of the first entry too.
+// Id 0000h also requests the first entry.
 #[test]
 fn the_event_log_is_asked_as_the_other_shelf(rt: HostRuntime) {
     assert_answers_of_text(&rt, rt.alloc(), SAVED, OF_OTHER_LINES);

@@ -1,4 +1,4 @@
-//! Images that are built, record by record.
+//! Building images record by record.
 use crate::images::{ANSWERS, REWRITTEN, assert_answers_of_image};
 use crate::rewritten::assert_text;
 use ipmi_bus::{Record, Shelf};
@@ -18,7 +18,7 @@ const SEL_INFO: [u8; 14] = [
     0x51, 0x01, 0x00, 0x00, 0x02, 0x01, 0x00, 0x00, 0x00, 0xff, 0xff, 0xff, 0xff, 0x00,
 ];
 
-/// Puts a record, and returns whether it was taken.
+/// Puts a record, and returns whether it was accepted.
 fn put(
     rt: &impl Abort,
     image: &mut ImageBuilder,
@@ -56,7 +56,7 @@ fn saved(rt: &impl Abort, alloc: Global) -> ImageBuilder {
     image
 }
 
-/// Asserts the text of an image that was built.
+/// Asserts the text of the built image.
 fn assert_built_text(
     rt: &impl Abort,
     alloc: Global,

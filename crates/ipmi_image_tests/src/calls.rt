@@ -5,7 +5,7 @@ use ipmi_bus::{Code, Controller, Part, Shelf};
 use std::process::Abort;
 use std::str::SplitWhitespace;
 
-/// The most bytes that a call asks for.
+/// The largest number of bytes requested by a call.
 const MOST: usize = 17;
 
 /// The most characters of an answer.
@@ -133,7 +133,7 @@ impl<'a> LineWords<'a> {
         u16::from_str_radix(self.next(rt), 16).expect(rt, self.line)
     }
 
-    /// The number of bytes that are asked for.
+    /// The number of bytes requested.
     fn next_len(&mut self, rt: &impl Abort) -> usize
         ensures some { 0 < result }
         ensures fits { result ≤ 17 }
@@ -214,13 +214,13 @@ fn fru_part<C: Controller>(rt: &impl Abort, ctl: &mut C, words: &mut LineWords) 
 /// | line | answer |
 /// |---|---|
 /// | `reserve SHELF` | the reservation |
-/// | `part SHELF RESERVATION ID OFFSET LEN` | the next id, how many bytes came, and LEN bytes |
+/// | `part SHELF RESERVATION ID OFFSET LEN` | the next id, the number of bytes returned, and LEN bytes |
 /// | `info SHELF` | 14 bytes |
 /// | `reading LUN NUMBER` | four bytes |
-/// | `fru_size ID` | the size, and 01 for a device of words |
-/// | `fru_part ID OFFSET LEN` | how many bytes came, and LEN bytes |
+/// | `fru_size ID` | the size, and 01 for a device that is accessed by words |
+/// | `fru_part ID OFFSET LEN` | the number of bytes returned, and LEN bytes |
 ///
-/// Where a byte did not come, it is EEh.
+/// A byte that was not returned is EEh.
 pub fn ask<C: Controller>(rt: &impl Abort, ctl: &mut C, call: &str) -> Answer {
     let mut words = LineWords::of(call);
     match words.next(rt) {

@@ -4,7 +4,7 @@ use ipmi_image::{Image, ImageController, ImageFault};
 use std::alloc::Global;
 use std::process::Abort;
 
-/// Lines of each kind. The inventory has two lines, which are apart, and the bytes of the first record.
+/// Lines of each kind. The inventory is on two separate lines, and has the bytes of the first record.
 pub const SAVED: &str = "ipmi-image 1
 sdr 0001 0002 010051c001aa
 fru 00 010051
@@ -29,7 +29,7 @@ info sel 510100000201000000ffffffff00
 end
 ";
 
-/// An image whose answers to `ANSWERS` are not those of `SAVED`, but for the first.
+/// An image with other answers to `ANSWERS` than `SAVED`, except for the first.
 pub const OTHER: &str = "ipmi-image 1
 sdr 0001 ffff 010051c000
 fru 00 0a0b

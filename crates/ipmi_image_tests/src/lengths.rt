@@ -1,4 +1,4 @@
-//! Images cut short, and records and inventories up to their greatest length and beyond.
+//! Images that are cut off, and records and inventories up to their greatest length and beyond.
 use crate::images::{assert_answers_of_text, fault_of};
 use crate::rewritten::assert_image_text;
 use ipmi_fixtures::THREE_ROWS;
@@ -38,7 +38,7 @@ fn an_image_cut_short_has_no_end(rt: HostRuntime) {
     assert!(rt; len == WHOLE, "{len} bytes");
 }
 
-/// The same for an image of a record with `after` bytes after its fifth, which says so.
+/// The same for an image of a record with `after` bytes after its fifth byte, which has that number.
 fn assert_fault_of_record(rt: &impl Abort, alloc: Global, after: u8, wanted: Option<ImageFault>) {
     let bytes = "00".repeat(alloc, usize::from(after)).expect(rt, "memory");
     let image = format!(in alloc;
@@ -58,7 +58,7 @@ fn a_record_has_256_bytes_at_most(rt: HostRuntime) {
     }
 }
 
-/// Appends bytes of the longest inventory, in hex. The byte at a place is the place modulo 251.
+/// Appends bytes of the longest inventory, in hex. The byte at an offset is the offset modulo 251.
 fn push_bytes(rt: &impl Abort, text: &mut String, from: u32, to: u32) {
     for place in from..to {
         let byte = place % 251;
@@ -101,7 +101,7 @@ fn push_line(rt: &impl Abort, text: &mut String, from: u32, to: u32) {
     text.push_str("\n").expect(rt, "memory");
 }
 
-/// The longest inventory as it is written: 64 bytes a line, and 63 on the last.
+/// The longest inventory as rewritten: 64 bytes per line, and 63 on the last line.
 fn full_inventory_rewritten(rt: &impl Abort, alloc: Global) -> String {
     let mut text = String::from_str(alloc, "ipmi-image 2\n").expect(rt, "memory");
     for line in 0..1_023 {

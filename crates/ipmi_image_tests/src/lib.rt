@@ -1,6 +1,6 @@
-//! Tests of ipmi_image: images and their faults, both controllers, and images written again.
+//! Tests of ipmi_image: images and their faults, both controllers, and rewritten images.
 //!
-//! A controller or an image is dropped by a call of `drop`: its parts are then dropped in one proof, not in each body.
+//! Controllers and images are dropped by a call of `drop`: then their parts are dropped in one proof, not in each body.
 #![tactic(auto)]
 
 #[cfg(test)]

@@ -1,4 +1,4 @@
-//! Moods of calls of the event log, before what is absent, and one after another.
+//! Moods at calls for the event log, at calls for absent items, and in sequence.
 use crate::moods::{assert_answers_after_moods, assert_answers_in_moods};
 
 /// `mood|call|answer`.
@@ -21,7 +21,7 @@ fn a_call_of_the_event_log_meets_a_mood(rt: HostRuntime) {
     assert_answers_in_moods(&rt, rt.alloc(), OF_THE_EVENT_LOG);
 }
 
-/// `mood|call|answer`. A mood comes before the answer that something is not there.
+/// `mood|call|answer`. The mood decides before the absence of the item.
 const ABSENT: &str = "cancel|part sdr 0 3 0 1|code c5
 busy|reading 1 1|code c0
 too_long|part sdr 0 3 0 2|code ca
@@ -50,7 +50,7 @@ fn a_change_lasts_to_the_next_one(rt: HostRuntime) {
     assert_answers_after_moods(&rt, rt.alloc(), "other, grant fe, saved", CHANGED_TWICE);
 }
 
-/// `call|answer`. A reservation that fails takes no number, and a change does not begin to count again.
+/// `call|answer`. A failed reservation uses up no number, and the numbers continue after a change.
 const NUMBERS: &str = "reserve sdr|code c0
 reserve sdr|code c5
 reserve sdr|code d4
@@ -65,7 +65,7 @@ fn a_failed_reservation_takes_no_number(rt: HostRuntime) {
     assert_answers_after_moods(&rt, rt.alloc(), moods, NUMBERS);
 }
 
-/// `call|answer`, past the first byte, and where fewer bytes are left than are granted.
+/// `call|answer` after the first byte, and with fewer bytes left than granted.
 const GRANTED_LATER: &str = "reserve sdr|0001
 part sdr 1 1 2 4|0002 02 51c0eeee
 part sdr 1 1 5 4|0002 01 aaeeeeee

@@ -34,7 +34,7 @@ fn mood(rt: &impl Abort, alloc: Global, text: &str) -> Mood {
     }
 }
 
-/// A controller over `SAVED`. Its first calls meet these moods.
+/// A controller over `SAVED`. Its first calls have these moods.
 fn scripted(rt: &impl Abort, alloc: Global, moods: &str) -> Scripted {
     let mut list = Vec::new(alloc);
     for text in moods.split(", ") {
@@ -43,7 +43,7 @@ fn scripted(rt: &impl Abort, alloc: Global, moods: &str) -> Scripted {
     Scripted::new(image(rt, alloc, SAVED), list)
 }
 
-/// Asserts the answer to a call that meets a mood: `mood|call|answer`.
+/// Asserts the answer to a call with a mood: `mood|call|answer`.
 fn assert_answer_in_mood(rt: &impl Abort, alloc: Global, line: &str) {
     let (mood, rest) = parts(rt, line);
     let mut ctl = scripted(rt, alloc, mood);
@@ -58,7 +58,7 @@ pub fn assert_answers_in_moods(rt: &impl Abort, alloc: Global, lines: &str) {
     }
 }
 
-/// Asserts the answers to the calls of these lines. The first calls meet these moods.
+/// Asserts the answers to the calls of these lines. The first calls have these moods.
 pub fn assert_answers_after_moods(rt: &impl Abort, alloc: Global, moods: &str, lines: &str) {
     let mut ctl = scripted(rt, alloc, moods);
     assert_answers(rt, &mut ctl, lines);
@@ -84,7 +84,7 @@ fn a_cancelled_or_busy_call_is_answered_by_its_code(rt: HostRuntime) {
     assert_answers_in_moods(&rt, rt.alloc(), FAILED);
 }
 
-/// `mood|call|answer`. Where no byte is granted, one comes all the same.
+/// `mood|call|answer`. If no byte is granted, one byte is returned nevertheless.
 const GRANTED: &str = "grant 0|reserve sdr|0001
 grant 0|part sdr 0 1 0 8|0002 01 01eeeeeeeeeeeeee
 grant 0|info sdr|510300000401000020ffffffff02
@@ -164,13 +164,13 @@ fn a_changed_image_answers_the_same_call(rt: HostRuntime) {
     assert_answers_in_moods(&rt, rt.alloc(), CHANGED);
 }
 
-/// Whether a caller can neither ask again nor go on after the code.
+/// Whether a caller can neither repeat the request nor continue after the code.
 fn is_refusal(code: u8) -> bool {
     ![0x00, 0xC0, 0xC3, 0xC5, 0x81, 0xC7, 0xC8, 0xCA, 0xCB].contains(&code)
 }
 
-/// The case of a call that meets the mood to refuse with this code. The answer is the code, if it is a refusal, and
-/// else the plain one of the line.
+/// The case of a call with the mood to refuse with this code. The answer is the code if it is a refusal, otherwise the plain
+/// answer of the line.
 fn refusal_case(
     rt: &impl Abort,
     alloc: Global,
@@ -204,13 +204,13 @@ fn a_call_is_refused_only_by_a_refusal(rt: HostRuntime) {
     }
 }
 
-/// `call|answer`, after reservation 1 of the sensor data records and 2 of the event log were given and forgotten.
+/// `call|answer`, after reservation 1 of the sensor data records and 2 of the event log were given and cancelled.
 const FORGOTTEN: &str = "part sdr 1 1 2 1|code c5
 part sel 2 1 2 1|code c5
 part sdr 1 1 0 1|0002 01 01
 part sel 2 1 0 1|ffff 01 01";
 
-/// `call|answer`, after both were kept.
+/// `call|answer`, if both reservations are kept.
 const KEPT: &str = "part sdr 1 1 2 1|0002 01 51
 part sel 2 1 2 1|ffff 01 02";
 
@@ -227,7 +227,7 @@ fn assert_answers_after_reserving(
     assert_answers_after_moods(rt, alloc, &moods, &calls.expect(rt, "memory"));
 }
 
-// Past the first byte of a record the last reservation is needed.
+// After the first byte of a record, the last reservation is needed.
 #[test]
 fn cancelled_and_changed_reservations_are_forgotten(rt: HostRuntime) {
     let alloc = rt.alloc();

@@ -1,4 +1,4 @@
-//! Each fault of each kind of line, at each place of the line.
+//! Each fault of each kind of line, at each position in the line.
 use crate::faults::assert_verdicts;
 
 /// `records up to the end of the image|fault`. A semicolon is a line feed.

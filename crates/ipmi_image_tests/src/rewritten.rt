@@ -14,7 +14,7 @@ pub fn assert_text(rt: &impl Abort, bytes: &[u8], wanted: &str, case: &str) {
     assert!(rt; got == wanted, "{case}: got {got}");
 }
 
-/// The text that the image of a text is written as.
+/// The text as which the image of a text is rewritten.
 fn written_again(rt: &impl Abort, alloc: Global, text: &str) -> Vec<u8> {
     let image = image(rt, alloc, text);
     let bytes = image_text(alloc, &image).expect(rt, "memory");
@@ -22,12 +22,12 @@ fn written_again(rt: &impl Abort, alloc: Global, text: &str) -> Vec<u8> {
     bytes
 }
 
-/// Asserts the text that the image of `text` is written as.
+/// Asserts the text as which the image of `text` is rewritten.
 pub fn assert_image_text(rt: &impl Abort, alloc: Global, text: &str, wanted: &str) {
     assert_text(rt, &written_again(rt, alloc, text), wanted, text);
 }
 
-/// The same, and that this text is written as itself.
+/// The same, and that this text is rewritten as itself.
 fn assert_rewrite(rt: &impl Abort, alloc: Global, text: &str, wanted: &str) {
     assert_image_text(rt, alloc, text, wanted);
     assert_image_text(rt, alloc, wanted, wanted);
@@ -103,7 +103,7 @@ info sel 510100000201000000ffffffff00
 end
 ";
 
-// The lines have one order by kind, and the lines of an inventory are joined.
+// The lines are ordered by kind, and the lines of an inventory are joined.
 #[test]
 fn lines_are_ordered_by_their_kind(rt: HostRuntime) {
     assert_rewrite(&rt, rt.alloc(), SAVED, REWRITTEN);
@@ -122,7 +122,7 @@ fn with_64_bytes(rt: &impl Abort, alloc: Global, after: &str) -> String {
     format!(in alloc; "ipmi-image 2\nfru 00 {bytes}{after}").expect(rt, "memory")
 }
 
-// 64 bytes fit on a line. The 65th byte has a line of its own.
+// 64 bytes fit on a line. The 65th byte is on a second line.
 #[test]
 fn a_line_has_64_bytes_of_an_inventory_at_most(rt: HostRuntime) {
     let one_line = with_64_bytes(&rt, rt.alloc(), "\nend\n");
@@ -164,7 +164,7 @@ fn assert_record_line(rt: &impl Abort, line: &mut LineBuffer, lent: &Record<'_>,
     assert_text(rt, line.as_slice(), wanted, wanted);
 }
 
-// One buffer serves all. The next id is never a dash, and nothing is left of the line before.
+// All lines use one buffer. The next id is never a dash, and nothing remains of the previous line.
 #[test]
 fn a_single_record_has_a_line(rt: HostRuntime) {
     let mut line = LineBuffer::new();

@@ -5,9 +5,9 @@ use Rattle.ipmi_records.specs.Below.{hex_byte, IsUtcTextOf}
 use Rattle.ipmi_records.specs.declared.info.Info.{Info}
 use Rattle.ipmi_records.specs.Bytes.{labelled_lines, byte_at, has_bit, number_at}
 
--- byte 1 is the version, bytes 2 and 3 are the number of records, 4 and 5 the free space in bytes, 6 to 9 the time of the
--- most recent addition, 10 to 13 that of the most recent erase; byte 14 says which operations there are, and in bit 7
--- that a record was lost for want of room
+-- Byte 1 is the version, bytes 2 and 3 are the number of records, 4 and 5 the free space in bytes, 6 to 9 the time of the most
+-- recent addition, 10 to 13 that of the most recent erase. Byte 14 has the supported operations; its bit 7 means that a record
+-- was lost because there was no space.
 abbrev pub info_in : List ℕ → Info
 info_in bytes = record {
   version = byte_at 1 bytes;
@@ -19,9 +19,7 @@ info_in bytes = record {
   support = byte_at 14 bytes;
 }
 
--- seven lines: byte 1 is the version, bytes 2 and 3 are the number of records, 4 and 5 the free space in bytes, 6 to 9
--- the most recent addition, 10 to 13 the most recent erase; byte 14 says which operations there are, and in bit 7 that
--- a record was lost for want of room
+-- the seven lines of an info, with the bytes as in `info_in`
 pub record IsInfoBlock (bytes text : List ℕ) : Type 0 where
   pub addition : List ℕ
   pub erase : List ℕ

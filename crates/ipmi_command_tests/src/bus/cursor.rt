@@ -1,4 +1,4 @@
-//! Codes and their classes, the ends of a listing by name, a later step, parts and ids.
+//! Codes and their classes, the ends of a listing, a later step, parts and ids.
 use crate::bus::listings::{assert_listing, listing, listing_by_bytes};
 use crate::commands::outcome::{Outcome, assert_outcome};
 use crate::commands::over_images::over;
@@ -7,7 +7,7 @@ use ipmi_bus::{Code, CodeClass, Cursor, Ended, Event, Place, Record, Shelf, Tall
 use std::alloc::Global;
 use std::process::Abort;
 
-/// Asserts the class of a code. The table is written once more here.
+/// Asserts the class of a code. This table is independent of the one in the code.
 fn assert_class(rt: &impl Abort, code: u8) {
     let wanted = match code {
         0xC5 => CodeClass::Cancelled,
@@ -35,8 +35,7 @@ fn a_tally_takes_no_room(rt: HostRuntime) {
     assert!(rt; size == 0, "{size} bytes");
 }
 
-/// What a controller answers one call after another, with how many tries a record is read, and what is said of the
-/// listing after how many calls.
+/// The answers of a controller, the tries, the message of the listing, and the number of calls.
 #[derive(Clone, Copy, Debug)]
 struct Case {
     replies: &'static [Reply],
@@ -228,7 +227,7 @@ fn next_id(cursor: &mut Cursor, ctl: &mut Endless) -> Option<u16> {
     }
 }
 
-/// The number of records that a walk hands out while their ids count up from 0000h.
+/// The number of records that a cursor returns while their ids count up from 0000h.
 fn records_in_order(cursor: &mut Cursor, ctl: &mut Endless) -> u32 {
     let mut count = 0u32;
     for _ in 0..70_000u32 {

@@ -1,12 +1,12 @@
-//! A listing with one call answered with a busy code.
+//! A listing in which one call is answered with a busy code.
 use crate::bus::listings::{assert_listing, listing};
 use crate::commands::over_images::interrupting;
 use crate::commands::saved::{THREE_LINES, THREE_ROWS};
 use std::alloc::Global;
 use std::process::Abort;
 
-/// Asserts that a listing of the three records outlives the code at this call: three lines after seven calls, with one
-/// try.
+/// Asserts that a listing of the three records is complete despite the code at this call: three lines after seven calls,
+/// with one try.
 fn assert_one_call_more(rt: &impl Abort, alloc: Global, call: u32, code: u8) {
     let mut ctl = interrupting(rt, alloc, THREE_ROWS, call, code);
     let outcome = listing(alloc, &mut ctl, 1);

@@ -1,4 +1,4 @@
-//! Readings, infos and inventories read over replayed answers, and the calls that they take.
+//! Readings, infos and inventories read from replayed answers, and the number of calls.
 use crate::controllers::{Replay, Reply, assert_last_request};
 use ipmi_bus::{Code, Ended, FruEnded, FruSize, Shelf, read_fru, read_info, read_reading};
 use ipmi_fixtures::INFO;
@@ -186,7 +186,7 @@ const ENDED_INVENTORIES: [Case<FruEnded>; 7] = [
     },
 ];
 
-/// Asserts why an inventory, in parts of 32 bytes, is not read.
+/// Asserts why reading an inventory in parts of 32 bytes fails.
 fn assert_inventory_end(rt: &impl Abort, alloc: Global, case: &Case<FruEnded>) {
     let mut ctl = Replay::new(case.replies);
     match read_fru(alloc, &mut ctl, 0, 32, case.tries) {
@@ -249,7 +249,7 @@ fn not_always_out_of_memory(rt: HostRuntime) {
     assert_one_byte(&rt, &bytes);
 }
 
-// Where memory is refused, only the size was asked for.
+// If memory is refused, only the size was requested.
 #[test]
 fn memory_may_be_refused(rt: HostRuntime) {
     let mut ctl = Replay::new(&ONE_BYTE);

@@ -15,7 +15,7 @@ usage: ipmitool [--image FILE] [--from HEX4] [--part N] [--tries N] fru|sdr|sel 
 --
 ";
 
-/// What the answer to a command line leaves: output, messages and status.
+/// The outcome of a command line: output, messages and status.
 #[derive(Drop)]
 pub(super) struct AnswerOutcome {
     pub out: Vec<u8>,
@@ -39,7 +39,7 @@ pub(super) fn outcome_of_answer(
     }
 }
 
-/// An outcome as a text: as `outcome_text`, without the number of calls.
+/// An outcome as a text: like `outcome_text`, without the number of calls.
 fn answer_text(rt: &impl Abort, alloc: Global, outcome: &AnswerOutcome, case: &str) -> String {
     let out = text_of(rt, &outcome.out, case);
     let err = text_of(rt, &outcome.err, case);

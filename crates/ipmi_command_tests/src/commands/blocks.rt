@@ -1,4 +1,4 @@
-//! The blocks of the records with a name: which are printed, with which reading, and how a walk without one ends.
+//! The blocks of the records with a name: which are printed, with which reading, and the end of a walk without such a record.
 use super::printed::assert_outputs;
 
 /// `words|image|moods`, then the outcome.
@@ -226,7 +226,7 @@ Entity: 10.1
 
 ";
 
-// No message says that the name was not found, since the walk did not come to its end.
+// No message says that the name was not found, since the walk was not finished.
 #[test]
 fn a_walk_that_ends_by_name_says_nothing_of_the_record(rt: HostRuntime) {
     assert_outputs(&rt, rt.alloc(), ENDED);

@@ -149,7 +149,7 @@ record 0003h not present
 0002 | +536870912 s | Temperature #0x30 | Upper Non-critical going high | Deasserted
 ";
 
-// The first four calls are those of the walk that counts. If the first entry is gone before the second walk, the log
+// The first four calls are those of the first walk, which counts. If the first entry is gone before the second walk, the log
 // is empty.
 #[test]
 fn a_counted_entry_may_be_away(rt: HostRuntime) {
@@ -189,7 +189,7 @@ info not present
 --
 ";
 
-// The size's call, and those for parts of eight bytes.
+// The call for the size, and the calls for parts of eight bytes.
 #[test]
 fn a_device_may_be_away(rt: HostRuntime) {
     assert_outcomes(&rt, rt.alloc(), OF_A_DEVICE);
@@ -319,7 +319,7 @@ not present
 
 ";
 
-// The command goes on after an inventory that is not present. It ends at a locator that is not, unless it is the first
+// The command continues after an inventory that is not present. It ends at a missing locator, unless that is the first
 // record.
 #[test]
 fn a_device_or_a_locator_may_be_away(rt: HostRuntime) {

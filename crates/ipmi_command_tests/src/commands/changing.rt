@@ -7,7 +7,7 @@ use crate::command_line::lines::command_of_case;
 use std::alloc::Global;
 use std::process::Abort;
 
-/// The outcome of the words over two images with these names. The calls meet the moods of these letters.
+/// The outcome of the words over two images with these names, with the moods of these letters.
 pub(super) fn outcome_over(
     rt: &impl Abort,
     alloc: Global,

@@ -1,4 +1,4 @@
-//! Logs that change at a call of a listing: each entry that is printed is one of the log that gave it.
+//! Logs that change at a call of a listing. Each printed entry is of the log at that time.
 use super::changing::assert_outcomes_of_changes;
 
 /// `words|first image|second image|moods`, then the outcome.
@@ -69,7 +69,7 @@ sel list last 2|log|another log|.......x.y
 0003 | OEM record 0xe2 | 03030303030303030303030303
 ";
 
-// The seventh call asks for the second entry and the eighth for the third.
+// The seventh call is for the second entry, the eighth for the third.
 #[test]
 fn an_entry_is_of_the_log_that_gives_it(rt: HostRuntime) {
     assert_outcomes_of_changes(&rt, rt.alloc(), ENTRIES);
@@ -105,8 +105,8 @@ sel list last 9|log|grown log|....x
 0004 | OEM record 0xe0 | 04040404040404040404040404
 ";
 
-// The fourth call ends the walk that counts. Two of four entries are passed, or one of three. An entry added after
-// that is printed too.
+// The fourth call ends the first walk, which counts. Two of four entries are skipped, or one of three. An entry added later
+// is printed too.
 #[test]
 fn entries_that_come_after_the_count_are_printed(rt: HostRuntime) {
     assert_outcomes_of_changes(&rt, rt.alloc(), GROWN);
@@ -151,7 +151,8 @@ record 0003h not present
 0002 | +536870912 s | Temperature #0x30 | Upper Non-critical going high | Deasserted
 ";
 
-// The log is empty for the walk that counts, or for the walk that prints. Within a walk the next entry is missing.
+// The log is empty for the first walk, which counts, or for the second, which prints. Within a walk the next entry is
+// missing.
 #[test]
 fn a_log_may_be_cleared(rt: HostRuntime) {
     assert_outcomes_of_changes(&rt, rt.alloc(), CLEARED);

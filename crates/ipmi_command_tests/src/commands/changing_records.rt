@@ -1,5 +1,5 @@
-//! Records, infos and inventories that change at a call, or at every one: what is printed is of one image, or ends by
-//! name.
+//! Records, infos and inventories that change at a call, or at every call. Each printed piece is of one image, or a message
+//! names what was not read.
 use super::changing::assert_outcomes_of_changes;
 
 /// `words|first image|second image|moods`, then the outcome.
@@ -156,7 +156,7 @@ no record named PSU1
 --
 ";
 
-// A change makes a record begin again with a reservation. A reading is always of the changed image.
+// After a change a record begins again with a reservation. A reading is always of the changed image.
 #[test]
 fn a_block_is_of_one_record(rt: HostRuntime) {
     assert_outcomes_of_changes(&rt, rt.alloc(), BLOCKS);
@@ -287,8 +287,8 @@ sel list last 3|log|another log|yxyxyxyx
 0003 | OEM record 0xe2 | 03030303030303030303030303
 ";
 
-// A record of two parts needs a current reservation, and never has one: three calls for each of six tries. An entry
-// needs none.
+// A record of two parts needs a current reservation, but never has one: three calls for each of six tries. An entry needs
+// none.
 #[test]
 fn an_image_may_change_at_every_call(rt: HostRuntime) {
     assert_outcomes_of_changes(&rt, rt.alloc(), ALWAYS);

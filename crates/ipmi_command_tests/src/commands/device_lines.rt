@@ -65,8 +65,8 @@ fru|two names of device 0|
 - | AB | elsewhere | - | - | -
 ";
 
-// The calls are those of the inventories, after a walk of the records for the name of device 0. Its first locator has
-// it. At its locators the device is left out.
+// A walk of the records for the name of device 0, from its first locator, and then the calls of the inventories. Device 0
+// is not printed again at its locators.
 #[test]
 fn each_device_has_a_line(rt: HostRuntime) {
     assert_outputs_in_words(&rt, rt.alloc(), LINES);
@@ -114,7 +114,7 @@ fru 1 gave up
 0 | - | present | - | - | -
 ";
 
-// A walk that is not whole ends the run after the devices that it names.
+// If the walk does not end with FFFFh, the run ends after the devices that it names.
 #[test]
 fn lines_are_printed_before_a_run_ends(rt: HostRuntime) {
     assert_outputs_in_words(&rt, rt.alloc(), ENDED);
@@ -129,7 +129,7 @@ FRU fault: header short
 
 ";
 
-// One inventory has no other words.
+// One inventory has the same text in words.
 #[test]
 fn one_inventory_is_printed_as_in_codes(rt: HostRuntime) {
     assert_outputs_in_words(&rt, rt.alloc(), ONE);

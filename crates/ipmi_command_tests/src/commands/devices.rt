@@ -145,8 +145,8 @@ not present
 
 ";
 
-// The first locator is of device 0, which is printed already. The second is of a device 0 elsewhere. The fifth is too
-// short, and the sixth is of a controller. No image has an inventory of device 255.
+// The first locator is for device 0, which was already printed. The second is for a device 0 elsewhere. The fifth is too
+// short, and the sixth is for a controller. No image has an inventory of device 255.
 #[test]
 fn locators_of_each_sort_are_printed(rt: HostRuntime) {
     assert_outputs(&rt, rt.alloc(), SORTS);

@@ -1,5 +1,5 @@
-//! A fault at each call of a command: a busy or a cancelled call that is made again, one too many of them, a refusal,
-//! and a part that is too long.
+//! A fault at each call of a command: a busy or cancelled call that is repeated, one trouble too many, a refusal, and a part
+//! that is too long.
 use super::outcome::{Outcome, assert_outcome, outcome_of_one};
 use super::outputs::{INVENTORIES, INVENTORY, NEWEST};
 use super::over_images::scripted;
@@ -10,17 +10,17 @@ use ipmi_fixtures::{CPU_TEMP_BLOCK, INFO_BLOCK, PSU1_BLOCK};
 use std::alloc::Global;
 use std::process::Abort;
 
-/// A command over an image, what it leaves, and what a fault does at each of its calls.
+/// A command over an image, its outcome, and the effect of a fault at each of its calls.
 #[derive(Clone, Copy)]
 struct Course<'a> {
     /// The words, split at commas.
     words: &'a str,
     /// The name of the image.
     image: &'a str,
-    /// A line for each call: what a message names after a fault there, how many lines are printed before, how many
-    /// calls are made where the call is cancelled once, and how many where a part is too long there.
+    /// A line for each call: what the message names after a fault there, the number of lines printed before, the number of
+    /// calls if the call is cancelled once, and that if its part is too long.
     faults: &'a str,
-    /// The line of the message, where one is left without a fault.
+    /// The line of the message, if there is one without a fault.
     said: &'a str,
     /// The output without a fault.
     out: &'a str,
@@ -50,8 +50,8 @@ fn fault_of<'a>(rt: &impl Abort, line: &'a str) -> Fault<'a> {
 // A cancelled record begins again with a reservation, and repeats its calls so far. A cancelled reading or inventory
 // loses the reservation too. The next record then begins again after its header.
 //
-// A part that is too long is asked for again in parts of half its length. These serve for the rest of the walk, or of
-// the inventory. A header of 5 bytes leads to parts of 2 bytes: a header then takes 3 calls, 51 bytes after it 26, and
+// A part that is too long is requested again in parts of half its length, and so is the rest of the walk or the
+// inventory. A header of 5 bytes leads to parts of 2 bytes: a header then takes 3 calls, 51 bytes after it 26, and
 // 15 bytes 8. A part of 32 bytes leads to 16, one of 19 to 9, one of 15 to 7, one of 16 to 8, and one of 8 to 4. A
 // call for no part, or for a part of one byte, is never too long.
 const COURSES: [Course<'static>; 10] = [
@@ -172,7 +172,7 @@ fn calls_of(course: &Course) -> u32 {
     calls
 }
 
-/// The outcome of a course with this number of tries. Its calls meet these moods.
+/// The outcome of a course with this number of tries and these moods.
 fn outcome_of_course(
     rt: &impl Abort,
     alloc: Global,
@@ -186,7 +186,7 @@ fn outcome_of_course(
     outcome_of_one(alloc, ctl, command_of_case(rt, alloc, words.as_str()))
 }
 
-/// The outcome of a course that comes to its end after this many calls.
+/// The outcome of a course that finishes after this many calls.
 fn whole_text(rt: &impl Abort, alloc: Global, course: &Course, calls: u32) -> String {
     let status = if course.said.is_empty() { 0 } else { 1 };
     let said = course.said;
@@ -237,14 +237,14 @@ fn refused(rt: &impl Abort, alloc: Global, names: &str) -> String {
     format!(in alloc; "record {names} refused with code D4h").expect(rt, "memory")
 }
 
-/// Moods that grant each call before this one, which meets the last mood.
+/// Moods that grant each call before this one, and then this mood.
 fn moods_at(rt: &impl Abort, alloc: Global, call: u32, mood: &str) -> String {
     let granted = ".".repeat(alloc, call.saturating_sub(1) as usize);
     let granted = granted.expect(rt, "memory");
     format!(in alloc; "{granted}{mood}").expect(rt, "memory")
 }
 
-/// What a call of a course meets.
+/// The fault at a call of a course.
 #[derive(Clone, Copy)]
 enum Meeting {
     /// It is busy once, and there is one try.
@@ -261,7 +261,7 @@ enum Meeting {
     TooLong,
 }
 
-/// The number of tries, and the mood that the call meets.
+/// The number of tries, and the mood of the call.
 fn script_of(meeting: Meeting) -> (u8, &'static str) {
     match meeting {
         Meeting::Busy => (1, "B"),
@@ -273,7 +273,7 @@ fn script_of(meeting: Meeting) -> (u8, &'static str) {
     }
 }
 
-/// The outcome of a course whose call with this number meets this.
+/// The outcome of a course with this fault at the call with this number.
 fn wanted_of(
     rt: &impl Abort,
     alloc: Global,
@@ -331,7 +331,7 @@ fn assert_outcome_of_each_course(rt: &impl Abort, alloc: Global, meeting: Meetin
     }
 }
 
-/// Asserts that a course without a fault comes to its end, one call for each of its lines.
+/// Asserts that a course without a fault finishes, with one call for each of its lines.
 fn assert_outcome_without_faults(rt: &impl Abort, alloc: Global, course: &Course) {
     let outcome = outcome_of_course(rt, alloc, course, 0, "");
     let wanted = whole_text(rt, alloc, course, calls_of(course));

@@ -12,11 +12,11 @@ use ipmi_output::Written;
 use std::alloc::Global;
 use std::process::Abort;
 
-/// Each image comes after a line with its name and before a line of dashes. The sensor is `CPU_TEMP`. In a cycle its
-/// next id is its own, and nowhere is a next id that no record has. The first event of a log is of this sensor. Of the
-/// sensors with statuses H has no reading, and I another owner. Among the shared ones four memory sensors from number
-/// 10h on have one record, and three fans from 30h on an event-only record. The memory sensor 50h has no name, and 14h
-/// no record.
+/// Each image comes after a line with its name and before a line of dashes. The sensor is `CPU_TEMP`. In `cycle` its next id
+/// is its own id, and `nowhere` has a next id that no record has. The first event of a log is of this sensor. Of the sensors
+/// with statuses, H has no reading, and I has another owner. Of the shared ones, four memory sensors, starting with number
+/// 10h, have one record, and three fans, starting with 30h, an event-only record. The memory sensor 50h has no name, and 14h
+/// has no record.
 const IMAGES: &str = "sensor
 ipmi-image 1
 sdr 0001 ffff CPU_TEMP
@@ -263,7 +263,7 @@ record 0002h refused with code D4h
 0001 | 1987-01-05 18:48:33 | CPU Temp | Upper Critical going high | Asserted | Reading 95 degrees C > threshold 90
 ";
 
-// A cancelled reservation is asked for once more, and the record from its beginning.
+// After a lost reservation there is a new one, and the record is read again from its beginning.
 #[test]
 fn troubles_on_either_walk_are_overcome_or_told(rt: HostRuntime) {
     assert_outputs_in_words(&rt, rt.alloc(), TROUBLES);
@@ -328,7 +328,7 @@ H                | 08h | processor 1 | no reading        | ns  | - | - | - | 85 
 I                | 09h | processor 1 | other owner       | na  | - | - | - | 85 | 90 | 95
 ";
 
-// A reservation, three calls for each record, and one for each reading but the other owner's.
+// A reservation, three calls for each record, and one for each reading except that of the other owner.
 #[test]
 fn sensors_have_each_status(rt: HostRuntime) {
     assert_outputs_in_words(&rt, rt.alloc(), STATUSES);
@@ -384,7 +384,7 @@ no record named DIMM 1
 --
 ";
 
-// A record has one name, by which it is found, however many sensors share it.
+// A record is found by its name, even if several sensors share it.
 #[test]
 fn a_shared_record_has_its_own_name(rt: HostRuntime) {
     assert_outputs_in_words(&rt, rt.alloc(), SHARED_SENSORS);

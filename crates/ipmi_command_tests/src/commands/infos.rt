@@ -1,4 +1,4 @@
-//! The infos of the two shelves: seven lines, none where there is no info, and what troubles and refusals make of them.
+//! The infos of the two shelves: seven lines, or none if there is no info, and the effect of troubles and refusals.
 use super::outcome::assert_outcome_of_one;
 use super::over_images::interrupting;
 use super::printed::assert_outputs;
@@ -65,7 +65,7 @@ Overflow: no
 Support: 0x02
 ";
 
-// Each shelf has its own info, and a call asks for all of it.
+// Each shelf has an info, and one call requests all of it.
 #[test]
 fn an_info_is_seven_lines(rt: HostRuntime) {
     assert_outputs(&rt, rt.alloc(), BLOCKS);
@@ -157,7 +157,7 @@ Overflow: no
 Support: 0x02
 ";
 
-// With five tries a sixth trouble is the end.
+// With five tries the run ends at the sixth trouble.
 #[test]
 fn an_info_is_asked_for_until_it_comes(rt: HostRuntime) {
     assert_outputs(&rt, rt.alloc(), MOODS);

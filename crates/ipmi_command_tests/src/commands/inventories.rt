@@ -141,7 +141,7 @@ not present
 
 ";
 
-// A call asks for the size, and one for each part. No locator is looked for.
+// There is a call for the size, and one for each part. No locator is requested.
 #[test]
 fn the_inventory_of_a_device_is_printed_by_its_id(rt: HostRuntime) {
     assert_outputs(&rt, rt.alloc(), DEVICES);
@@ -217,8 +217,8 @@ Chassis Type: Rack Mount Chassis
 
 ";
 
-// Troubles are counted over the whole inventory. A part of 16 bytes that is too long becomes two parts of 8. After
-// eight parts of one byte a part of eight bytes comes.
+// Troubles are counted over the whole inventory. A part of 16 bytes that is too long becomes two parts of 8. After eight
+// parts of one byte there is a part of eight bytes.
 #[test]
 fn an_inventory_is_asked_for_until_it_comes(rt: HostRuntime) {
     assert_outputs(&rt, rt.alloc(), MOODS);

@@ -1,11 +1,11 @@
-//! A long inventory with each of its bits turned over, one at a time. The text names the fault in its place, and keeps
-//! the other parts.
+//! A long inventory with each of its bits flipped, one at a time. The text names the fault in its place, and the other
+//! parts are unchanged.
 use super::long_inventory::{INVENTORY, assert_parts, digits_at};
 use crate::cases::{byte_of, parts, range};
 use std::alloc::Global;
 use std::process::Abort;
 
-/// The image with these bits of one byte turned over.
+/// The image with these bits of one byte flipped.
 fn turned_image(rt: &impl Abort, alloc: Global, place: usize, bits: u8) -> String {
     let (before, rest) = INVENTORY
         .split_at_checked(digits_at(place))
@@ -15,7 +15,7 @@ fn turned_image(rt: &impl Abort, alloc: Global, place: usize, bits: u8) -> Strin
     format!(in alloc; "{before}{byte:02x}{after}").expect(rt, "memory")
 }
 
-/// Asserts the parts of the text when one bit of a byte is turned over.
+/// Asserts the parts of the text if one bit of a byte is flipped.
 fn assert_parts_at_bit(rt: &impl Abort, alloc: Global, place: usize, bit: u8, wanted: &str) {
     let image = turned_image(rt, alloc, place, bit);
     let case = format!(in alloc; "bit {bit:02x} of byte {place}").expect(rt, "memory");
@@ -68,8 +68,8 @@ const OF_THE_CHASSIS: &str = "8-8|0f|Chassis fault: version|board|product|first|
 9-9|c0|Chassis fault: outside|board|product|first|second
 10-71|ff|Chassis fault: checksum|board|product|first|second";
 
-// The second byte is the length, 8 times 8 bytes. With a bit turned over the length is 0, or past the end, or the
-// checksum is wrong.
+// The second byte is the length, 8 times 8 bytes. With a flipped bit the length is 0, or past the end, or the checksum is
+// wrong.
 #[test]
 fn a_bit_of_the_chassis_is_told_beside_the_other_areas(rt: HostRuntime) {
     assert_parts_of_lines(&rt, rt.alloc(), OF_THE_CHASSIS);
@@ -83,7 +83,7 @@ const OF_THE_BOARD: &str = "72-72|0f|chassis|Board fault: version|product|first|
 73-73|c0|chassis|Board fault: outside|product|first|second
 74-199|ff|chassis|Board fault: checksum|product|first|second";
 
-// A length of 16 times 8 bytes from byte 72 on.
+// The length is 16 times 8 bytes, starting at byte 72.
 #[test]
 fn a_bit_of_the_board_is_told_beside_the_other_areas(rt: HostRuntime) {
     assert_parts_of_lines(&rt, rt.alloc(), OF_THE_BOARD);
@@ -97,7 +97,7 @@ const OF_THE_PRODUCT: &str = "200-200|0f|chassis|board|Product fault: version|fi
 201-201|e0|chassis|board|Product fault: outside|first|second
 202-327|ff|chassis|board|Product fault: checksum|first|second";
 
-// A length of 16 times 8 bytes from byte 200 on.
+// The length is 16 times 8 bytes, starting at byte 200.
 #[test]
 fn a_bit_of_the_product_is_told_beside_the_other_areas(rt: HostRuntime) {
     assert_parts_of_lines(&rt, rt.alloc(), OF_THE_PRODUCT);
@@ -109,7 +109,7 @@ const OF_THE_RECORDS: &str = "328-332|ff|chassis|board|product|Record fault: hea
 373-377|ff|chassis|board|product|first|Record fault: header checksum
 378-511|ff|chassis|board|product|first|Record fault: data checksum";
 
-// A header of five bytes has its own checksum, and that of the data. No record after a faulty one is printed.
+// A header of five bytes has a checksum of itself and one of the data. No record after a faulty one is printed.
 #[test]
 fn a_bit_of_a_multirecord_is_told_and_is_the_last(rt: HostRuntime) {
     assert_parts_of_lines(&rt, rt.alloc(), OF_THE_RECORDS);

@@ -1,4 +1,4 @@
-//! A long inventory cut short at each of its bytes. The text has the parts that are whole, and names the others.
+//! A long inventory cut off at each of its bytes. The text has the whole parts, and faults for the others.
 use super::long_inventory::{INVENTORY, assert_parts, digits_at};
 use crate::cases::{parts, range};
 use std::alloc::Global;
@@ -36,7 +36,7 @@ fn assert_parts_of_line(rt: &impl Abort, alloc: Global, line: &str) {
     }
 }
 
-// Each area that is cut short is outside, and so is the first record that is.
+// Each area that is cut off has the fault `outside`, and so has the first such record.
 #[test]
 fn an_inventory_cut_short_is_printed_as_far_as_it_goes(rt: HostRuntime) {
     for line in CUT_SHORT.lines() {

@@ -1,4 +1,4 @@
-//! An inventory of 512 bytes, the parts of its text, and what is printed of it.
+//! An inventory of 512 bytes, the parts of its text, and the parts that are printed.
 use super::outcome::assert_outcome;
 use super::over_images::outcome_over;
 use std::alloc::Global;
@@ -60,7 +60,7 @@ const SECOND: &str =
     0123456789012345678901234567890123456789012
 ";
 
-/// The place of a byte's digits in the image.
+/// The position of a byte's digits in the image.
 pub(super) fn digits_at(place: usize) -> usize {
     let line = 20_usize.saturating_add((place / 32).saturating_mul(72));
     line.saturating_add((place % 32).saturating_mul(2))
@@ -70,7 +70,7 @@ fn push(rt: &impl Abort, text: &mut String, part: &str) {
     text.push_str(part).expect(rt, "memory");
 }
 
-/// Appends a part of the text: a named one of the inventory, or the line of a fault.
+/// Appends a part of the text: the part of the inventory with this name, or the line of a fault.
 fn push_part(rt: &impl Abort, text: &mut String, part: &str) {
     match part {
         "chassis" => push(rt, text, CHASSIS),
@@ -85,7 +85,7 @@ fn push_part(rt: &impl Abort, text: &mut String, part: &str) {
     }
 }
 
-/// The text of parts with bars between them.
+/// The text of several parts, which are separated by bars.
 fn text_of_parts(rt: &impl Abort, alloc: Global, parts: &str) -> String {
     let mut text = String::new(alloc);
     for part in parts.split('|') {

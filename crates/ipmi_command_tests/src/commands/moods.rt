@@ -7,7 +7,7 @@ use crate::command_line::lines::command;
 use std::alloc::Global;
 use std::process::Abort;
 
-/// The outcome of a listing of three records with this number of tries. Its calls meet these moods.
+/// The outcome of a listing of three records with this number of tries and these moods.
 fn outcome_in_moods(rt: &impl Abort, alloc: Global, tries: &str, moods: &str) -> Outcome {
     let words = format!(in alloc; "--tries {tries} sdr hex").expect(rt, "memory");
     let ctl = scripted(rt, alloc, THREE_ROWS, moods);

@@ -55,7 +55,7 @@ sel list last 1|one entry|
 0003 | unspecified | OEM record 0xc0 | 001357 | 010203040506
 ";
 
-// Each walk has a reservation of its own, and a call for each entry, or one for each part of an entry of 16 bytes.
+// Each walk has a reservation and a call for each entry, or for each part of an entry of 16 bytes.
 #[test]
 fn the_newest_entries_take_two_walks(rt: HostRuntime) {
     assert_outputs(&rt, rt.alloc(), LAST);

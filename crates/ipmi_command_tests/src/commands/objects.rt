@@ -11,7 +11,7 @@ use std::alloc::Global;
 use std::process::Abort;
 
 /// Each image comes after a line with its name and before a line of dashes. The sensor is `CPU_TEMP`, and the record after
-/// it is too short for its type. Of the devices 0 has an inventory of one byte, 1 none, and the last is not this
+/// it is too short for its type. Device 0 has an inventory of one byte, device 1 has none, and the last device is not this
 /// controller's.
 const IMAGES: &str = "all
 ipmi-image 1

@@ -1,4 +1,4 @@
-//! The outcome of a command over a controller, and how it is compared with the expected one.
+//! The outcome of a command over a controller, compared with the expected one.
 use crate::controllers::Counting;
 use ipmi_bus::Controller;
 use ipmi_command_line::Command;
@@ -7,7 +7,7 @@ use ipmi_output::Written;
 use std::alloc::Global;
 use std::process::Abort;
 
-/// What a command leaves: output, messages, status and the number of calls.
+/// The outcome of a command: output, messages, status and the number of calls.
 #[derive(Drop)]
 pub(crate) struct Outcome {
     pub out: Vec<u8>,
@@ -33,7 +33,7 @@ pub(crate) fn outcome_of<C: Controller + Drop>(
     }
 }
 
-/// The same. The controller and the command end with it.
+/// The same, and drops the controller and the command.
 pub(crate) fn outcome_of_one<C: Controller + Drop>(
     alloc: Global,
     mut ctl: Counting<C>,

@@ -49,7 +49,7 @@ usage: ipmitool [--image FILE] [--from HEX4] [--part N] [--tries N] fru|sdr|sel 
 --
 ";
 
-// A command that only `answer` serves makes no call.
+// A command for an image only makes no call.
 #[test]
 fn no_controller_is_written_as_an_image(rt: HostRuntime) {
     assert_outcome_of_case(&rt, rt.alloc(), REWRITE);

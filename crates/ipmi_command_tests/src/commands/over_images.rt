@@ -1,4 +1,4 @@
-//! Controllers over saved images: plain ones, and ones whose calls meet moods. Each mood is a letter.
+//! Controllers over saved images, without and with moods. Each mood is a letter.
 use super::outcome::{Outcome, outcome_of_one};
 use super::saved::{CHANGED_ROWS, EMPTY, with_record};
 use crate::command_line::lines::command_of_case;
@@ -18,7 +18,7 @@ pub(crate) fn over(rt: &impl Abort, alloc: Global, image: &str) -> Counting<Imag
     Counting::new(ImageController::new(image_of(rt, alloc, image)))
 }
 
-/// A controller over the image. The call with this number is answered with the code.
+/// A controller over the image that answers the call with this number with the code.
 pub(crate) fn interrupting(
     rt: &impl Abort,
     alloc: Global,
@@ -37,8 +37,8 @@ pub(crate) struct Two<'a> {
     pub second: &'a str,
 }
 
-/// The mood of a letter. A dot grants all, and `1` one byte. `x` changes to the second image, `y` to the first, `N` to
-/// `CHANGED_ROWS`, and `E` to `EMPTY`.
+/// The mood of a letter. A dot grants all bytes, and `1` one byte. `x` changes to the second image, `y` to the first, `N`
+/// to `CHANGED_ROWS`, and `E` to `EMPTY`.
 fn mood(rt: &impl Abort, alloc: Global, images: Two<'_>, letter: u8) -> Mood {
     match letter {
         b'.' => Mood::Grant(254),
@@ -63,7 +63,7 @@ fn push(rt: &impl Abort, alloc: Global, moods: &mut Vec<Mood>, images: Two<'_>, 
         .expect(rt, "memory");
 }
 
-/// A controller over the first image. Its first calls meet the moods of these letters, and the others none.
+/// A controller over the first image. Its first calls have the moods of these letters.
 pub(crate) fn changing(
     rt: &impl Abort,
     alloc: Global,

@@ -148,8 +148,8 @@ CPU Temp         | 45 degrees C      | ok
 PSU1             | FRU 1             | na
 ";
 
-// A reservation and two entries, and a reservation and one. A sensor and its reading, after a reservation, the header
-// and two parts, and then a locator.
+// The first case: a reservation and two entries, then a reservation and one entry. The second: a reservation, a sensor's
+// header and two parts, its reading, and then a locator.
 #[test]
 fn entries_and_sensors_are_listed_in_pages(rt: HostRuntime) {
     assert_listings_in_pages(&rt, rt.alloc(), ENTRIES_AND_SENSORS);
@@ -161,7 +161,7 @@ const EMPTY_IN_PAGES: &str = "sdr hex|empty|1 1
 --
 ";
 
-// A reservation, and a call that finds no record. No other page is begun.
+// A reservation, and a call that finds no record. There is no other page.
 #[test]
 fn an_empty_image_ends_on_the_first_page(rt: HostRuntime) {
     assert_listings_in_pages(&rt, rt.alloc(), EMPTY_IN_PAGES);
@@ -184,7 +184,7 @@ cycle at 0000h
 sdr 0001 0000 010051c000
 ";
 
-// A cycle is found only within a page. The next id 0000h is always one.
+// A cycle is found only within a page. The next id 0000h is always a cycle.
 #[test]
 fn each_page_sees_its_own_cycle(rt: HostRuntime) {
     assert_listings_in_pages(&rt, rt.alloc(), CYCLES);
@@ -198,7 +198,7 @@ gave up at 0002h
 sdr 0001 0002 010051c001aa
 ";
 
-// The fourth call begins the second page. The third page does not begin.
+// The fourth call begins the second page. There is no third page.
 #[test]
 fn a_page_that_ends_by_name_ends_all(rt: HostRuntime) {
     let case = case_of(&rt, GIVEN_UP);
@@ -226,8 +226,7 @@ fn not_always_out_of_memory(rt: HostRuntime) {
     assert_lines(&rt, &outcome);
 }
 
-/// Asserts that all lines are written, or first bytes of them after a write fault, or first lines where memory was
-/// refused.
+/// Asserts that all lines are written, or their first bytes after a write fault, or the first lines if memory was refused.
 fn assert_lines_or_refused(rt: &impl Abort, outcome: &Outcome) {
     match outcome.status {
         0 => assert_lines(rt, outcome),

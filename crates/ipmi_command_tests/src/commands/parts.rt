@@ -1,4 +1,4 @@
-//! Listings in parts of other sizes than 32: the same lines with other numbers of calls.
+//! Listings in parts of sizes other than 32: the same lines, with other numbers of calls.
 use super::outcome::outcome_of_one;
 use super::over_images::over;
 use super::saved::image_named;
@@ -65,8 +65,8 @@ sdr 0001 0002 \
 sdr 0002 ffff 020051110f200180000000000a0100c450535531
 ";
 
-// A reservation, and for each record the parts of its header, which has five bytes, and those of the bytes after it.
-// The three records have 1, 2 and no byte after their headers, and the sensor and the locator 51 and 15.
+// A reservation, and for each record the parts of its header of five bytes, and those of the bytes after it. The three
+// records have 1, 2 and 0 bytes after their headers, the sensor has 51 and the locator 15.
 #[test]
 fn records_are_listed_in_parts_of_any_size(rt: HostRuntime) {
     assert_listings(&rt, rt.alloc(), HEX);

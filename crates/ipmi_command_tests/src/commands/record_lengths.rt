@@ -1,5 +1,5 @@
-//! Sensor data records of each length: a line or a block with what is there, a message that the record is too short, or
-//! a fault of the image.
+//! Sensor data records of each length: a line or a block of a record with part of its name, a line that the record is too
+//! short, or a fault of the image.
 use super::answers::assert_answer;
 use super::outcome::assert_outcome;
 use super::over_images::outcome_over;
@@ -9,7 +9,7 @@ use ipmi_fixtures::{CPU_TEMP, CPU_TEMP_BLOCK, PSU1};
 use std::alloc::Global;
 use std::process::Abort;
 
-/// An image of the first `len` bytes of `CPU_TEMP`. The fifth byte says how many bytes follow it.
+/// An image of the first `len` bytes of `CPU_TEMP`. The fifth byte is adapted to the length.
 fn cut_sensor(rt: &impl Abort, alloc: Global, len: usize) -> String {
     let after = len.saturating_sub(5);
     let body = hex::encode(alloc, CPU_TEMP.get(5..len).expect(rt, "a body")).expect(rt, "memory");
@@ -96,7 +96,7 @@ fn a_sensor_record_of_48_bytes_or_more_is_listed_and_named(rt: HostRuntime) {
     }
 }
 
-/// An image of the first `len` bytes of `PSU1`. The fifth byte says how many bytes follow it.
+/// An image of the first `len` bytes of `PSU1`. The fifth byte is adapted to the length.
 fn cut_locator(rt: &impl Abort, alloc: Global, len: usize) -> String {
     let after = len.saturating_sub(5);
     let body = hex::encode(alloc, PSU1.get(5..len).expect(rt, "a body")).expect(rt, "memory");
@@ -105,7 +105,7 @@ fn cut_locator(rt: &impl Abort, alloc: Global, len: usize) -> String {
     )
 }
 
-/// Asserts what `fru` prints over the first `len` bytes, after device 0, which is not present.
+/// Asserts the output of `fru` over the first `len` bytes, after device 0, which is not present.
 fn assert_devices_of_locator(
     rt: &impl Abort,
     alloc: Global,
@@ -148,7 +148,7 @@ sel list last 1
 fru
 fru print 0";
 
-/// Asserts that the words are answered with the fault of the image.
+/// Asserts that the words fail with the fault of the image.
 fn assert_image_fault(rt: &impl Abort, alloc: Global, image: &str, words: &str, wanted: &str) {
     let line = read_line(rt, alloc, words);
     let case = format!(in alloc; "{words}: {image}").expect(rt, "memory");

@@ -1,4 +1,4 @@
-//! Commands whose requests for memory are refused. They write whole pieces, and nothing more.
+//! Commands with refused requests for memory. They write only whole pieces.
 use super::answers::{AnswerOutcome, outcome_of_answer};
 use super::outputs::{INVENTORIES, INVENTORY, NEWEST};
 use super::saved::{image_named, with_record};
@@ -100,7 +100,7 @@ fn assert_pieces(rt: &impl Abort, outcome: &AnswerOutcome, printed: &Printed) {
     assert!(rt; is_of_pieces, "{}: a piece", printed.words);
 }
 
-/// Asserts that the whole text is written, or first bytes after a write fault, or first pieces where memory was
+/// Asserts that the whole text is written, or its first bytes after a write fault, or its first pieces if memory was
 /// refused.
 fn assert_text_or_pieces(rt: &impl Abort, outcome: &AnswerOutcome, printed: &Printed) {
     match outcome.status {
@@ -121,7 +121,7 @@ fn assert_printed_text(rt: &impl Abort, alloc: Global, printed: Printed) {
     drop(printed);
 }
 
-/// The same for a command, where memory may be refused for its image too.
+/// The same for a command whose image may be refused memory too.
 fn assert_printed_text_or_pieces(rt: &impl Abort, alloc: Global, printed: Printed) {
     if let Ok(outcome) = outcome_of(rt, alloc, &printed) {
         assert_text_or_pieces(rt, &outcome, &printed);
@@ -140,7 +140,7 @@ fn not_always_out_of_memory(rt: HostRuntime) {
     assert_printed_text(&rt, rt.alloc(), inventories());
 }
 
-// Memory may be refused to the run, or to the output.
+// Memory may be refused in the run or in the output.
 #[test]
 fn memory_may_be_refused(rt: HostRuntime) {
     assert_printed_text_or_pieces(&rt, rt.alloc(), block(rt.alloc()));

@@ -30,16 +30,16 @@ pub(super) const EMPTY: &str = "ipmi-image 1
 end
 ";
 
-/// An image of one record, whose next id is of no record.
+/// An image of one record, with a next id that no record has.
 pub(super) const TO_NOWHERE: &str = "ipmi-image 1
 sdr 0001 0009 010051c000
 end
 ";
 
 /// Each image comes after a line with its name and before a line of dashes. `CPU_TEMP` is replaced by the bytes of that
-/// record, and the locators are of FRU devices. The fault is a full sensor record that is too short. In a cycle the
-/// next id of each row is that of the other row. Nowhere is a next id that no row has. An image that is called another
-/// has the ids and lengths of the one whose place it takes.
+/// record, and the locators are for FRU devices. A `fault` is a full sensor record that is too short. In a `cycle` the next
+/// id of each row is the id of the other row. In `to nowhere` a next id is one that no row has. `another ..` has the ids and
+/// lengths of the image that it replaces.
 const IMAGES: &str = "sensor
 ipmi-image 1
 sdr 0001 ffff CPU_TEMP

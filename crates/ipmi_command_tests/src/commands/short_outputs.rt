@@ -1,4 +1,4 @@
-//! Outputs and messages that go to writers which fail, fill up or are slow.
+//! Outputs and messages to writers that fail, are full or are slow.
 use super::answers::{AnswerOutcome, assert_answer_outcome};
 use super::outputs::{INVENTORIES, INVENTORY, NEWEST};
 use super::over_images::image_of;
@@ -35,7 +35,7 @@ struct Printed<'a> {
     text: &'a str,
 }
 
-/// Asserts that an output with this much room has as much of the text, and that the answer says so.
+/// Asserts that an output with this much room has that much of the text, and the status and the message.
 fn assert_cut_text(
     rt: &impl Abort,
     alloc: Global,
@@ -174,7 +174,7 @@ fn an_output_keeps_what_was_taken_before_its_fault(rt: HostRuntime) {
     }
 }
 
-/// Asserts the text in an output that takes one byte a call.
+/// Asserts the text in an output that takes one byte per call.
 fn assert_text_by_bytes(rt: &impl Abort, alloc: Global, printed: &Printed) {
     let outcome = outcome_in(rt, alloc, printed, Limited::slow(alloc, 1));
     assert_cut_text(rt, alloc, outcome, printed, printed.text.len());

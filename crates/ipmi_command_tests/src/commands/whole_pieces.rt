@@ -1,5 +1,5 @@
-//! Two images that take each other's place at any two calls of a command. Each piece of the output is a whole one of
-//! one image.
+//! A change to a second image and back, at any two calls of a command. Each piece of the output is a whole piece of one of
+//! the images.
 use super::changing::outcome_over;
 use super::outcome::text_of;
 use super::over_images::Two;
@@ -13,7 +13,7 @@ fn there_and_back(rt: &impl Abort, alloc: Global, before: usize, between: usize)
     format!(in alloc; "{before}x{between}y").expect(rt, "memory")
 }
 
-/// Whether a piece is one of the texts, which end so.
+/// Whether a piece, with this end, is one of the texts.
 fn is_one_of(piece: &str, texts: &str, end: &str) -> bool {
     for text in texts.split_terminator(end) {
         if text == piece {
@@ -23,7 +23,7 @@ fn is_one_of(piece: &str, texts: &str, end: &str) -> bool {
     false
 }
 
-/// Asserts that each piece of an output ends so, and is one of the texts.
+/// Asserts that each piece of an output has this end, and is one of the texts.
 fn assert_pieces(rt: &impl Abort, out: &str, end: &str, texts: &str, case: &str) {
     for piece in out.split_terminator(end) {
         assert!(rt; is_one_of(piece, texts, end), "{case}: {piece}");
@@ -157,8 +157,7 @@ const PIECES: [Pieces<'static>; 4] = [
     },
 ];
 
-// A turned log has its entries in another order. A device may have its name from one image, and its inventory from the
-// other.
+// A turned log has its entries in another order. A device may have a name from one image and an inventory from the other.
 #[test]
 fn no_record_is_of_two_images(rt: HostRuntime) {
     for pieces in &PIECES {

@@ -1,4 +1,4 @@
-//! Commands over written answers that no image gives: empty parts, sizes in words, records that never end.
+//! Commands over answers that no image gives: empty parts, sizes in words, records that never end.
 use super::outcome::assert_outcome_of_one;
 use crate::command_line::lines::command;
 use crate::controllers::{Counting, Endless, Replay, Reply};
@@ -78,8 +78,8 @@ const STALLED: [Case; 7] = [
     },
 ];
 
-// An inventory of words is not read. An empty part ends it, and so does a part of one byte that is too long. After
-// eight bytes four, two and one are asked for, and after three bytes one.
+// An inventory that is accessed by words is not read. An empty part ends it, and so does a part of one byte that is too
+// long. After eight bytes, four, two and one are requested, and after three bytes one.
 #[test]
 fn an_inventory_by_words_or_without_bytes_is_named(rt: HostRuntime) {
     assert_outcomes_over_answers(&rt, rt.alloc(), &STALLED);
@@ -128,7 +128,7 @@ const REFUSED: [Case; 7] = [
     },
 ];
 
-// A size has no parts, so there is no smaller one to ask for. CBh means the same at each call.
+// A size has no parts, so nothing smaller can be requested. CBh means the same at each call.
 #[test]
 fn an_inventory_is_refused_by_code(rt: HostRuntime) {
     assert_outcomes_over_answers(&rt, rt.alloc(), &REFUSED);
@@ -182,8 +182,8 @@ const DISHONEST: [Case; 4] = [
     },
 ];
 
-// An empty inventory, the longest one, and parts of one byte whatever was asked for. 65,535 bytes take 2,048 parts of
-// 32 bytes, or 259 of 254. The last part asks for the eighth byte only.
+// An empty inventory, the longest one, and parts of one byte, whatever number was requested. 65,535 bytes take 2,048 parts
+// of 32 bytes, or 259 of 254. The last part is for the eighth byte only.
 #[test]
 fn an_inventory_of_any_size_is_printed(rt: HostRuntime) {
     assert_outcomes_over_answers(&rt, rt.alloc(), &DISHONEST);
@@ -191,7 +191,7 @@ fn an_inventory_of_any_size_is_printed(rt: HostRuntime) {
 
 const RESERVED: Reply = Reply::Reserves(1);
 
-/// The header of a locator of FRU device 1 without a name, after which eleven bytes follow.
+/// The header of a locator of FRU device 1 without a name. Eleven bytes follow it.
 const LOCATOR_HEADER: Reply = Reply::Gives(&[0x01, 0x00, 0x51, 0x11, 0x0B], 0xFFFF);
 
 /// The bytes after that header.
@@ -309,8 +309,8 @@ const WALKS: [Case; 14] = [
     },
 ];
 
-// Of a record five bytes, two and one are asked for, and of an entry sixteen, eight, four, two and one. The second walk
-// prints what it finds.
+// Of a record five bytes, two and one are requested, and of an entry sixteen, eight, four, two and one. The second walk
+// prints the entries that it finds.
 #[test]
 fn a_walk_over_written_answers_ends_by_name(rt: HostRuntime) {
     assert_outcomes_over_answers(&rt, rt.alloc(), &WALKS);
@@ -378,8 +378,8 @@ fru 0 refused with code FFh
 --
 ";
 
-// 65,535 records take one call each. As many entries take four each, since a part has at most five bytes here. They
-// are counted first, and then all but two are passed.
+// 65,535 records take one call each. As many entries take four each, since a part has at most five bytes here. They are
+// counted first, and then all but two are skipped.
 #[test]
 fn a_walk_without_a_last_record_ends(rt: HostRuntime) {
     assert_outcome_over_endless(&rt, rt.alloc(), "sdr get Foo", NO_NAME);

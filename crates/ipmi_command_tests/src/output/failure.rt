@@ -1,4 +1,4 @@
-//! The message and the status of each failure, and what writers that fail or are slow hold of a message.
+//! The message and the status of each failure, and the part of a message that failing or slow writers take.
 use crate::writers::{Limited, assert_written_text};
 use ipmi_bus::{Code, Ended, FruEnded};
 use ipmi_image::ImageFault;
@@ -247,7 +247,7 @@ fn a_line_comes_after_the_last_one(rt: HostRuntime) {
     );
 }
 
-/// Asserts that a writer which takes `room` bytes holds as much of the line.
+/// Asserts that a writer that takes only `room` bytes has that much of the line.
 fn assert_cut_message(rt: &impl Abort, alloc: Global, case: &Case, room: usize) {
     let mut err = Limited::failing_after(alloc, room);
     let result = say(&mut err, &case.failure);

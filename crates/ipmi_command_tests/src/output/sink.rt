@@ -1,4 +1,4 @@
-//! Writers as sinks: what one call takes, and whole texts.
+//! Writers as sinks: the bytes taken by one call, and whole texts.
 use crate::writers::{Limited, assert_written_text};
 use ipmi_output::{Sink, SinkFault, Written, write_all};
 

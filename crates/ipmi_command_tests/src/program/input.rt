@@ -95,7 +95,7 @@ fn a_fault_says_why_nothing_was_read(rt: HostRuntime) {
     assert_too_long(&rt, rt.alloc());
 }
 
-/// Asserts the fault that has no error of a reader.
+/// Asserts the fault that no error of a reader causes.
 fn assert_too_long(rt: &impl Abort, alloc: Global) {
     let shown = format!(in alloc; "{}", InputFault::TooLong).expect(rt, "memory");
     assert!(rt; shown.as_str() == "longer than 64 MiB", "{shown}");

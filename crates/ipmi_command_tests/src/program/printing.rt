@@ -1,4 +1,4 @@
-//! What a buffered writer holds of what was printed.
+//! The contents of a buffered writer after printing.
 use crate::command_line::lines::command;
 use crate::commands::saved::{THREE_LINES, THREE_ROWS};
 use crate::writers::{Limited, assert_written_text};
@@ -49,7 +49,7 @@ fn what_was_printed_before_a_cycle_is_handed_on(rt: HostRuntime) {
     drop(cmd);
 }
 
-/// Asserts that a run ends by a write fault when the writer takes `room` bytes, and what the writer holds.
+/// Asserts that a run ends with a write fault if the writer takes only `room` bytes, and the contents of the writer.
 fn assert_write_fault(rt: &impl Abort, alloc: Global, room: usize) {
     let cmd = command(rt, alloc, "sdr hex");
     let mut out = buffered(rt, alloc, Limited::failing_after(alloc, room));

@@ -1,4 +1,4 @@
-//! Inventories that are cut short, or of which one bit is wrong.
+//! Inventories that are cut off, or have one wrong bit.
 use super::examples::{BOARD, OUTPUT};
 use crate::cases::{assert_text, bytes_of};
 use hex::FromHex;
@@ -50,7 +50,7 @@ fn altered_board(place: usize) -> &'static str {
     }
 }
 
-/// Asserts the text of the board with the lowest bit of one byte turned over.
+/// Asserts the text of the board with the lowest bit of one byte flipped.
 fn assert_text_of_altered(rt: &impl Abort, alloc: Global, place: usize) {
     let mut board = <[u8; 32]>::from_hex(BOARD).expect(rt, "32 bytes");
     let byte = board.get_mut(place).expect(rt, "a byte");

@@ -9,11 +9,11 @@ use std::process::Abort;
 const BOARD_AND_PRODUCT: &str = "01000001040000fa0103000100008329dca642123bc441e90042c1000000004d\
     010319c24142c0c25051c25631c25358c100000000000004";
 
-/// The same with another byte in the product's sum.
+/// The same with a wrong checksum of the product.
 const FAULTY_PRODUCT: &str = "01000001040000fa0103000100008329dca642123bc441e90042c1000000004d\
     010319c24142c0c25051c25631c25358c100000000000005";
 
-/// `inventory|line` of device 7, PSU 1. The line is what comes after the name.
+/// `inventory|line` of device 7, PSU 1. The line is given from after the name.
 const LINES: &str = "01000000000000ff|present | - | - | -
 01000000010000fe010219c24142c24344c1000000000095|present | CD | - | -
 |faulty | - | - | -

@@ -1,9 +1,9 @@
-//! The text of an inventory and the line of its device, once with ample memory, and once with requests refused.
+//! The text of an inventory and the line of its device, with ample memory and with requests refused.
 use crate::cases::{assert_text, assert_text_or_refused};
 use ipmi_fru::{elsewhere_line, fru_line, print_fru, push_fru};
 use std::alloc::{AllocError, Global};
 
-/// Something of each thing that is printed.
+/// An inventory with each kind of printed item.
 const MIXED: [u8; 91] = [
     0x01, 0x00, 0x01, 0x02, 0x04, 0x05, 0x00, 0xf3, 0x01, 0x01, 0x17, 0xc2, 0x41, 0x42, 0xc1, 0xe1,
     0x01, 0x02, 0x00, 0x01, 0x00, 0x00, 0x83, 0x29, 0xdc, 0xa6, 0x41, 0x12, 0x01, 0xab, 0xc1, 0x0e,
@@ -27,13 +27,13 @@ Record 0xc0: 5a
 Record fault: outside
 ";
 
-/// The line of a device with that inventory: its product area is of another version, so the board is told.
+/// The line of a device with that inventory. Its product area has another version, so the line has the board.
 const MIXED_LINE: &str = "1 | - | present | 12 | - | ab\n";
 
 /// The line of a device that is elsewhere.
 const ELSEWHERE_LINE: &str = "- | PSU2 | elsewhere | - | - | -\n";
 
-/// A line, and what is appended to it for an inventory of no bytes.
+/// A line, and the text appended to it for an empty inventory.
 const APPENDED_LINES: &str = "FRU 1\nFRU fault: header short\n";
 
 fn appended_text(alloc: Global) -> Result<String, AllocError> {

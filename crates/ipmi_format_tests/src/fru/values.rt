@@ -1,4 +1,4 @@
-//! Values that are read from an inventory without printing it: what comes before an area's fields, and what records say.
+//! Reading values from an inventory without printing it: the values before an area's fields, and those of records.
 use crate::cases::{assert_text, bytes_of};
 use ipmi_fru::{
     AreaFault, AreaKind, AreaView, DcFields, Field, FruView, MultiView, RecordForm, access_text,
@@ -12,11 +12,10 @@ use std::process::Abort;
 const MIXED: &str =
     "01000102040500f3010117c24142c1e10102000100008329dca6411201abc10e010119c0c100006401020de80801b0043c003c0078000000710202020d0ee1024a012c01590100000a0014000302033cbc016162c08201a6175a";
 
-/// What comes before the fields of each area.
+/// The values before the fields of each area.
 const HEADS: &str = "chassis 23, language 0; board 1, language 0; product, language 25";
 
-/// Three areas, whose fields have the texts `CPN`, `BMF` and so on: the area, and what the field is. Each area has one
-/// more field.
+/// Three areas, whose fields have texts such as `CPN` and `BMF`, for the area and the field. Each area has one more field.
 const NAMED: &str =
     "01000104090000f1010317c343504ec343534ec56578747261c10000000000f0010519010000c3424d46c3425052c342534ec342504ec3424649c56578747261c10000000000001a010519c3504d46c3505052c350504ec3505645c350534ec3504154c3504649c56578747261c1007f";
 
@@ -26,7 +25,7 @@ BMF BPR BPN BSN - - BFI
 PMF PPR PPN PSN PVE PAT PFI
 ";
 
-/// What the records say.
+/// The values of the records.
 const SAID: &str =
     "DcFields { number: 1, standby: false, nominal: Fixed(120000000000000000), low: Fixed(6000000000000000), \
     high: Fixed(6000000000000000), ripple: 120, least_current: 0, greatest_current: 625 }
@@ -51,13 +50,13 @@ fn head_of(alloc: Global, area: &AreaView<'_>) -> Result<String, AllocError> {
     }
 }
 
-/// What comes before the fields of an area without a fault.
+/// The values before the fields of an area without a fault.
 fn head(rt: &impl Abort, alloc: Global, area: Option<Result<AreaView<'_>, AreaFault>>) -> String {
     let area = area.expect(rt, "an area").expect(rt, "an area");
     head_of(alloc, &area).expect(rt, "memory")
 }
 
-/// What a record says.
+/// The values of a record.
 fn said(alloc: Global, record: &MultiView<'_>) -> Result<String, AllocError> {
     match form_of(record) {
         RecordForm::Dc(_) => {

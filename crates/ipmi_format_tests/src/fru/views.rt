@@ -1,11 +1,11 @@
-//! What is read from an inventory without printing it: the heads of its areas, the fields of an area, and its records.
+//! Reading an inventory without printing it: the heads of its areas, the fields of an area, and its records.
 use super::examples::BOARD;
 use crate::cases::{assert_text, bytes_of, parts};
 use ipmi_fru::{AreaFault, AreaView, Field, FruFault, FruView, MultiFault};
 use std::alloc::{AllocError, Global};
 use std::process::Abort;
 
-/// `place of a field of the board|field`.
+/// `index of a field of the board|field`.
 const FIELDS: &str = "0|Some(Field { code: 2, bytes: [41, 220, 166] })
 1|Some(Field { code: 1, bytes: [18, 59] })
 2|Some(Field { code: 3, bytes: [65, 233, 0, 66] })
@@ -20,10 +20,10 @@ const LISTED: &str =
 /// An inventory of a chassis and a product.
 const CHASSIS_AND_PRODUCT: &str = "01000100020000fc010117c100000026010119c100000024";
 
-/// Records, of which the second says that it is the last.
+/// Three records. The second is marked as the last.
 const THREE_RECORDS: &str = "01000000000100fec00201023bfec18f0000b0c2820000bc";
 
-/// Records, of which the first has a wrong checksum.
+/// Records. The first has a wrong checksum.
 const WRONG_RECORD: &str = "01000000000100fec002000040c18f0000b0";
 
 /// The first four results of the iterator over `THREE_RECORDS`: nothing comes after the second.
@@ -31,7 +31,7 @@ const TWO_RECORDS: &str =
     "[Some(Ok(MultiView { kind: 192, version: 2, last: false, bytes: [254] })), \
     Some(Ok(MultiView { kind: 193, version: 15, last: true, bytes: [] })), None, None]";
 
-/// An area that may be there, and may have a fault.
+/// An area, if there is one, or its fault.
 type Area<'a> = Option<Result<AreaView<'a>, AreaFault>>;
 
 fn head_of<'a>(area: Area<'a>) -> Option<Result<&'a [u8], AreaFault>> {

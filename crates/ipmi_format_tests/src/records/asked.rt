@@ -7,7 +7,7 @@ use ipmi_records::SdrView;
 use std::alloc::Global;
 use std::process::Abort;
 
-/// `changes of CPU_TEMP|LUN and number of the sensor that is asked|FRU device that is asked`.
+/// `changes of CPU_TEMP|LUN and number of the sensor|FRU device` of the requests.
 const ASKED: &str = "7=00|Some((0, 1))|None
 7=03|Some((3, 1))|None
 7=f2|Some((2, 1))|None

@@ -6,8 +6,8 @@ use ipmi_records::{SdrView, sdr_block};
 use std::alloc::Global;
 use std::process::Abort;
 
-/// `id|what the sensor answered|record`, then the block. An empty line ends a case. A record is its digits, or
-/// `CPU_TEMP` with changes.
+/// `id|reading|record`, then the block. An empty line ends a case. A record is given by its digits, or as `CPU_TEMP` with
+/// changes.
 const BLOCKS: &str = "0001|none|CPU_TEMP
 Record: 0001h
 Type: full

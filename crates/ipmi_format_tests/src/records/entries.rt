@@ -52,12 +52,12 @@ Event: event 0x6f offset 0x3
 Direction: Deasserted
 Data: a3b4c5";
 
-/// The answer of Get SEL Info where entries were lost.
+/// The answer of Get SEL Info after entries were lost.
 const OVERFLOW_INFO: [u8; 14] = [
     0x01, 0x34, 0x12, 0xff, 0xff, 0x00, 0x00, 0x00, 0x00, 0x01, 0x00, 0x00, 0x20, 0x80,
 ];
 
-/// The block of the info where entries were lost.
+/// The block of that info.
 const OVERFLOW_INFO_BLOCK: &str = "Version: 0x01
 Records: 4660
 Free Space: 65535

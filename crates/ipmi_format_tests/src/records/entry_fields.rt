@@ -41,7 +41,7 @@ fn assert_bytes(rt: &impl Abort, alloc: Global, line: &str) {
     assert_text(rt, hex::encode(alloc, view.bytes()), digits, line);
 }
 
-/// The OEM entry with a time that the bytes are.
+/// The OEM timestamped entry in the bytes.
 fn oem_entry_of<'a>(rt: &impl Abort, bytes: &'a [u8; 16]) -> OemTimestampedEntry<'a> {
     match SelView::read(bytes) {
         SelView::OemTimed(entry) => entry,

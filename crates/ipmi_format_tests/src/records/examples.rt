@@ -1,4 +1,4 @@
-//! The texts of `EVENT`, and the bytes that the texts of a case mean.
+//! The texts of `EVENT`, and the bytes in the texts of a case.
 use crate::cases::bytes_of;
 use ipmi_records::{EventEntry, FullSensor, SdrView, SelView};
 use ipmi_text::Reading;
@@ -21,12 +21,12 @@ Data: 595f5a
 
 ";
 
-/// What a sensor answered: the digits of its four bytes, or `none`.
+/// A reading: the digits of its four bytes, or `none`.
 pub(super) fn answer_of(rt: &impl Abort, text: &str) -> Option<Reading> {
     ipmi_fixtures::answer_of(text).expect(rt, text)
 }
 
-/// `CPU_TEMP` with changes such as `14=6f`, which commas separate.
+/// `CPU_TEMP` with changes such as `14=6f`, separated by commas.
 pub(super) fn changed(rt: &impl Abort, changes: &str) -> [u8; 56] {
     ipmi_fixtures::changed(changes).expect(rt, changes)
 }
@@ -46,7 +46,7 @@ pub(super) fn record_of(rt: &impl Abort, alloc: Global, text: &str) -> Vec<u8> {
     }
 }
 
-/// The full sensor record that the bytes are.
+/// The full sensor record in the bytes.
 pub(super) fn full_of<'a>(rt: &impl Abort, bytes: &'a [u8]) -> FullSensor<'a> {
     match SdrView::read(bytes) {
         Ok(SdrView::Full(full)) => full,
@@ -54,7 +54,7 @@ pub(super) fn full_of<'a>(rt: &impl Abort, bytes: &'a [u8]) -> FullSensor<'a> {
     }
 }
 
-/// The event that the bytes of an entry are.
+/// The event in the bytes of an entry.
 pub(super) fn event_of<'a>(rt: &impl Abort, bytes: &'a [u8; 16]) -> EventEntry<'a> {
     match SelView::read(bytes) {
         SelView::Event(event) => event,

@@ -5,7 +5,7 @@ use ipmi_records::{SdrView, sdr_line};
 use std::alloc::Global;
 use std::process::Abort;
 
-/// `changes of CPU_TEMP|what the sensor answered|line`.
+/// `changes of CPU_TEMP|reading|line`.
 const LINES: &str = "|none|CPU Temp         | no reading        | ns
 |2dc00000|CPU Temp         | 45 degrees C      | ok
 6=21|2dc00000|CPU Temp         | other owner       | na

@@ -6,8 +6,8 @@ use ipmi_text::Reading;
 use std::alloc::Global;
 use std::process::Abort;
 
-/// `record|what the sensor answered`, then the line, then the extended line. An empty line ends a case. A record is its
-/// digits, or `CPU_TEMP`.
+/// `record|reading`, then the line, then the extended line. An empty line ends a case. A record is given by its digits, or
+/// as `CPU_TEMP`.
 const LINES: &str = "CPU_TEMP|2dc00000
 CPU Temp         | 45 degrees C      | ok
 CPU Temp         | 01h | ok  | 3.1   | 45 degrees C
@@ -136,7 +136,7 @@ ABCDEFGHIJKLMNOPQRSTU | --h | na  | 10.1  | FRU 1
 A.B              | FRU 1             | na
 A.B              | --h | na  | 10.1  | FRU 1";
 
-/// A record, what the sensor answered, and both lines.
+/// A record, a reading, and both lines.
 #[derive(Drop)]
 struct Case<'a> {
     record: Vec<u8>,

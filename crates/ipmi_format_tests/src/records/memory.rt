@@ -1,5 +1,4 @@
-//! Each call that makes a text of a record, an entry or an info, once with ample memory, and once with requests
-//! refused.
+//! Each call that makes a text of a record, an entry or an info, with ample memory and with requests refused.
 use super::examples::{EVENT_BLOCK, EVENT_LINE};
 use crate::cases::{assert_text, assert_text_or_refused};
 use ipmi_fixtures::{CPU_TEMP, CPU_TEMP_BLOCK, EVENT, INFO, INFO_BLOCK, reading_of};
@@ -10,7 +9,7 @@ use ipmi_records::{
 use std::alloc::{AllocError, Global};
 use std::process::Abort;
 
-/// A text, unless memory runs out.
+/// A text, or out of memory.
 type Made = Result<String, AllocError>;
 
 /// The calls that take memory over a sensor data record, each with its text.
@@ -56,7 +55,7 @@ fn assert_name_or_refused(rt: &impl Abort, name: Result<Option<String>, AllocErr
     }
 }
 
-// With ample memory each call gives its text.
+// With ample memory each call returns its text.
 #[test]
 fn not_always_out_of_memory(rt: HostRuntime) {
     let view = SdrView::read(&CPU_TEMP).expect(&rt, "a record");
@@ -69,7 +68,7 @@ fn not_always_out_of_memory(rt: HostRuntime) {
     assert_name(&rt, view.name(rt.alloc()).expect(&rt, "memory"));
 }
 
-// With memory refused each call gives its text, or fails when out of memory.
+// With memory refused each call returns its text, or fails when out of memory.
 #[test]
 fn memory_may_be_refused(rt: HostRuntime) {
     let view = SdrView::read(&CPU_TEMP).expect(&rt, "a record");

@@ -1,5 +1,5 @@
-//! Parts of a record's texts that other texts use: values with and without units, names, thresholds, and what a sensor
-//! shows.
+//! Parts of a record's texts that other texts use: values with and without units, names, thresholds, and the state of a
+//! sensor.
 use super::examples::{answer_of, changed, event_of, full_of, with_byte};
 use crate::cases::{assert_text, byte_of, parts, three_parts};
 use ipmi_fixtures::{CPU_TEMP, EVENT, PSU1};
@@ -99,13 +99,13 @@ fn a_record_has_its_name_reading_and_status(rt: HostRuntime) {
     assert_text(&rt, text, "|PSU1      FRU 1|na", "PSU1");
 }
 
-/// `changes of CPU_TEMP|what the sensor answered|what is shown`.
+/// `changes of CPU_TEMP|reading|expected state`.
 const SHOWN: &str = "|none|NoReading
 |2d200000|NoReading
 |2d400000|Value(Reading { raw: 45, flags: 64, status: 0, more: 0 })
 6=21|2d400000|OtherOwner";
 
-/// Asserts what the sensor of `CPU_TEMP` with changes shows.
+/// Asserts the state of the sensor of `CPU_TEMP` with changes.
 fn assert_shown(rt: &impl Abort, alloc: Global, case: &str) {
     let (changes, digits, wanted) = three_parts(rt, case);
     let bytes = changed(rt, changes);
@@ -121,7 +121,7 @@ fn each_sensor_shows_what_it_has(rt: HostRuntime) {
     }
 }
 
-/// `what the sensor answered|states`.
+/// `reading|states`.
 const STATES: &str = "00400182|513
 0040ff7f|32767
 0040ffff|32767

@@ -1,4 +1,4 @@
-//! Each call that makes a text, once with ample memory, and once with requests refused.
+//! Each call that makes a text, with ample memory and with requests refused.
 use crate::cases::{assert_text, assert_text_or_refused};
 use ipmi_text::{
     Fixed, Units, chassis_text, event_text, fixed_text, fru_text, minutes_text, push_fixed,
@@ -37,7 +37,7 @@ fn calls_that_take_memory(alloc: Global) -> [(Result<String, AllocError>, &'stat
     ]
 }
 
-// With ample memory each call gives its text.
+// With ample memory each call returns its text.
 #[test]
 fn not_always_out_of_memory(rt: HostRuntime) {
     for (text, wanted) in calls_that_take_memory(rt.alloc()) {
@@ -45,7 +45,7 @@ fn not_always_out_of_memory(rt: HostRuntime) {
     }
 }
 
-// With memory refused each call gives its text, or fails when out of memory.
+// With memory refused each call returns its text, or fails when out of memory.
 #[test]
 fn memory_may_be_refused(rt: HostRuntime) {
     for (text, wanted) in calls_that_take_memory(rt.alloc()) {

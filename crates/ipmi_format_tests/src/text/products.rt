@@ -1,4 +1,4 @@
-//! The formula of a reading, computed once more by repeated multiplication, for many factors and raw bytes.
+//! The formula of a reading, computed again by repeated multiplication, for many factors and raw bytes.
 use crate::cases::parts;
 use ipmi_text::{Factors, Fixed, convert};
 use std::process::Abort;
