@@ -1,14 +1,14 @@
--- What the answers of an honest controller leave of a record that is being read.
+-- The effect of an honest controller's answers on the record that is being read.
 use Rattle.std.proofs.Common.{◌≡◌, ℕ, ◌+◌, ◌<◌, Bool, true, false, Option, None, Some, Result, Ok, Err, refl, sym, ap, ◌∙◌, arith, ◌≤◌, IsTrue, IsSome}
 use Rattle.ipmi_bus.specs.Prelude.{Code, CodeClass, Cancelled, Busy, Refusal, Refused, Shelf, Ended, CallOutcome, Retrieval, Row, Store, look, rows_of, class_of, FailsWith, ReserveAnswers, Seen, stays_trans, KeepsStore, MayLoseReservation, IsTroubled, IsRefused, current, StaysHonest, SameRequest, IsReading, HoldsCurrent, HasMet, KeepsHeld, HonestSince, ReadIsHonest, ReadNext, WithinTries, after_trouble, ReserveFails}
 use Rattle.ipmi_bus.specs.Retrieval.{IsOpenRecord, HasRead, CountsTrouble}
 
--- where a reservation is current, it was so before, and the store is the same
+-- if a reservation is current, it was current before, and the store is unchanged
 pub store-kept : (shelf : Shelf) (s s' : Seen) (n : ℕ) → MayLoseReservation shelf s s'
     → KeepsStore s s' → current shelf s' ≡ Some n → s'.store ≡ s.store
 store-kept shelf s s' n keeps store now = grind arith
 
--- a call that brought nothing leaves what was read, of which the part size and the count of troubles are no part
+-- a call without a result keeps the bytes read so far; the part size and the number of troubles may change
 pub reading_kept : (r : Retrieval) (s s' : Seen) (part troubles : ℕ)
     → MayLoseReservation r.shelf s s' → KeepsStore s s' → (0 < r.have → IsSome r.reservation)
     → IsReading r s → IsReading (record r { part = part; troubles = troubles }) s'
@@ -33,7 +33,7 @@ after_reading false r s s' keeps store reserved reading = reading_kept r s s' r.
 after_have : (is_cancelled : Bool) (r : Retrieval) → (after_trouble is_cancelled r).have ≤ r.have
 after_have is_cancelled r = grind arith
 
--- one call more
+-- one more call
 module _ (start old : Retrieval) (s s' s'' : Seen) (same : SameRequest start old)
     (since : HonestSince start old s s') (stays : StaysHonest s' s'') where
   all : StaysHonest s s''
@@ -42,7 +42,7 @@ module _ (start old : Retrieval) (s s' s'' : Seen) (same : SameRequest start old
   first : s''.stores_added ≡ s.stores_added → s'.stores_added ≡ s.stores_added
   first e = omega (arith, since.stays.store.grows, stays.store.grows)
 
-  -- a reservation that is held on
+  -- a reservation is kept
   pub held_on : (new : Retrieval) → MayLoseReservation old.shelf s' s'' → s'.troubles ≤ s''.troubles
       → new.reservation ≡ old.reservation → IsSome start.reservation → s''.troubles ≡ s.troubles
       → KeepsHeld start new s s''
@@ -54,7 +54,7 @@ module _ (start old : Retrieval) (s s' s'' : Seen) (same : SameRequest start old
   pub within_calm : IsOpenRecord old → HasMet 0 s' s'' → WithinTries start.tries s s''
   within_calm open_ calm = search arith
 
-  -- a trouble that an honest controller answered
+  -- an honest controller answered with a trouble
   pub trouble_answers : (is_cancelled : Bool) (new : Retrieval) (result : Result CallOutcome Ended)
       → IsOpenRecord old → MayLoseReservation old.shelf s' s'' → IsTroubled s' s''
       → CountsTrouble is_cancelled old new result
@@ -79,7 +79,7 @@ module _ (start old : Retrieval) (s s' s'' : Seen) (same : SameRequest start old
       } in
       rw (counts.0, counts.1) given
 
-  -- a call that an honest controller refused
+  -- an honest controller refused the call
   pub refusal_answers : (new : Retrieval) (code : Code) (result : Result CallOutcome Ended)
       → IsOpenRecord old → MayLoseReservation old.shelf s' s'' → IsRefused code.0 s' s''
       → (result ≡ Err (Refused old.id code)) × (new ≡ old)
@@ -93,7 +93,7 @@ module _ (start old : Retrieval) (s s' s'' : Seen) (same : SameRequest start old
       } in
       rw (does.0, does.1) base
 
-  -- a reservation that an honest controller gave
+  -- an honest controller gave a reservation
   pub reserve_given : (n : ℕ) → IsOpenRecord old → old.reservation ≡ None
       → ReserveAnswers old.shelf (Ok n) s' s''
       → HonestSince start (record old { reservation = Some n }) s s''
@@ -109,7 +109,7 @@ module _ (start old : Retrieval) (s s' s'' : Seen) (same : SameRequest start old
         within = λ e. since.within (first e);
       }
 
-  -- a call for a reservation that an honest controller failed
+  -- an honest controller failed the call for a reservation
   pub reserve_failed : (new : Retrieval) (code : Code) (result : Result CallOutcome Ended)
       → IsOpenRecord old → ReserveAnswers old.shelf (Err code) s' s''
       → ReserveFails (class_of code.0) code old new result → ReadNext start new s s'' result

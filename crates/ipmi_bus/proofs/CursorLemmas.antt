@@ -1,4 +1,4 @@
--- The record that a cursor hands out is the row that it asked for.
+-- The record that a cursor returns is the row that it requested.
 use Rattle.std.proofs.Common.{◌≡◌, ℕ, ◌+◌, ◌*◌, ◌<◌, ◌≤◌, false, nat_eq, None, Some, IfSome, IsSome, List, length, take, get_or, refl, sym, ◌∙◌, arith, nat_cmp, take_all, get_or-take, length-take}
 use Rattle.std.specs.FinSet as set
 use Rattle.std.specs.FinSet.{contains-empty, len-empty}
@@ -8,21 +8,21 @@ use Rattle.ipmi_bus.specs.Retrieval.{HasRead}
 use Rattle.ipmi_bus.proofs.PartLemmas.{get_or-read}
 use Rattle.ipmi_bus.proofs.WalkLemmas.{id-row_at}
 
--- the row that is whole in the buffer, where this id was asked for
+-- the row in the buffer, if this id was requested and the row is complete
 abbrev pub whole_row : Place → ℕ → Retrieval → Row
 whole_row place asked r = record { id = handed_id place asked r.buffer; next = r.next; bytes = take r.have r.buffer }
 
--- the row that was handed out
+-- the returned row
 abbrev handed_row : Progress → Handed → Row
 handed_row p handed = record { id = handed.id; next = handed.next; bytes = take handed.len p.retrieval.buffer }
 
--- the id that is handed out is the row's
+-- the returned id is the id of the row
 begins : (rows : List Row) (row : Row) → IfSome (first_row rows) (λ r. id_in r.bytes ≡ r.id)
     → first_row rows ≡ Some row
     → get_or row.bytes 0 0 + 256 * get_or row.bytes 1 0 ≡ row.id
 begins rows row ok found = grind arith
 
--- an id that is asked for after the start is not 0000h, and was not handed out
+-- an id requested after the start is not 0000h, and was not returned before
 asked_unseen : (n : ℕ) (ids : set.FinSet nat_cmp) → cycle_at (Id n) ids ≡ None
     → (nat_eq n 0 ≡ false) × (set.contains ids n ≡ false)
 asked_unseen n ids none = grind (arith, nat_tests)
@@ -39,7 +39,7 @@ handed_id-row shelf rows (Id n) ids asked have buffer row ok asks found some sam
     let zero = (asked_unseen n ids asks.none).0 in asks.id ∙ sym (id-row_at shelf rows n row ok (rw zero (rw (asks.id, zero) at found))).1
 handed_id-row shelf rows End ids asked have buffer row ok asks found some same = absurd (asks.not_at_end refl)
 
--- the row that is whole in the buffer is the one that was read
+-- the row in the buffer is the one that was read
 pub look-whole_row : (place : Place) (ids : set.FinSet nat_cmp) (asked : ℕ) (r : Retrieval)
     (s : Seen) (row : Row) → IsHonest s → IsAsked place ids asked → r.id ≡ asked → HasRead r s row
     → r.have ≡ length row.bytes → 5 ≤ r.have
@@ -50,24 +50,24 @@ look-whole_row place ids asked r s row honest asks is read whole some =
     let bytes : take r.have r.buffer ≡ row.bytes = read.bytes ∙ rw whole (take_all _ row.bytes (omega arith)) in
     rw (id, read.next, bytes) found
 
--- and it is handed out
+-- and it is the returned row
 pub handed_row-whole : (p : Progress) (handed : Handed) (place : Place) (asked : ℕ) (r : Retrieval)
     → handed.id ≡ handed_id place asked r.buffer → handed.next ≡ r.next → handed.len ≡ r.have
     → p.retrieval ≡ r → handed_row p handed ≡ whole_row place asked r
 handed_row-whole p handed place asked r id next len is = rw (id, next, len, is) refl
 
--- what is handed out was not handed out before
+-- the returned id was not returned before
 pub contains-handed_id : (place : Place) (ids : set.FinSet nat_cmp) (asked : ℕ) (buffer : List ℕ)
     → (place ≡ First → ids ≡ set.empty) → IsAsked place ids asked
     → set.contains ids (handed_id place asked buffer) ≡ false
 contains-handed_id place ids asked buffer first asks = grind (arith, nat_tests, contains-empty nat_cmp)
 
--- the row that is handed out has the id that was asked for
+-- the returned row has the requested id
 has_id_asked : (place : Place) (ids : set.FinSet nat_cmp) (asked : ℕ) (r : Retrieval) → 5 ≤ r.have
     → IsAsked place ids asked → (whole_row place asked r).id ≡ handed_id place (asked_at place) (whole_row place asked r).bytes
 has_id_asked place ids asked r some asks = grind (arith, get_or-take)
 
--- and is as long as its bytes say
+-- and the length given in its bytes
 length-take-whole : (shelf : Shelf) (have : ℕ) (buffer : List ℕ) → 5 ≤ have → have ≤ length buffer
     → have ≡ wanted_len shelf have buffer
     → length (take have buffer) ≡ whole_len shelf (take have buffer)
@@ -76,7 +76,7 @@ length-take-whole shelf have buffer some fits whole = grind (arith, nat_tests, l
 largest_fits : (shelf : Shelf) → largest_len shelf ≤ 256
 largest_fits shelf = grind arith
 
--- the cursor hands out a whole row, which it had not handed out before
+-- the cursor returns a whole row that it did not return before
 pub hands_out : (old new : CursorState) (asked : ℕ) (r : Retrieval) (row : Row)
     → row ≡ whole_row old.place asked r → IsAsked old.place old.ids asked
     → (old.place ≡ First → old.ids ≡ set.empty) → new.place ≡ place_after row.next
@@ -99,5 +99,5 @@ hands_out old new asked r row is asks first place ids at_most next shelf room so
       reserved = reserved;
     }
 
--- where no id was handed out, there is room for each
+-- if no id was returned yet, there is room for each id
 pub ruleset empty_ids = (contains-empty, len-empty)

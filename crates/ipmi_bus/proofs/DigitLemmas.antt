@@ -1,4 +1,4 @@
--- How many binary digits a part size has at most.
+-- The largest number of binary digits of a part size.
 use Rattle.std.proofs.Common.{ℕ, ◌≤◌, Bool, true, false, nat_le, if◌then◌else◌, arith}
 use Rattle.ipmi_bus.specs.Bounds.{digits}
 

@@ -1,4 +1,4 @@
--- What a table of bits contains.
+-- The ids in a table of bits.
 use Rattle.std.proofs.Common.{◌≡◌, ◌≢◌, ℕ, zero, suc, ◌+◌, ◌≤◌, ◌*◌, ◌/◌, ◌%◌, ◌<◌, ◌^◌, Bool, true, false, cond, eqb, ◌&&◌, ◌||◌, nat_lt, nat_eq, List, get_or, set as put, length, replicate, refl, sym, ap, ◌∙◌, inl, inr, rules, arith, nat_cmp, bit_or, eq-eqb, get_or-set_same, get_or-set_other}
 use Rattle.std.specs.Cmp.{nat_cmp_total, unsigned_tied}
 use Rattle.std.specs.Int.{bit_at}
@@ -38,7 +38,7 @@ unfolding ids_below
 len-ids_below bytes zero = omega (arith, len-empty nat_cmp)
 len-ids_below bytes (suc k) = len-put (ids_below bytes k) (has_id_bit bytes k) k (len-ids_below bytes k)
 
--- a table has no more ids than bits
+-- a table has at most as many ids as bits
 pub len-ids_in : (bytes : List ℕ) → set.len (ids_in bytes) ≤ 65536
 unfolding ids_in
 len-ids_in bytes = len-ids_below bytes 65536
@@ -47,7 +47,7 @@ len-ids_in bytes = len-ids_below bytes 65536
 abbrev marked : List ℕ → ℕ → ℕ
 marked bytes n = bit_or (get_or bytes (n / 8) 0) (1 * 2 ^ (n % 8) % 2 ^ bits w8)
 
--- the bit at q, after that at n is set
+-- the bit at q after setting the bit at n
 has_id_bit-put_same : (bytes : List ℕ) (n : ℕ) → n / 8 < length bytes
     → has_id_bit (put bytes (n / 8) (marked bytes n)) n ≡ true
 has_id_bit-put_same bytes n within =
@@ -80,7 +80,7 @@ ids_in-put bytes n len fits =
         → (q ≡ n → x ≡ true) → (q ≢ n → x ≡ y) → a ≡ (nat_eq q n || b)
     joined q a b x y p r same apart = elim (cases_eq q n) [ inl e ↦ grind (arith, nat_tests, same e) | inr ne ↦ grind (arith, nat_tests, apart ne) ]
 
--- each element of a list of zeros is zero, also past its end
+-- each element of a list of zeros is zero, even past its end
 get_or-zeros : (zeros : List ℕ) (n i : ℕ) → zeros ≡ replicate n 0 → get_or zeros i 0 ≡ 0
 get_or-zeros zeros n i e = elim (cases_lt i n) [
   | inl lt ↦ rw e (get_or-replicate n i 0 0 lt)

@@ -1,4 +1,4 @@
--- A part of an inventory, as an honest controller gave it.
+-- A part of an inventory from an honest controller.
 use Rattle.std.proofs.Common.{◌≡◌, ℕ, ◌+◌, ◌<◌, ◌≤◌, Bool, true, false, nat_eq, Option, None, Some, Result, Ok, Err, List, [], length, take, drop, slice_range, refl, sym, ap, subst, ◌∙◌, arith, unwrap_or, IsTrue, IsSome, ne_eqb, Vec}
 use Rattle.std.specs.declared.alloc.Global.{Global}
 use Rattle.std.proofs.lemmas.Bool.Decides.{nat_tests}
@@ -20,7 +20,7 @@ module _ (old r : FruRetrieval) (s s' s'' : Seen) (asked got : ℕ)
   first : s''.stores_added ≡ s.stores_added → s'.stores_added ≡ s.stores_added
   first same = omega (arith, since.stays.store.grows, gave.change.stays.store.grows)
 
-  -- the inventory is the one of which bytes were read before
+  -- the inventory is the same as for the earlier parts
   whole_is : (same : s''.stores_added ≡ s.stores_added)
       → gave.gives.0 ≡ (since.read (first same)).whole
   whole_is same =
@@ -31,7 +31,7 @@ module _ (old r : FruRetrieval) (s s' s'' : Seen) (asked got : ℕ)
   calm : HasMet 0 s' s''
   calm = calm_piece _ s' s'' gave.gives.3
 
-  -- with the bytes that came in
+  -- the retrieval with the new bytes
   abbrev taken : FruRetrieval
   taken = record old { bytes = r.bytes; have = old.have + got }
 
@@ -75,21 +75,21 @@ module _ (old r : FruRetrieval) (s s' s'' : Seen) (asked got : ℕ)
         (before.0, record { sdr = gave.sdr.plain now ∙ before.1.sdr; sel = gave.sel.plain now ∙ before.1.sel });
   }
 
-  -- the bytes that came are taken
+  -- the new bytes are accepted
   pub part_answers : (new : FruRetrieval) (result : Result (Unit {0}) FruEnded)
       → r ≡ record old { bytes = r.bytes } → TakesInventoryPart got r new result
       → FruNext old new s s'' result
   part_answers new (Ok u) is takes = subst (λ (x : FruRetrieval). FruSince x s s'') (sym takes.1) (subst (λ (x : FruRetrieval). FruSince (record x { have = x.have + got }) s s'') (sym is) part_taken)
   part_answers new (Err ended) is takes = absurd (omega (arith, takes.0, gave.gives.2.some))
 
--- CBh says that nothing is there, and no refusal does
+-- only CBh says that the item is absent
 nat_eq-cbh : (code : ℕ) → class_of code ≡ NotPresent → nat_eq code 0xCB ≡ true
 nat_eq-cbh code is = grind (arith, nat_tests)
 
 nat_eq-not_cbh : (code : ℕ) → class_of code ≡ Refusal → nat_eq code 0xCB ≡ false
 nat_eq-not_cbh code is = ne_eqb _ _ (λ (e : code ≡ 0xCB). let other = sym (ap class_of e) ∙ is in cc other)
 
--- a call for a part that an honest controller failed
+-- an honest controller failed a call for a part
 module _ (old : FruRetrieval) (bytes : Vec ℕ Global) (s s' s'' : Seen) (asked : ℕ) (code : Code)
     (into : List ℕ) (items : bytes.items ≡ old.bytes.items) (open_ : IsOpenInventory old)
     (since : FruSince old s s')
@@ -100,7 +100,7 @@ module _ (old : FruRetrieval) (bytes : Vec ℕ Global) (s s' s'' : Seen) (asked 
   at_first : s''.stores_added ≡ s.stores_added → s'.stores_added ≡ s.stores_added
   at_first same = omega (arith, since.stays.store.grows, gave.change.stays.store.grows)
 
-  -- a plain one gives what is there
+  -- a plain controller gives what it has, so this one is not plain
   not_plain : IsTrue s.plain → ⊥
   not_plain p =
       let same = since.stays.plain_store p in
@@ -109,7 +109,7 @@ module _ (old : FruRetrieval) (bytes : Vec ℕ Global) (s s' s'' : Seen) (asked 
       let plain = rw found at (gave.plain (since.stays.plain p)) in
       cc (plain (omega (arith, open_.more, read.size)))
 
-  -- the call is to be made again
+  -- the call is to be repeated
   since_failed : (part troubles k : ℕ) → troubles ≡ old.troubles + k
       → s''.troubles ≡ s'.troubles + k → s''.fresh_troubles ≡ s'.fresh_troubles + k
       → s''.refusals ≡ s'.refusals → s''.last_code ≡ s'.last_code
@@ -189,9 +189,9 @@ module _ (old : FruRetrieval) (bytes : Vec ℕ Global) (s s' s'' : Seen) (asked 
 pub same_trans : (a b c : FruRetrieval) → SameInventory a b → SameInventory b c → SameInventory a c
 same_trans a b c p q = record { id = q.id ∙ p.id; tries = q.tries ∙ p.tries; size = q.size ∙ p.size; part = omega (arith, p.part, q.part); some = q.some; fits = q.fits; have = q.have; troubles = q.troubles }
 
--- ---- the whole reading
+-- ---- reading the whole inventory
 
--- the size was told, and no byte is there
+-- the size is known, and no bytes are read yet
 module _ (id part tries : ℕ) (size : Size) (bytes : Vec ℕ Global) (s s' : Seen)
     (has : HasSize id size s s') (len : length bytes.items ≡ size.bytes) where
   abbrev begun : FruRetrieval
@@ -219,11 +219,11 @@ module _ (id part tries : ℕ) (size : Size) (bytes : Vec ℕ Global) (s s' : Se
       let first = found_at_first (omega (arith, has.stays.store.grows, stays.store.grows)) in
       omega (arith, has.found.2, ap (λ (o : Option (List ℕ)). length (unwrap_or o [])) first, digits_most part)
 
--- all bytes are there
+-- all bytes are read
 module _ (id tries : ℕ) (s s' : Seen) (r : FruRetrieval) (since : FruSince r s s')
     (id_is : r.id ≡ id) (tries_are : r.tries ≡ tries) (few : r.troubles ≤ r.tries)
     (all : r.have ≡ length r.bytes.items) where
-  -- no more troubles came than the tries
+  -- there were at most as many troubles as tries
   within_tries : WithinTries tries s s'
   within_tries = search arith
 

@@ -1,4 +1,4 @@
--- What a part of an honest controller leaves of a record that is being read.
+-- The effect of a part from an honest controller on the record that is being read.
 use Rattle.std.proofs.Common.{◌≡◌, ℕ, ◌+◌, ◌<◌, ◌≤◌, Bool, true, false, nat_eq, Option, None, Some, Result, Ok, Err, List, length, take, drop, get_or, slice_range, refl, sym, ap, subst, ◌∙◌, inl, inr, arith, IsTrue, IsSome, ne_eqb, get_or-take, take-take, take-add, MatchOption, IsOk}
 use Rattle.std.proofs.lemmas.Bool.{cases_lt}
 use Rattle.std.proofs.lemmas.Bool.Decides.{nat_tests}
@@ -7,29 +7,29 @@ use Rattle.ipmi_bus.specs.Retrieval.{IsOpenRecord, HasRead, TakesRecordPart, Mak
 use Rattle.ipmi_bus.proofs.ShelfLemmas.{look_row}
 use Rattle.ipmi_bus.proofs.CallLemmas.{reading_kept, held_on, within_calm, trouble_answers, refusal_answers}
 
--- a request for the bytes after those that are there
+-- a request for the next bytes
 abbrev request_of : Retrieval → ℕ → ℕ → Asked
 request_of r reservation len = part_asked r.shelf reservation r.id r.have len
 
--- the byte at a place that is read
+-- a byte that is already read
 pub get_or-read : (have i : ℕ) (buffer bytes : List ℕ) → i < have
     → take have buffer ≡ take have bytes → get_or buffer i 0 ≡ get_or bytes i 0
 get_or-read have i buffer bytes lt same = sym (get_or-take have buffer i 0 lt) ∙ rw same (get_or-take have bytes i 0 lt)
 
--- no more is wanted than the row has
+-- the wanted length is at most that of the row
 pub wanted_within : (shelf : Shelf) (have : ℕ) (buffer : List ℕ) (row : Row) → IsRow shelf row
     → take have buffer ≡ take have row.bytes → wanted_len shelf have buffer ≤ length row.bytes
 wanted_within shelf have buffer row ok same =
     let whole = ok.whole in let byte = λ (lt : 4 < have). get_or-read have 4 buffer row.bytes lt same in grind (arith, nat_tests)
 
--- what is as long as is wanted is whole
+-- bytes of the wanted length are the whole row
 pub wanted_whole : (shelf : Shelf) (have : ℕ) (buffer : List ℕ) (row : Row) → IsRow shelf row
     → take have buffer ≡ take have row.bytes → have ≡ wanted_len shelf have buffer
     → have ≡ length row.bytes
 wanted_whole shelf have buffer row ok same is =
     let whole = ok.whole in let byte = λ (lt : 4 < have). get_or-read have 4 buffer row.bytes lt same in grind (arith, nat_tests)
 
--- what was read before, while the reservation is current
+-- the bytes read before, while the reservation is current
 take-before : (r : Retrieval) (s : Seen) (row : Row) → IsReading r s
     → (0 < r.have → current r.shelf s ≡ r.reservation)
     → look (rows_of r.shelf s.store) r.id ≡ Some row → take r.have r.buffer ≡ take r.have row.bytes
@@ -41,7 +41,7 @@ take-before r s row reading reserved found = elim (cases_lt 0 r.have) [
   | inr none ↦ let zero : r.have ≡ 0 = omega arith in rw zero refl
 ]
 
--- and with the piece
+-- and the new bytes
 pub take-with_piece : (have got asked : ℕ) (before after bytes : List ℕ) → got ≤ asked
     → take have after ≡ take have before → take have before ≡ take have bytes
     → take got (slice_range after have (have + asked)) ≡ take got (drop have bytes)
@@ -55,7 +55,7 @@ pub calm_piece : (flag : Bool) (s s' : Seen) → CountsPiece flag s s' → HasMe
 calm_piece true s s' counts = search (arith, counts)
 calm_piece false s s' counts = search (arith, counts)
 
--- with the piece taken
+-- the retrieval with the new bytes
 abbrev taken : Retrieval → List ℕ → Part → Retrieval
 taken old buffer part = after_part part (record old { buffer = buffer })
 
@@ -132,7 +132,7 @@ module _ (start old : Retrieval) (buffer : List ℕ) (s s' s'' : Seen) (n asked 
       absurd (omega (arith, takes.5, ok.fits, largest))
   piece_answers new _ takes = absurd takes
 
--- a part that an honest controller gave
+-- an honest controller gave a part
 pub honest_part : (start old r new : Retrieval) (s s' s'' : Seen) (n asked : ℕ) (part : Part)
     (result : Result CallOutcome Ended) → SameRequest start old → HonestSince start old s s'
     → IsOpenRecord old → r ≡ record old { buffer = r.buffer }
@@ -151,7 +151,7 @@ module _ (old : Retrieval) (s : Seen) (n asked : ℕ) (honest : IsHonest s) (ope
   abbrev failed : Code → Result Part Code
   failed code = Err code
 
-  -- a plain controller answers a request for more with data, or that there is no such row
+  -- a plain controller answers a request for more bytes with data, or with CBh if there is no such row
   pub plain_code : (code : Code) → MatchOption (look (rows_of old.shelf s.store) old.id)
       (failed code ≡ Err not_present)
       (λ row. old.have < length row.bytes → (0 < old.have → current old.shelf s ≡ Some n)
@@ -166,11 +166,11 @@ module _ (old : Retrieval) (s : Seen) (n asked : ℕ) (honest : IsHonest s) (ope
           let within = wanted_within old.shelf old.have old.buffer row ok same in
           cc ((rw found at plain) (omega (arith, open_.more)) (λ some. holds.held n held))
 
--- more than one byte has a smaller part
+-- for a part of more than one byte there is a smaller part
 pub smaller_some : (asked : ℕ) → 1 < asked → smaller_part asked ≡ None → ⊥
 smaller_some asked more none = grind (arith, nat_tests)
 
--- a failing call of an honest controller for a part
+-- an honest controller failed a call for a part
 module _ (start old new : Retrieval) (s s' s'' : Seen) (n asked : ℕ) (code : Code) (into : List ℕ)
     (same : SameRequest start old) (since : HonestSince start old s s') (open_ : IsOpenRecord old)
     (held : old.reservation ≡ Some n)
@@ -185,7 +185,7 @@ module _ (start old new : Retrieval) (s s' s'' : Seen) (n asked : ℕ) (code : C
       → IsSome start.reservation → s''.troubles ≡ s.troubles → KeepsHeld start r s s''
   keeps_on r = held_on start old s s' s'' same since stays r parts.keeps
 
-  -- a smaller part is to be asked for
+  -- a smaller part is to be requested
   with_smaller : (part : ℕ) → IsQuiet s' s'' → (IsTrue s.plain → HoldsCurrent start s → ⊥)
       → HonestSince start (record old { part = part }) s s''
   with_smaller part quiet not_plain = record {

@@ -4,7 +4,7 @@ use Rattle.std.proofs.lemmas.Bool.{eqb-false, or_parts}
 use Rattle.std.proofs.lemmas.Bool.Decides.{nat_tests}
 use Rattle.ipmi_bus.specs.Prelude.{Shelf, Row, IsRow, IsShelf, AllRows, DistinctIds, LacksId, look, row_with_id, first_row, has_id}
 
--- a row that is found is well formed, and has the id
+-- a row that is found is well formed and has the id
 pub found_row : (shelf : Shelf) (rows : List Row) (n : ℕ) (row : Row) → AllRows shelf rows
     → row_with_id n rows ≡ Some row → IsRow shelf row × (row.id ≡ n)
 found_row shelf [] n row all found = cc found

@@ -1,13 +1,13 @@
--- The reading of a record, call after call.
+-- Reading a record, call by call.
 use Rattle.std.proofs.Common.{◌≡◌, ℕ, ◌+◌, ◌*◌, ◌≤◌, Option, None, Some, Ok, refl, ap, ◌∙◌, arith, ◌-◌}
 use Rattle.ipmi_bus.specs.Prelude.{AreWithin, AsksAtMost, digits, step_call_bound, Again, Retrieval, largest_len, Seen, IsHonest, StaysHonest, SameRequest, CallLeaves, unreserved, begun, HonestSince, len_of, look, rows_of}
 use Rattle.ipmi_bus.specs.Retrieval.{IsOpenRecord, calls_left}
 
--- how many bytes the row has that is asked for, 0 where there is none
+-- the length of the requested row, 0 if there is none
 abbrev row_len : Retrieval → Seen → ℕ
 row_len r seen = len_of (look (rows_of r.shelf seen.store) r.id)
 
--- what holds after each call but the last
+-- the state after each call except the last
 pub record Since (start now : Retrieval) (s s' : Seen) : Type 0 where
   pub is_open : IsOpenRecord now
   pub request : SameRequest start now
@@ -21,12 +21,12 @@ pub record Since (start now : Retrieval) (s s' : Seen) : Type 0 where
 same_request_trans : (a b c : Retrieval) → SameRequest a b → SameRequest b c → SameRequest a c
 same_request_trans a b c p q = record { shelf = q.shelf ∙ p.shelf; tries = q.tries ∙ p.tries; id = q.id ∙ p.id; part = omega (arith, p.part, q.part); some = q.some }
 
--- one call more
+-- one more call
 module _ (start now new : Retrieval) (s s' s'' : Seen) (since : Since start now s s')
     (request : SameRequest now new) (counted : s''.calls ≡ s'.calls + 1)
     (asked : AsksAtMost now.part s' s'')
     (leaves : CallLeaves now new (Ok Again)) where
-  -- one call is spent
+  -- one call is used up
   chain : (a b c : ℕ) → a + 1 ≤ b → s'.calls + b ≤ s.calls + c → s''.calls + a ≤ s.calls + c
   chain a b c p q = omega (arith, counted)
 
@@ -55,7 +55,7 @@ unreserved_le (Some n) = omega arith
 -- the last call
 module _ (old : Retrieval) (id : ℕ) (now new : Retrieval) (s s' s'' : Seen)
     (since : Since (begun old id) now s s') (counted : s''.calls ≡ s'.calls + 1) where
-  -- the most calls of a record that is begun
+  -- the largest number of calls for a record, from its beginning
   bound_by : (len tries : ℕ) (r : Retrieval) → r.tries ≡ tries → r.troubles ≡ 0 → r.have ≡ 0
       → calls_left len r ≤ step_call_bound tries len + digits r.part
   bound_by len tries r is t h =
@@ -63,7 +63,7 @@ module _ (old : Retrieval) (id : ℕ) (now new : Retrieval) (s s' s'' : Seen)
       let product : (r.tries - r.troubles) * (len + 2) ≡ tries * (len + 2) = ap (λ (n : ℕ). n * (len + 2)) {y = tries} (omega (arith, is, t)) in
       omega (arith, most, product, h)
 
-  -- the calls are within the bound by the row's length, with the digits that the part size lost, where the store stays
+  -- if the store is unchanged, the number of calls is within the bound for the row's length and the digits that the part size lost
   pub row_bound : (IsHonest s' → StaysHonest s' s'') → new.part ≡ now.part → IsHonest s
       → s''.stores_added ≡ s.stores_added → AreWithin old.tries (row_len (begun old id) s) old.part new.part s s''
   row_bound stays same h e =

@@ -18,7 +18,7 @@ rest_walk shelf rows start (d ∷ (e ∷ before)) row after ok w ends ne =
 
 -- ---- steps
 
--- the store stays over the first step where it stays over all
+-- if the store is unchanged over all steps, it is unchanged over the first
 grows : (c : CursorState) (s : Seen) (steps : List Stepped) → IsHonest s → AreSteps c s steps
     → s.stores_added ≤ (seen_after s steps).stores_added
 grows c s [] honest steps = omega arith
@@ -27,7 +27,7 @@ grows c s (step ∷ more) honest steps =
     let stays = (steps.1.honest between.honest).stays in
     omega (arith, between.store.grows, stays.store.grows, grows step.cursor step.seen more stays.honest steps.2)
 
--- the next row, and the first ones of those after it
+-- the next row, followed by the first rows after it
 cons-take-drop : (walk : List Row) (k m : ℕ) (row : Row) → first_row (drop k walk) ≡ Some row
     → row ∷ take m (drop (k + 1) walk) ≡ take (m + 1) (drop k walk)
 cons-take-drop walk k m row next =
@@ -38,7 +38,7 @@ cons-take-drop walk k m row next =
     split [] e = cc e
     split (r ∷ l) e = let same : r ≡ row = cc e in rw same refl
 
--- from the k-th row on
+-- starting with the k-th row
 record HandsOutFrom (rows : List Row) (start : Place) (walk : List Row) (k : ℕ) (c : CursorState)
     (handed : List Row) : Type 0 where
   count : ℕ

@@ -27,7 +27,7 @@ no_more shelf rows start done end row ok ends found fresh =
     let none = cycle_at-none shelf rows (place_after_rows start done) (ids_of done) done row ok (contains-ids_of done) fresh found in
     let looks = look-asked_at (place_after_rows start done) rows row found in grind (arith, nat_tests)
 
--- two walks with an end that begin alike are one
+-- two walks that have an end and begin with the same rows are equal
 same_rest : (shelf : Shelf) (rows : List Row) (start : Place) (done a b : List Row) (e f : WalkEnd)
     → IsShelf shelf rows → IsWalk rows start (done ++ a) → EndsBy rows start (done ++ a) e
     → IsWalk rows start (done ++ b) → EndsBy rows start (done ++ b) f → a ≡ b
@@ -44,7 +44,7 @@ same_rest shelf rows start done (r ∷ a) (s ∷ b) e f ok w ends w' ends' =
     (subst (IsWalk rows start) (sym right) w') (subst (λ (l : List Row). EndsBy rows start l f) (sym right) ends') in
     ap (λ (x : Row). x ∷ a) same ∙ ap (λ (l : List Row). s ∷ l) rest
 
--- a walk has one end
+-- a walk has at most one end
 same_empty : (rows : List Row) (start : Place) (e f : WalkEnd) → EndsEmpty rows start e
     → EndsEmpty rows start f → e ≡ f
 same_empty rows start e f ends ends' = grind (arith, nat_tests)
@@ -65,9 +65,9 @@ same_walk shelf rows start a b e f ok w ends w' ends' =
     let same = same_rest shelf rows start [] a b e f ok w ends w' ends' in
     (same, same_end rows start b e f (subst (λ (l : List Row). EndsBy rows start l e) same ends) ends')
 
--- ---- there is one
+-- ---- there is a walk that has an end
 
--- how many rows of the shelf are not among these
+-- the number of rows of the shelf that are not among these
 abbrev left_over : List Row → List Row → ℕ
 left_over [] done = 0
 left_over (row ∷ rows) done = cond (has_id done row.id) 0 1 + left_over rows done
@@ -112,7 +112,7 @@ AllOf-snoc : (rows done : List Row) (row : Row) → AllOf rows done → look row
 AllOf-snoc rows [] row all here = (here, tt)
 AllOf-snoc rows (d ∷ done) row all here = (all.0, AllOf-snoc rows done row all.1 here)
 
--- the place after a row leads to the next one by its id
+-- the place after a row leads to the row with the next id
 linked : (shelf : Shelf) (next : ℕ) (rows : List Row) (row : Row) → IsShelf shelf rows
     → row_at (place_after next) rows ≡ Some row → (next ≡ row.id) × (row.id ≢ 0)
 linked shelf next rows row ok found = grind (arith, nat_tests, id-row_at shelf rows next row ok)
@@ -136,7 +136,7 @@ longer shelf rows start (d ∷ done) row ok w found fresh = record {
   links = Links-snoc shelf rows d done row ok w.links found;
 }
 
--- ---- where no row follows, the walk has an end
+-- ---- if no row follows, the walk has an end
 
 abbrev the_end : List Row → ℕ → WalkEnd
 the_end walk next = cond (nat_eq next 65535) Done (cond (nat_eq next 0 || has_id walk next) (CycleAt next) (MissingAt next))
@@ -154,7 +154,7 @@ no_row : (o : Option Row) → ((row : Row) → o ≡ Some row → ⊥) → o ≡
 no_row None none = refl
 no_row (Some row) none = absurd (none row refl)
 
--- where the place has no row, or one that is in the walk already
+-- if the place has no row, or a row that is already in the walk
 ends_here : (shelf : Shelf) (rows : List Row) (start : Place) (walk : List Row) → IsShelf shelf rows
     → ((row : Row) → row_at (place_after_rows start walk) rows ≡ Some row
     → has_id walk row.id ≡ true) → (end : WalkEnd) × EndsBy rows start walk end
@@ -196,7 +196,7 @@ decide shelf rows start done ok w go = by (row_at (place_after_rows start done) 
     by None is = ending (λ r found. let h = sym is ∙ found in cc h)
     by (Some row) is = stands row is (has_id done row.id) refl
 
--- the walk that goes on from these rows
+-- the walk that continues these rows
 walk_from : (shelf : Shelf) (rows : List Row) (start : Place) → IsShelf shelf rows
     → (fuel : ℕ) (done : List Row) → IsWalk rows start done → left_over rows done ≤ fuel
     → HasWalk rows start

@@ -1,4 +1,4 @@
--- Walks, row after row.
+-- Walks, row by row.
 use Rattle.std.proofs.Common.{◌≡◌, ◌≢◌, ℕ, ◌+◌, ◌≤◌, Bool, false, nat_eq, ◌||◌, Option, None, Some, Result, Ok, Err, List, [], ◌∷◌, ◌++◌, length, take, drop, refl, sym, ap, subst, ◌∙◌, inl, inr, rules, arith, ◌⊎◌, ne_eqb, nat_cmp, take_all, take-append-drop, length-drop, take-add}
 use Rattle.std.specs.FinSet as set
 use Rattle.std.proofs.Math.Bool.{or-false, or_assoc, or_comm}
@@ -12,11 +12,11 @@ use Rattle.ipmi_bus.proofs.ShelfLemmas.{look_row, found_row}
 place_after-id : (next : ℕ) → next ≢ 65535 → place_after next ≡ Id next
 place_after-id next ne = rw (ne_eqb next 65535 ne) refl
 
--- the row at an id that is not 0000h
+-- the row at an id other than 0000h
 pub row_at-id : (rows : List Row) (n : ℕ) → n ≢ 0 → row_at (Id n) rows ≡ look rows n
 row_at-id rows n ne = rw (ne_eqb n 0 ne) refl
 
--- what follows a walk's first row is a walk from the place after it
+-- the rows after a walk's first row are a walk from the place after that row
 pub walk_tail : (shelf : Shelf) (rows : List Row) (start : Place) (row : Row) (walk : List Row)
     → IsShelf shelf rows → IsWalk rows start (row ∷ walk) → IsWalk rows (place_after row.next) walk
 walk_tail shelf rows start row [] ok w = record { of_shelf = w.of_shelf.1; distinct = w.distinct.1; first = search rules; links = search rules }
@@ -31,7 +31,7 @@ walk_tail shelf rows start row (after ∷ walk) ok w =
       links = w.links.2;
     }
 
--- the row after the first rows of a walk is the one at the place where they end
+-- the row after the first rows of a walk is the row at the place after them
 pub row_at-next : (shelf : Shelf) (rows : List Row) (start : Place) (done : List Row) (row : Row)
     (walk : List Row) → IsShelf shelf rows → IsWalk rows start (done ++ row ∷ walk)
     → row_at (place_after_rows start done) rows ≡ Some row
@@ -43,7 +43,7 @@ lacks_here : (n : ℕ) (done : List Row) (row : Row) (walk : List Row)
 lacks_here n [] row walk lacks = lacks.0
 lacks_here n (d ∷ done) row walk lacks = lacks_here n done row walk lacks.1
 
--- and its id is not among theirs
+-- and its id is not one of theirs
 pub has_id-next : (done : List Row) (row : Row) (walk : List Row) → DistinctIds (done ++ row ∷ walk)
     → has_id done row.id ≡ false
 has_id-next [] row walk distinct = refl
@@ -51,12 +51,12 @@ has_id-next (d ∷ done) row walk distinct =
     let apart : nat_eq row.id d.id ≡ false = ne_eqb row.id d.id (lacks_here d.id done row walk distinct.0) in
     rw apart (has_id-next done row walk distinct.1)
 
--- the id asked for at a place that has a row
+-- the id requested at a place that has a row
 pub look-asked_at : (place : Place) (rows : List Row) (row : Row) → row_at place rows ≡ Some row
     → look rows (asked_at place) ≡ Some row
 look-asked_at place rows row found = grind (arith, nat_tests)
 
--- it is the row's
+-- it is the id of the row
 pub id-row_at : (shelf : Shelf) (rows : List Row) (n : ℕ) (row : Row) → IsShelf shelf rows
     → row_at (Id n) rows ≡ Some row → (nat_eq n 0 ≡ false) × (row.id ≡ n)
 id-row_at shelf rows n row ok found = grind (arith, nat_tests, found_row shelf rows n row ok.all)
@@ -119,9 +119,9 @@ empty_facts : (rows : List Row) (start : Place) (walk : List Row) (place : Place
 empty_facts rows start (row ∷ walk) place ids end w ends p first none = let h = sym (ap (λ (q : Place). row_at q rows) first) ∙ w.first in cc (h, none)
 empty_facts rows start [] place ids end w ends p first none = grind arith
 
--- ---- the law
+-- ---- a step on a walk
 
--- on a walk along the rows that the controller has now
+-- on a walk along the current rows of the controller
 module _ (c new : CursorState) (seen : Seen) (start : Place) (walk : List Row) (k : ℕ)
     (ok : IsShelf c.shelf (rows_of c.shelf seen.store))
     (w : IsWalk (rows_of c.shelf seen.store) start walk)
@@ -214,7 +214,7 @@ module _ (c new : CursorState) (seen : Seen) (start : Place) (walk : List Row) (
         → c.place ≢ End → MayFail e c.place
     may_fail e facts none open_ = grind arith
 
-    -- there is no row to ask for
+    -- there is no row to request
     asks_at_end : (e : WalkEnd) → EndFacts rows start c.place c.ids e
         → AsksNothing c ⊎ (look rows (asked_at c.place) ≡ None)
     asks_at_end e known = grind arith
@@ -254,7 +254,7 @@ module _ (c new : CursorState) (seen : Seen) (start : Place) (walk : List Row) (
       by_rest [] is = ending is end ends s end (facts is end ends) result leaves answers
       by_rest (row ∷ rest) is = inside row rest is end s result leaves answers
 
-  -- a step on it asks for the next row, or at its end for none, or asks nothing
+  -- a step requests the next row of the walk, or at its end no row, or makes no call
   pub asks_next : (end : WalkEnd) → EndsBy rows start walk end
       → AsksNothing c ⊎ (len_of (look rows (asked_at c.place)) ≡ len_of (first_row (drop k walk)))
   asks_next end ends = by_rest (drop k walk) refl
@@ -265,7 +265,7 @@ module _ (c new : CursorState) (seen : Seen) (start : Place) (walk : List Row) (
       by_rest [] is = elim (asks_at_end is end ends end (facts is end ends)) [ inl asks ↦ inl asks | inr nothing ↦ inr (ap len_of nothing ∙ sym (rw is refl)) ]
       by_rest (row ∷ rest) is = inr (ap len_of (found row rest is end) ∙ sym (rw is refl))
 
--- ---- the law over an honest controller, which keeps its store
+-- ---- a step over an honest controller that adds no store
 
 pub follows_walks : (c new : CursorState) (s s' : Seen) (result : Result (Option Row) Ended)
     → IsHonest s → StepLeaves c new result → StepIsHonest c new s s' result
