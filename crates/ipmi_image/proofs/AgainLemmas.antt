@@ -1,4 +1,4 @@
--- A rewritten image gives the store that it was made of: its inventories, readings and infos, and all of it.
+-- A rewritten image is read as the same store: its inventories, readings and infos, and the whole store.
 use Rattle.std.proofs.Common.{◌≡◌, ◌≢◌, ℕ, zero, suc, ◌+◌, ◌/◌, ◌<◌, ◌≤◌, true, false, nat_lt, Option, None, Some, Ok, List, [], ◌∷◌, ◌++◌, length, take, drop, map, refl, sym, ap, subst, ◌∙◌, append_assoc, append-nil, arith, codes, unwrap_or, IfSome, All, AllPairs, flat_map, eq-eqb, ne_eqb, length-append, length-drop, length-take, take-append-drop, get_or-append-add}
 use Rattle.std.specs.Option.{option_to_list}
 use Rattle.std.proofs.lemmas.Bool.Decides.{nat_tests}
@@ -17,9 +17,9 @@ use Rattle.ipmi_image.proofs.TakenLemmas.{Kept, nothing, kept_with, store_kept, 
 abbrev Lines : Type 0
 Lines = List (List (List ℕ))
 
--- ---- items after those that they differ from
+-- ---- items that differ from all items before them
 
--- each item before x is so to x
+-- each item before x is related to x
 pairs_middle : {T : Type 0} (R : T → T → Type 0) (front rest : List T) (x : T)
     → AllPairs R (front ++ x ∷ rest) → All (λ a. R a x) front
 pairs_middle R front rest x pairs = λ k d lt.
@@ -27,7 +27,7 @@ pairs_middle R front rest x pairs = λ k d lt.
     let p = pairs k (length front + 0) d (omega (arith, lt)) (omega (arith, len)) in
     rw (get_or_append_left front (x ∷ rest) d k lt, get_or-append-add front (x ∷ rest) 0 d) at p
 
--- where the lines of one item are taken after the items before it, so are those of all
+-- if the lines of each item are accepted after the items before it, the lines of all items are accepted
 each_gives : (store : Store) {X : Type 0} (P : X → Type 0) (R : X → X → Type 0)
     (kept : List X → Kept) (lines : X → Lines)
     → ((front : List X) (x : X) (rest : Lines) → P x → All (λ a. R a x) front
@@ -62,7 +62,7 @@ new_bytes id bytes (x ∷ xs) lacks =
     let more = new_bytes id bytes xs (All-tail (λ (i : Inventory). i.id ≢ id) x xs lacks) in
     rw (ne_eqb x.id id (lacks 0 x (omega arith))) (rw more.0 refl, more.1)
 
--- it has bytes
+-- a well-formed inventory that is not empty
 record IsWhole (inventory : Inventory) : Type 0 where
   ok : IsInventory inventory
   some : 0 < length inventory.bytes
@@ -88,7 +88,7 @@ module _ (store : Store) (kept : Kept) where
           ≡ false
       below = grind (arith, nat_tests)
 
-  -- the first part, and the others if there are any
+  -- the first part, then the others if there are any
   parts_give : (id n : ℕ) (bytes : List ℕ) (inventories : List Inventory) (rest : Lines) → id ≤ 254
       → n ≡ (length bytes + 63) / 64 → 0 < length bytes → AreBytes bytes
       → length (unwrap_or (inventory_in inventories id) []) + length bytes ≤ 65535

@@ -1,4 +1,4 @@
--- What is put into an image that is being put together keeps it the store of an image.
+-- Adding an item to an image that is being built keeps it the store of an image.
 use Rattle.std.proofs.Common.{◌≡◌, ℕ, suc, zero, ◌<◌, ◌≤◌, Bool, true, false, None, Some, is_some, not, Option, IsSome, List, [], ◌∷◌, ◌++◌, length, map, refl, sym, ap, subst, ◌∙◌, arith, option_map, slice_get, All, unwrap_or}
 use Rattle.std.proofs.lemmas.Bool.Decides.{nat_tests}
 use Rattle.std.proofs.lemmas.Bool.{false≢true}
@@ -13,7 +13,7 @@ pub HaveNext-snoc : (rows : List SavedRow) (row : Row) → HaveNext rows
 HaveNext-snoc [] row have = (refl, tt)
 HaveNext-snoc (r ∷ rows) row have = (have.0, HaveNext-snoc rows row have.1)
 
--- a row after others that say their next ids changes none of them
+-- appending a row does not change rows that have next ids
 pub chained-snoc : (rows : List SavedRow) (row : Row) → HaveNext rows
     → chained (rows ++ saved_row row ∷ []) ≡ chained rows ++ row ∷ []
 chained-snoc [] row have = refl
@@ -32,7 +32,7 @@ bytes-chained [] place = refl
 bytes-chained (r ∷ rows) zero = refl
 bytes-chained (r ∷ rows) (suc place) = bytes-chained rows place
 
--- an inventory that is not there yet
+-- an inventory of a new device
 pub AreInventories-new : (items : List StoredInventory) (id : ℕ) (bytes : List ℕ) → id < 255
     → length bytes ≤ 65535 → AreBytes bytes
     → place_of (λ (i : StoredInventory). i.id) id items ≡ None

@@ -1,4 +1,4 @@
--- Hex digits, and the bytes that pairs of them are.
+-- Hex digits, and the bytes in pairs of them.
 use Rattle.std.proofs.Common.{◌≡◌, ℕ, zero, suc, ◌+◌, ◌*◌, ◌<◌, ◌≤◌, Bool, true, ◌&&◌, ◌==◌, None, Some, Result, Ok, Err, unwrap_or, List, length, slice_index, slice_set, take, drop, refl, ap, ◌∙◌, inl, inr, arith}
 use Rattle.std.specs.Result.{result_ok}
 use Rattle.std.proofs.lemmas.Bool.{and_parts, cases_lt, eqb-true}
@@ -8,7 +8,7 @@ use Rattle.hex.proofs.HexLemmas.{decode_of-even}
 use Rattle.hex.proofs.Pairs.{prepend, decode_step, decode_err, decode_done}
 use Rattle.ipmi_image.specs.Prelude.{bytes_in}
 
--- the table's value at a place is that of the digit
+-- the table has the value of the digit
 abbrev is_value : List ℕ → ℕ → Bool
 is_value table digit = slice_index table digit == unwrap_or (hex_digit_value digit) 64
 
@@ -37,14 +37,14 @@ pair_read (Err e) byte is = cc is
 module _ (digits bytes : List ℕ) (place : ℕ) (long : length digits ≡ 2 * length bytes)
     (so_far : decode_pairs 0 digits
     ≡ prepend (take place bytes) (decode_pairs (2 * place) (drop (2 * place) digits))) where
-  -- the byte of a pair comes after those before
+  -- the byte of a pair is appended to the bytes before
   pub pair_more : (byte : ℕ) → place < length bytes
       → result_ok (pair_value (slice_index digits (2 * place)) (slice_index digits (2 * place + 1)) (2 * place)) ≡ Some byte
       → decode_pairs 0 digits
       ≡ prepend (take (place + 1) (slice_set bytes place byte)) (decode_pairs (2 * (place + 1)) (drop (2 * (place + 1)) digits))
   pair_more byte lt is = decode_step digits bytes place byte (omega (arith, long, lt)) lt (pair_read _ byte is) so_far
 
-  -- without one there are no bytes
+  -- if a pair has no byte, the digits have no bytes
   pub pair_none : place < length bytes
       → result_ok (pair_value (slice_index digits (2 * place)) (slice_index digits (2 * place + 1)) (2 * place)) ≡ None
       → bytes_in digits ≡ None

@@ -23,7 +23,7 @@ with_three_two line a (b ∷ []) = refl
 with_three_two line a (b ∷ c ∷ []) = refl
 with_three_two line a (b ∷ c ∷ d ∷ rest) = refl
 
--- a line with fields whose first word is none of these is no line
+-- a line with another first word is invalid
 pub line_of-other_word : (version : Version) (text word rest : List ℕ)
     → pieces 32 text ≡ word ∷ pieces 32 rest → bytes_eq word (codes "sdr") ≡ false
     → bytes_eq word (codes "sel") ≡ false → bytes_eq word (codes "fru") ≡ false
@@ -38,7 +38,7 @@ line_of-other_word version text word rest cut a b c d e = rw (cut, a, b, c, d, e
     by true [] some = absurd (omega (arith, some))
     by true (field ∷ l) some = refl
 
--- ---- rows that are cut at the places of their spaces
+-- ---- rows that are cut at the positions of their spaces
 
 not_space : (character : ℕ) → is_hex_digit character ≡ true → nat_eq character 32 ≡ false
 not_space character is = grind (arith, nat_tests)
@@ -54,7 +54,7 @@ is_some-map : {A B : Type 0} (f : A → B) (o : Option A) → is_some (option_ma
 is_some-map f (Some x) some = refl
 is_some-map f None some = some
 
--- what is read of a row is there
+-- the fields of a row that is read are present
 row_parts : (shelf : Shelf) (fit : Bool) (id : Option ℕ) (next : Option (Option ℕ)) (bytes : Option (List ℕ)) (line : Line)
     → cond fit (ok_or (option_and_then (λ i. option_and_then (λ n. option_map (λ b. a_row shelf (record { id = i; next = n; bytes = b })) bytes) next) id) LineFault.Hex) (Err LineFault.Line) ≡ Ok line
     → (is_some id ≡ true) × (is_some next ≡ true) × (is_some bytes ≡ true)
@@ -72,7 +72,7 @@ next_lacks_space next are = by (is_dash next) refl are
     by true dash some = subst (Lacks 32) (sym ((bytes_eq-Decides next (codes "-")).0 dash)) (All-cons (λ (b : ℕ). nat_eq b 32 ≡ false) 45 [] refl (All-nil (λ (b : ℕ). nat_eq b 32 ≡ false)))
     by false dash some = lacks_space next (is_some-map _ (bytes_in next) (is_some-map _ (number_in 2 next) some))
 
--- a row that is read has its three fields
+-- a row that is read has three fields
 pub row_has_three : (version : Version) (shelf : Shelf) (id next hex : List ℕ) (line : Line)
     → row_line version shelf id next hex ≡ Ok line
     → with_three (row_line version shelf) (pieces 32 (id ++ 32 ∷ (next ++ 32 ∷ hex))) ≡ Ok line

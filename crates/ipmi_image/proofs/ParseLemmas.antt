@@ -1,4 +1,4 @@
--- The lines of a rewritten image, read again.
+-- Reading the lines of a rewritten image.
 use Rattle.std.proofs.Common.{◌≡◌, ℕ, zero, suc, ◌*◌, ◌^◌, ◌/◌, ◌%◌, ◌<◌, ◌≤◌, Bool, true, false, cond, nat_eq, nat_lt, ◌==◌, ◌||◌, None, Some, Ok, List, [], ◌∷◌, length, slice_index, drop, refl, ap, ◌∙◌, append-nil, arith, codes, option_map, if◌then◌else◌, ok_or, Err}
 use Rattle.std.specs.Result.{result_ok}
 use Rattle.std.specs.List.{AllPass, list_all, join_with_byte}
@@ -17,7 +17,7 @@ use Rattle.ipmi_image.proofs.TextLemmas.{Lacks, pieces-one, pieces-more}
 
 -- ---- fields
 
--- no byte is a space, a line feed or lower
+-- all bytes are above the space, so none is a space or a line feed
 abbrev pub IsField : List ℕ → Type 0
 IsField field = AllPass (λ b. nat_lt 32 b) field
 
@@ -44,7 +44,7 @@ a_hex (b ∷ bytes) all =
     (cons (slice_index lower_digits (b % 16)) (encode_lower bytes)
     (digits (b % 16) 0 (omega arith)) (a_hex bytes (All-tail (λ (b : ℕ). b < 256) b bytes all)))
 
--- fields pieces-join_with_byte are one line, and are cut where they were pieces-join_with_byte
+-- joined fields are one line, and cutting it gives the fields again
 pub pieces-join_with_byte : (first : List ℕ) (fields : List (List ℕ)) → AreFields (first ∷ fields)
     → Lacks 10 (join_with_byte 32 (first ∷ fields))
     × (pieces 32 (join_with_byte 32 (first ∷ fields)) ≡ first ∷ fields)
@@ -92,7 +92,7 @@ abbrev pub word_of : Shelf → List ℕ
 word_of Sdr = codes "sdr"
 word_of Sel = codes "sel"
 
--- the row as its line has it
+-- the row as in its line
 abbrev pub saved_row : ℕ → Row → SavedRow
 saved_row following row = record { id = row.id; next = if row.next == following then None else Some row.next; bytes = row.bytes }
 
@@ -111,7 +111,7 @@ next_in-next_field following next lt = by (nat_eq next following)
     by true = (refl, refl)
     by false = (rw (length-hex_of 2 next) refl, rw (is_dash-hex_of next) (ap (option_map (λ id. Some id)) (number_in-hex_of 2 next lt)))
 
--- a row has bytes
+-- a row has at least one byte
 pub line_of_fields-row_fields : (shelf : Shelf) (following : ℕ) (row : Row) → IsRow shelf row
     → line_of_fields Version.Two (row_fields (word_of shelf) following row)
     ≡ Ok (a_row shelf (saved_row following row))

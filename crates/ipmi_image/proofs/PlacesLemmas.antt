@@ -6,7 +6,7 @@ use Rattle.std.proofs.lemmas.List.{get_or-set_same, get_or-set_other, get_or_pas
 use Rattle.ipmi_image.specs.Prelude.{HasRoom, place_in}
 use Rattle.ipmi_image.specs.Table.{kept_place}
 
--- a page after the others that has no slots has no places
+-- an additional page without slots has no places
 pub place_in-empty_page : (pages : List (List ℕ)) (key : ℕ)
     → place_in (pages ++ [] ∷ []) key ≡ place_in pages key
 place_in-empty_page pages key = ap (λ (page : List ℕ). kept_place (get_or page (key % 256) 65535)) (by pages (key / 256))
@@ -18,7 +18,7 @@ place_in-empty_page pages key = ap (λ (page : List ℕ). kept_place (get_or pag
     by (x ∷ pages) (suc k) = by pages k
 
 module _ (pages : List (List ℕ)) (at : ℕ) (page : List ℕ) (within : at < length pages) where
-  -- another page in a page's stead: its keys have the places of the new one
+  -- after replacing a page, its keys have the places in the new page
   pub place_in-set_at : (key : ℕ) → key / 256 ≡ at
       → place_in (set pages at page) key ≡ kept_place (get_or page (key % 256) 65535)
   place_in-set_at key is = rw is (rw (get_or-set_same pages at page [] within) refl)
@@ -27,7 +27,7 @@ module _ (pages : List (List ℕ)) (at : ℕ) (page : List ℕ) (within : at < l
       → place_in (set pages at page) key ≡ place_in pages key
   place_in-set_other key other = rw (get_or-set_other pages at (key / 256) page [] other) refl
 
-  -- a page with the same places
+  -- replacing a page by one with the same places changes nothing
   pub place_in-same_page : ((slot : ℕ) → get_or page slot 65535 ≡ get_or (get_or pages at []) slot 65535)
       → (key : ℕ) → place_in (set pages at page) key ≡ place_in pages key
   place_in-same_page same key = elim (cases_eq (key / 256) at) [
@@ -49,7 +49,7 @@ place_in-put pages key place other room lt = elim (cases_eq (other / 256) (key /
   | inr page ↦ place_in-set_other pages (key / 256) _ room.0 other page ∙ grind (arith, nat_tests)
 ]
 
--- slots that have no place are like slots that are missing
+-- slots without a place mean the same as missing slots
 pub get_or-filled : (slots : List ℕ) (more slot none : ℕ)
     → get_or (slots ++ replicate more none) slot none ≡ get_or slots slot none
 get_or-filled [] more slot none = elim (cases_lt slot more) [
@@ -59,7 +59,7 @@ get_or-filled [] more slot none = elim (cases_lt slot more) [
 get_or-filled (x ∷ slots) more zero none = refl
 get_or-filled (x ∷ slots) more (suc slot) none = get_or-filled slots more slot none
 
--- ---- pages that are kept as other things
+-- ---- pages of another type
 
 module _ {V : Type 0} (slots : V → List ℕ) where
   item_at : (pages : List V) (at : ℕ) (page : V) → at < length pages → page ≡ get_or pages at page

@@ -5,19 +5,19 @@ use Rattle.ipmi_image.specs.Below.{Store}
 use Rattle.ipmi_image.specs.Prelude.{LineFault, ImageFault, pieces, Line, the_end, line_of, store_of_lines, fault_in, line_judged, at_line, is_end, ends_here, store_after, version_in, store_of_pieces, store_of_image, Version}
 use Rattle.ipmi_image.proofs.TextLemmas.{length_pieces}
 
--- nothing comes after the last line feed exactly where no byte does
+-- there is nothing after a line feed if and only if there are no more bytes
 pub ends_here_pieces : (bytes : List ℕ) → ends_here (pieces 10 bytes) ≡ (length bytes == 0)
 unfolding pieces
 ends_here_pieces [] = refl
 ends_here_pieces (b ∷ bytes) = grind (arith, nat_tests, length_pieces 10 bytes)
 
--- a text that does not end by a line feed has no `end`
+-- a last line without a line feed is not `end`
 pub store_after_unended : (version : Version) (before : List Line) (text : List ℕ)
     → store_after version before (text ∷ []) ≡ Err ImageFault.NoEnd
 unfolding store_after
 store_after_unended version before text = refl
 
--- what a line makes of those after it
+-- the result of a line and the lines after it
 abbrev pub after_line : Version → List Line → List (List ℕ) → Result Line LineFault
     → Result Store ImageFault
 after_line version before rest (Ok line) =
@@ -32,7 +32,7 @@ pub store_after_line : (version : Version) (before : List Line) (text after : Li
 unfolding store_after
 store_after_line version before text after = grind (arith, length_pieces 10 after)
 
--- lines whose first is cut off give what it makes of the others
+-- the result of lines is that of the first line and the others
 pub lines_after : (version : Version) (before : List Line) (all text after : List ℕ)
     (r : Result Line LineFault) (given : Result Store ImageFault)
     → pieces 10 all ≡ text ∷ pieces 10 after → line_judged version before text ≡ r
@@ -40,7 +40,7 @@ pub lines_after : (version : Version) (before : List Line) (all text after : Lis
     → given ≡ after_line version before (pieces 10 after) r
 lines_after version before all text after r given cut line was = sym was ∙ ap (store_after version before) cut ∙ store_after_line version before text after ∙ ap (after_line version before (pieces 10 after)) line
 
--- the line, where it has no fault
+-- the line if it has no fault, otherwise the fault
 abbrev unless_fault : Option LineFault → Line → Result Line LineFault
 unless_fault None line = Ok line
 unless_fault (Some fault) line = Err fault

@@ -1,4 +1,4 @@
--- The row that an id asks for.
+-- The row requested by an id.
 use Rattle.std.proofs.Common.{◌≡◌, ◌≢◌, ◌==◌, ℕ, None, Some, List, [], ◌∷◌, length, refl, arith, option_and_then, if◌then◌else◌}
 use Rattle.std.proofs.lemmas.Bool.Decides.{nat_tests}
 use Rattle.ipmi_image.specs.Below.{Shelf, Sdr, Sel, Seen, current, look}
@@ -10,13 +10,13 @@ pub look_chained : (rows : List SavedRow) (id : ℕ)
 look_chained [] id = grind arith
 look_chained (row ∷ rows) id = grind (arith, row_with_id_chained (row ∷ rows) id)
 
--- what is current depends on nothing but the reservations
+-- the current reservation depends only on the reservations
 pub current-same : (shelf : Shelf) (a b : Seen) → a.sdr_reservation ≡ b.sdr_reservation
     → a.sel_reservation ≡ b.sel_reservation → current shelf a ≡ current shelf b
 current-same Sdr a b sdr sel = sdr
 current-same Sel a b sdr sel = sel
 
--- a record is asked for by its id, but the first one by 0000h
+-- an id other than 0000h requests the record with this id
 pub place_asked_id : (id : ℕ) (rows : List SavedRow) → id ≢ 0
     → place_asked id rows ≡ place_of id_of id rows
 place_asked_id id [] some = refl

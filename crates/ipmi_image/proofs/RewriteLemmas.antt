@@ -1,4 +1,4 @@
--- Texts put together piece by piece.
+-- Building texts piece by piece.
 use Rattle.std.proofs.Common.{◌≡◌, ℕ, zero, suc, ◌+◌, ◌/◌, ◌≤◌, ◌<◌, List, [], ◌∷◌, length, take, drop, refl, append_assoc, append-nil, arith, length-drop}
 use Rattle.std.proofs.lemmas.List.{map-append, drop_more, take_min, drop_min}
 use Rattle.std.proofs.lemmas.List.Folds.{concat-append}
@@ -7,7 +7,7 @@ use Rattle.ipmi_image.specs.Below.{Row}
 use Rattle.ipmi_image.specs.Prelude.{SavedRow, chained, first_id, hex_of, parts_of, id_of}
 use Rattle.ipmi_image.proofs.RowsLemmas.{drop-past, found_below}
 
--- what holds of each LUN
+-- a fact that holds for each LUN
 pub of_lun : (P : ℕ → Type 0) → P 0 → P 1 → P 2 → P 3 → (lun : ℕ) → lun ≤ 3 → P lun
 of_lun P a b c d zero h = a
 of_lun P a b c d (suc zero) h = b
@@ -19,7 +19,7 @@ pub drop_hex_of_lun : (lun : ℕ) → lun ≤ 3 → drop 1 (hex_of 1 lun) ≡ (4
 unfolding encode_with
 drop_hex_of_lun = of_lun (λ lun. drop 1 (hex_of 1 lun) ≡ (48 + lun) ∷ []) refl refl refl refl
 
--- the first part, and the parts of what is left
+-- the first part, then the parts of the remaining bytes
 pub parts_of_more : (bytes : List ℕ) → 0 < length bytes
     → parts_of bytes ≡ take 64 bytes ∷ parts_of (drop 64 bytes)
 parts_of_more bytes some = rw count refl
@@ -32,8 +32,8 @@ pub first_id-chained : (rows : List SavedRow)
 first_id-chained [] = refl
 first_id-chained (row ∷ rows) = refl
 
--- texts one after the other
+-- concatenated texts
 pub ruleset texts = (map-append, concat-append, append_assoc, append-nil, drop_more, take_min, drop_min)
 
--- where the rows end
+-- the end of the rows
 pub ruleset rows_end = (append-nil, drop-past, found_below)

@@ -1,4 +1,4 @@
--- The records of a shelf over the bytes of all of them.
+-- The records of a shelf, whose bytes are in one list.
 use Rattle.std.proofs.Common.{◌≡◌, ℕ, zero, suc, ◌+◌, ◌<◌, ◌≤◌, Option, None, Some, List, [], ◌∷◌, ◌++◌, length, drop, map, refl, ◌∙◌, arith, All, option_map, slice_get, unwrap_or, length-drop}
 use Rattle.std.proofs.lemmas.Option.{get_or_from_slice_get, slice_get_cases, slice_get_within}
 use Rattle.std.proofs.lemmas.List.{map-append, take-append-le, drop-append-le, drop_more, drop_all}
@@ -22,7 +22,7 @@ first_id_at bytes [] (suc place) = refl
 first_id_at bytes (head ∷ heads) zero = refl
 first_id_at bytes (head ∷ heads) (suc place) = first_id_at bytes heads place
 
--- a row that is there, and those after it
+-- the row at a place, and the rows after it
 pub found_below : (rows : List SavedRow) (place : ℕ) (row : SavedRow)
     → slice_get rows place ≡ Some row → place < length rows
 found_below rows place row at = slice_get_within rows place row at
@@ -36,7 +36,7 @@ pub drop-past : (rows : List SavedRow) (place : ℕ) → slice_get rows place �
 drop-past rows place past = drop_all place rows (grind (arith, slice_get_cases rows place))
 
 module _ (bytes more : List ℕ) where
-  -- more bytes change no row whose bytes are among these
+  -- appending bytes does not change the existing rows
   pub map-row_in_longer : (heads : List RowHead)
       → All (λ head. head.start + head.len ≤ length bytes) heads
       → map (row_in (bytes ++ more)) heads ≡ map (row_in bytes) heads

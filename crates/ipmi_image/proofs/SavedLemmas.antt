@@ -1,4 +1,4 @@
--- What the stores that images give have: they are well formed, no inventory is empty, and a LUN is two bits.
+-- The stores of images are well formed, none of their inventories is empty, and each LUN has two bits.
 use Rattle.std.proofs.Common.{rules, ◌≡◌, ℕ, ◌+◌, ◌*◌, ◌^◌, ◌<◌, ◌≤◌, Bool, true, false, cond, not, Option, None, Some, IfSome, IfOk, Result, Ok, Err, List, [], ◌∷◌, ◌++◌, length, map, refl, arith, codes, All, filter_map, unwrap_or, length-append, bytes_eq, fold, option_map}
 use Rattle.std.specs.Result.{result_ok}
 use Rattle.std.proofs.lemmas.List.{length-map}
@@ -19,9 +19,9 @@ use Rattle.ipmi_image.proofs.ReadLemmas.{after_line}
 use Rattle.ipmi_image.proofs.ShelfLemmas.{shelf_with}
 use Rattle.ipmi_image.proofs.StoreLemmas.{reading_fine, with_bytes_all, AreInventories-more, AreReadings-new, said_after, filter_map-after, info_after, first_of-after}
 
--- ---- what a line says by itself
+-- ---- the contents of a single line
 
--- its numbers fit their fields, its bytes are bytes, and an inventory's are some
+-- its numbers fit their fields, its bytes are below 256, and an inventory has at least one byte
 abbrev IsSaid : Line → Type 0
 IsSaid (a_row shelf row) =
     (row.id < 65536) × (unwrap_or row.next 65535 < 65536) × AreBytes row.bytes
@@ -30,7 +30,7 @@ IsSaid (a_reading lun number bytes) = (lun < 256) × (number < 256) × AreBytes 
 IsSaid (an_info shelf bytes) = AreBytes bytes
 IsSaid the_end = Unit {0}
 
--- what hex digits decode to
+-- hex digits decode to bytes
 bytes_in-bytes : (hex : List ℕ)
     → IfSome (bytes_in hex) (λ bytes. AreBytes bytes × (length hex ≡ 2 * length bytes))
 bytes_in-bytes hex = by (decode_of hex) refl
@@ -97,7 +97,7 @@ line_of-said : (version : Version) (text : List ℕ) → IfOk (line_of version t
 unfolding line_of
 line_of-said version text = line_of_fields-said version (pieces 32 text)
 
--- ---- lines that were taken
+-- ---- accepted lines
 
 info_fine : (already : Option (List ℕ)) (bytes : List ℕ) → info_fault already bytes ≡ None
     → AreBytes bytes → IfSome (info_after (Some bytes) already) IsInfo
@@ -161,7 +161,7 @@ HasBytes inventory = 0 < length inventory.bytes
 abbrev LowLun : SensorReading → Type 0
 LowLun sensor = sensor.lun ≤ 3
 
--- and no inventory empty, and each LUN low
+-- and no inventory is empty, and each LUN has two bits
 module _ (before : List Line) (saved : IsSaved (store_of_lines before)) where
   has_bytes_more : (line : Line) → IsSaid line
       → All HasBytes (with_inventory_line (fold with_inventory_line [] before) line)
@@ -179,7 +179,7 @@ module _ (before : List Line) (saved : IsSaved (store_of_lines before)) where
       → IsSaved (store_of_lines (before ++ line ∷ []))
   saved_more line said fine = simp (filter_map-after, fold-append) (record { some = has_bytes_more line said; luns = low_lun_more line fine })
 
--- what an image gives
+-- the store of an image
 abbrev IsGiven : Store → Type 0
 IsGiven store = IsStore store × IsSaved store
 
@@ -196,7 +196,7 @@ given_judged before version text line given e =
     let said = IfOk-at_ok IsSaid parts.0 (line_of-said version text) in
     (store_more before given.0 line said parts.1, saved_more before given.1 line said parts.1)
 
--- what all lines give
+-- the store of all lines
 given_after : (version : Version) (before : List Line) (texts : List (List ℕ))
     → IsGiven (store_of_lines before) → IfOk (store_after version before texts) IsGiven
 unfolding store_after

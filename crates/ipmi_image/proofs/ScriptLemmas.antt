@@ -1,4 +1,4 @@
--- An answer after what a mood did, and an answer that a mood made.
+-- An answer after the effect of a mood, and an answer by a mood.
 use Rattle.std.proofs.Common.{◌≡◌, ℕ, Bool, true, false, Option, Result, Ok, Err, List, [], refl, sym, ◌∙◌, arith, IsTrue, true≢false, MatchResult}
 use Rattle.std.specs.Vec.Iter.{into_iter_deque, into_iter_items, into_iter_len}
 use Rattle.std.proofs.lemmas.List.{nil_from_length}
@@ -6,15 +6,15 @@ use Rattle.ipmi_image.specs.Below.{Shelf, Sdr, Sel, Part, FruSize, Code, CodeCla
 use Rattle.ipmi_image.specs.declared.scripted.Turn.{Turn}
 use Rattle.ipmi_image.specs.Prelude.{Turns, Responder, Scripted, seen_as}
 
--- where no mood is counted, none is left
+-- if the number of moods is 0, none is left
 pub no_moods_left : (s : Scripted) → into_iter_len s.moods ≡ 0 → into_iter_items s.moods ≡ []
 no_moods_left s none = nil_from_length _ (sym (into_iter_deque s.moods).ok.0 ∙ none)
 
--- what is honest is honest where it says that it is plain too, and then more is said of its answers
+-- an honest controller is still honest if it claims to be plain; then its answers promise more
 pub plainly : (r : Responder) → IsHonest (seen_as false r) → IsHonest (seen_as true r)
 plainly r honest = record { said = honest.said; store = honest.store }
 
--- a plain controller's answer, from `mid` to `answered`, is one that is not plain too, from `old` to `new`
+-- the answer of a plain controller after a turn is an answer of a controller that is not plain, over the turn and the answer
 module _ {asked most : ℕ} (old : Seen) (r r' : Responder) (plain : old.plain ≡ false)
     (first : Turns asked (Turn.Answers most) old (seen_as false r))
     (change : IsChange (seen_as true r) (seen_as true r')) where

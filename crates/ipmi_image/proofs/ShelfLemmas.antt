@@ -1,4 +1,4 @@
--- The rows of some lines as a shelf: what one more row changes.
+-- The rows of some lines as a shelf, and the effect of one more row.
 use Rattle.std.proofs.Common.{◌≡◌, ◌≢◌, ℕ, ◌<◌, Bool, true, false, not, nat_eq, nat_lt, ◌&&◌, is_some, None, Some, IfSome, List, [], ◌∷◌, ◌++◌, length, drop, refl, arith, eqb-true, unwrap_or}
 use Rattle.std.proofs.lemmas.Bool.{eqb-false, ltb-false, not-false, or_parts}
 use Rattle.std.proofs.lemmas.Bool.Decides.{nat_tests}
@@ -6,7 +6,7 @@ use Rattle.ipmi_image.specs.Below.{Shelf, AreBytes, Row, whole_len, largest_len,
 use Rattle.ipmi_image.specs.Prelude.{SavedRow, LineFault, chained, is_no_record, is_no_id, begins_with_another, first_fault, row_fault}
 use Rattle.ipmi_image.proofs.TableLemmas.{row_before}
 
--- a row stays one with another next id
+-- a row with another next id is still a row
 other_next : (shelf : Shelf) (row : SavedRow) (following : List SavedRow) (last : SavedRow)
     → last.id < 65535 → IsRow shelf (row_before [] row)
     → IsRow shelf (row_before (last ∷ following) row)
@@ -45,7 +45,7 @@ later-snoc : (rows : List SavedRow) (row : SavedRow) → LacksId 0 (drop 1 (chai
 later-snoc [] row h is_id = tt
 later-snoc (r ∷ rows) row h is_id = LacksId-snoc 0 rows row h (λ zero. grind (arith, nat_tests))
 
--- ---- a row whose id was looked for last
+-- ---- a row whose id was looked up last
 
 module _ (shelf : Shelf) (rows : List Row) (row : SavedRow)
     (is_id : is_no_id rows row.id ≡ false) where
@@ -65,7 +65,7 @@ no_fault : (a b c d : Bool) → first_fault
     ≡ None → (a ≡ false) × (b ≡ false) × (c ≡ false) × (d ≡ false)
 no_fault a b c d fine = grind arith
 
--- it may come after the rows of some lines
+-- the row may come after the rows of these lines
 pub shelf_with : (shelf : Shelf) (rows : List SavedRow) (row : SavedRow)
     → row_fault shelf (chained rows) row ≡ None → row.id < 65536 → unwrap_or row.next 65535 < 65536
     → AreBytes row.bytes → IsShelf shelf (chained rows) → IsShelf shelf (chained (rows ++ row ∷ []))

@@ -1,4 +1,4 @@
--- What a line puts after the contents of an image keeps them a store, and is what the line says.
+-- Adding a line to the contents of an image keeps them a store, and adds exactly what the line says.
 use Rattle.std.proofs.Common.{◌≡◌, ◌≢◌, ℕ, zero, suc, ◌<◌, ◌≤◌, Bool, true, false, nat_eq, inl, inr, Result, Ok, Err, Option, None, Some, List, [], ◌∷◌, ◌++◌, length, get_or, map, refl, sym, ap, ◌∙◌, append-nil, arith, All, AllPairs, filter_map, cond, unwrap_or, length-append, eqb-true}
 use Rattle.std.proofs.lemmas.Bool.{eqb-false}
 use Rattle.std.proofs.lemmas.Bool.Decides.{nat_tests}
@@ -10,7 +10,7 @@ use Rattle.ipmi_image.specs.Prelude.{LineFault, Contents, StoredInventory, Store
 
 -- ---- one more line
 
--- a list with what a line says of it, if it says anything
+-- a list, followed by the item of a line if the line has one
 abbrev pub said_after : {Y : Type 0} → List Y → Option Y → List Y
 said_after l None = l
 said_after l (Some y) = l ++ y ∷ []
@@ -19,7 +19,7 @@ pub filter_map-after : {Y : Type 0} (h : Line → Option Y) (before : List Line)
     → filter_map h (before ++ line ∷ []) ≡ said_after (filter_map h before) (h line)
 filter_map-after h before line = grind (arith, filter_map-append h before (line ∷ []), append-nil (filter_map h before))
 
--- the first info is all there is before the second
+-- the first info counts
 abbrev pub info_after : Option (List ℕ) → Option (List ℕ) → Option (List ℕ)
 info_after None already = already
 info_after (Some bytes) None = Some bytes
@@ -37,18 +37,18 @@ same_store a b e1 e2 e3 e4 e5 e6 =
     let made = λ (s : Store). let x : Store = record { sdr = s.sdr; sel = s.sel; inventories = s.inventories; readings = s.readings; sdr_info = s.sdr_info; sel_info = s.sel_info } in x in
     let same : made a ≡ made b = cc in same
 
--- what is kept is what the lines say
+-- the contents are those of the lines
 pub store_of-lines : (contents : Contents) (lines : List Line) → HoldsLines contents lines
     → store_of contents ≡ store_of_lines lines
 store_of-lines contents lines holds = same_store (store_of contents) (store_of_lines lines) (ap chained holds.sdr) (ap chained holds.sel) holds.inventories holds.readings holds.sdr_info holds.sel_info
 
--- what is put where one fault would keep it out, in other words
+-- the same result of an addition, with its fault and its effect stated in another way
 puts_as : (f f' : Option LineFault) (P P' : Type 0) (r : Result (Unit {0}) LineFault) → f' ≡ f
     → (f ≡ None → P → P') → Puts f P r → Puts f' P' r
 puts_as f f' P P' (Ok done) e to put = (e ∙ put.0, to put.0 put.1)
 puts_as f f' P P' (Err x) e to put = elim put [ inl memory ↦ inl memory | inr is ↦ inr (e ∙ is) ]
 
--- a line was put after these, or may not come there, or no memory was left
+-- a line was added after these lines, or is not allowed there, or memory ran out
 abbrev pub IsPut : Contents → List Line → Line → Result (Unit {0}) LineFault → Type 0
 IsPut new before line result = Puts (fault_in (store_of_lines before) line) (HoldsLines new (before ++ line ∷ [])) result
 
@@ -57,7 +57,7 @@ module _ (old : Contents) (before : List Line) (holds : HoldsLines old before) w
       → fault_in (store_of_lines before) line ≡ fault_in (store_of old) line
   fault_in-store_of_lines line = rw (sym (store_of-lines old before holds)) refl
 
-  -- each part of the new contents is the old one's with what the line says of it
+  -- each part of the new contents is the old part with the item of the line
   holds-after : (new : Contents) (line : Line) → new.sdr ≡ said_after old.sdr (row_on Sdr line)
       → new.sel ≡ said_after old.sel (row_on Sel line)
       → map kept_inventory new.inventories
@@ -106,7 +106,7 @@ module _ (old : Contents) (before : List Line) (holds : HoldsLines old before) w
       (λ none is. holds-after (record old { sensors = sensors }) (a_reading lun number bytes) refl
       refl refl is refl refl)
 
-  -- what is given is the first
+  -- the info is the first
   first_info : (already info : Option (List ℕ)) (bytes : List ℕ) → info_fault already bytes ≡ None
       → info ≡ Some bytes → info ≡ info_after (Some bytes) already
   first_info already info bytes none is = grind arith
@@ -145,7 +145,7 @@ inventory_fits (x ∷ xs) id all = by (inventory_fits xs id (λ k d lt. all (suc
     by rest true = ((all 0 x (omega arith)).fits, (all 0 x (omega arith)).bytes)
     by rest false = rest
 
--- what is true of each inventory, and of the one with more bytes
+-- a fact about each inventory that also holds for the one with more bytes
 pub with_bytes_all : (P : Inventory → Type 0) (id : ℕ) (bytes : List ℕ) (xs : List Inventory)
     → P (record { id = id; bytes = unwrap_or (inventory_in xs id) [] ++ bytes }) → All P xs
     → All P (with_bytes id bytes xs)
@@ -158,7 +158,7 @@ with_bytes_all P id bytes (x ∷ xs) new all = by (λ more tail. with_bytes_all 
     by later tail true e new = All-cons P _ xs (rw (eqb-true x.id id e) new) tail
     by later tail false e new = All-cons P x _ (all 0 x (omega arith)) (later new tail)
 
--- no two of them have one id
+-- no two inventories have the same id
 with_bytes_apart : (id : ℕ) (bytes : List ℕ) (xs : List Inventory)
     → AllPairs (λ a b. a.id ≢ b.id) xs → AllPairs (λ a b. a.id ≢ b.id) (with_bytes id bytes xs)
 with_bytes_apart id bytes [] apart = λ i j d lt below. absurd (omega (arith, lt, below))

@@ -13,7 +13,7 @@ use Rattle.std.proofs.Math.Seq.{map-set_same}
 use Rattle.ipmi_image.specs.Below.{Row, first_row, row_with_id, IsSensorReading, inventory_in, reading_in, has_id}
 use Rattle.ipmi_image.specs.Prelude.{SavedRow, StoredInventory, StoredSensor, id_of, place_of, IsIndex, sensor_key, kept_inventory, chained, first_id, with_bytes, sensor_of}
 
--- a last item is found where none before it has the key
+-- the last item is found if no earlier item has the key
 pub place_of_snoc : {T : Type 0} (key : T → ℕ) (q : ℕ) (items : List T) (item : T)
     → place_of key q (items ++ item ∷ [])
     ≡ option_or (place_of key q items) (cond (nat_eq (key item) q) (Some (length items)) None)
@@ -25,7 +25,7 @@ pub list_any_keys : {T : Type 0} (key : T → ℕ) (q : ℕ) (items : List T)
 list_any_keys key q [] = refl
 list_any_keys key q (x ∷ xs) = grind (arith, nat_tests, list_any_keys key q xs)
 
--- it is one of the list's places
+-- the place is within the list
 pub place_below : {T : Type 0} (key : T → ℕ) (q : ℕ) (items : List T)
     → IfSome (place_of key q items) (λ place. place < length items)
 place_below key q [] = tt
@@ -37,7 +37,7 @@ pub key_place_of : {T : Type 0} (key : T → ℕ) (q : ℕ) (items : List T) (d 
 key_place_of key q [] d = tt
 key_place_of key q (x ∷ xs) d = grind (arith, nat_tests, key_place_of key q xs d)
 
--- where no two keys are equal, an item with the key is found at its place
+-- if no two keys are equal, an item with the key is found at its place
 pub place_of_at : {T : Type 0} (key : T → ℕ) (q : ℕ) (items : List T) (place : ℕ) (d : T)
     → IsDistinct nat_eq (map key items) → place < length items → key (get_or items place d) ≡ q
     → place_of key q items ≡ Some place
@@ -89,7 +89,7 @@ pub inventory_in_place : (items : List StoredInventory) (id : ℕ)
 inventory_in_place [] id = refl
 inventory_in_place (x ∷ xs) id = grind (arith, inventory_in_place xs id)
 
--- the inventory at the place has these bytes after its own
+-- these bytes are appended to the inventory at the place
 pub with_bytes_set : (items : List StoredInventory) (id place : ℕ) (bytes : List ℕ)
     (item d : StoredInventory) → place_of (λ (i : StoredInventory). i.id) id items ≡ Some place
     → kept_inventory item
@@ -133,21 +133,21 @@ module _ (lun number : ℕ) (lt : number < 256) where
       rw (and-sensor_key x.lun x.number lun number (all 0 (sensor_of x) (omega arith)).number lt)
       (grind (arith, is_some_reading_in xs (λ k d below. all (suc k) d (omega (arith, below)))))
 
--- ---- an index beside the items
+-- ---- an index of the items
 
--- no items yet
+-- at the start: no items
 pub index_new : {T : Type 0} (key : T → ℕ) (places : ℕ → Option ℕ) → ((q : ℕ) → places q ≡ None)
     → IsIndex key [] places
 unfolding IsDistinct
 index_new key places none = record { found = none; distinct = tt; below = λ q place is. absurd (none-some place is) }
 
--- keys below FFFFh with no two equal are at most FFFFh
+-- there are at most FFFFh different keys below FFFFh
 pub index_len : {T : Type 0} (key : T → ℕ) (items : List T) (places : ℕ → Option ℕ)
     → IsIndex key items places → length items ≤ 65535
 index_len key items places index =
     rw length-map at (length-le_from_distinct_below (map key items) 65535 index.distinct (λ q m. grind (arith, index.below q, list_any_keys key q items)))
 
--- a new key's item is put at the end, and its place beside the others
+-- an item with a new key is appended, and its place is added to the index
 pub index_push : {T : Type 0} (key : T → ℕ) (items : List T) (item : T) (old new : ℕ → Option ℕ)
     → IsIndex key items old → key item < 65535 → place_of key (key item) items ≡ None
     → ((q : ℕ) → new q ≡ cond (nat_eq (key item) q) (Some (length items)) (old q))
@@ -158,14 +158,14 @@ index_push key items item old new index lt absent puts = record {
   below = λ q place is. grind (arith, nat_tests, index.below q place, place_of_snoc key q items item);
 }
 
--- no item has a key that has no place
+-- if a key has no place, no item has it
 pub absent_key : {T : Type 0} (key : T → ℕ) (items : List T) (k : ℕ) (places : ℕ → Option ℕ)
     (found : Option ℕ) → IsIndex key items places → found ≡ places k → is_some found ≡ false
     → place_of key k items ≡ None
 absent_key key items k places None index is none = sym (index.found k) ∙ sym is
 absent_key key items k places (Some place) index is none = absurd (true≢false none)
 
--- before a new key comes there is room for its place
+-- there is room for the place of a new key
 pub index_room : {T : Type 0} (key : T → ℕ) (items : List T) (item : T) (places : ℕ → Option ℕ)
     → IsIndex key items places → key item < 65535 → place_of key (key item) items ≡ None
     → length items < 65535
@@ -174,11 +174,11 @@ index_room key items item places index lt absent =
     let len = length-append items (item ∷ []) in
     omega (arith, few, len)
 
--- what is not there is not found
+-- an absent place is not found
 pub not_found : {o : Option ℕ} → o ≡ None → is_some o ≡ true → ⊥
 not_found none found = true≢false (sym found ∙ ap is_some none)
 
--- an item in another's place, with its key, is found where that was
+-- an item that replaces another with the same key is found at its place
 place_of_set : {T : Type 0} (key : T → ℕ) (q : ℕ) (items : List T) (place : ℕ) (item d : T)
     → key item ≡ key (get_or items place d)
     → place_of key q (set items place item) ≡ place_of key q items

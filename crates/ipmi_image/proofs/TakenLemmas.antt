@@ -1,4 +1,4 @@
--- The lines of a rewritten image are taken one after the other; the rows of a shelf.
+-- The lines of a rewritten image are accepted one after the other; the rows of a shelf.
 use Rattle.std.proofs.Common.{◌≡◌, ℕ, Bool, true, false, cond, not, nat_eq, None, IfSome, Ok, List, [], ◌∷◌, ◌++◌, drop, refl, sym, ap, subst, ◌∙◌, append_assoc, append-nil, arith, codes, fold, filter_map, eq-eqb, ne_eqb}
 use Rattle.std.specs.List.{join_with_byte}
 use Rattle.std.proofs.lemmas.Bool.Decides.{nat_tests}
@@ -12,9 +12,9 @@ use Rattle.ipmi_image.proofs.TextLemmas.{pieces-more}
 use Rattle.ipmi_image.proofs.ReadLemmas.{store_after_line, line_judged-found}
 use Rattle.ipmi_image.proofs.ParseLemmas.{IsField, AreFields, a_word, a_hex, pieces-join_with_byte, line_of-fields, AreBytes-big_bytes, word_of, saved_row, line_of_fields-row_fields}
 
--- ---- what is kept of lines
+-- ---- the contents of lines
 
--- all that they say, in their order, before the ids that dashes stand for
+-- the contents of lines in order, before dashes are replaced by ids
 pub record Kept : Type 0 where
   pub sdr : List SavedRow
   pub sel : List SavedRow
@@ -26,7 +26,7 @@ pub record Kept : Type 0 where
 abbrev pub nothing : Kept
 nothing = record { sdr = []; sel = []; inventories = []; readings = []; sdr_info = []; sel_info = [] }
 
--- and what more lines say
+-- with the contents of more lines
 abbrev pub kept_with : Kept → List Line → Kept
 kept_with kept lines = record {
   sdr = kept.sdr ++ filter_map (row_on Sdr) lines;
@@ -51,7 +51,7 @@ kept_with-one : (lines : List Line) (line : Line)
     → kept_with nothing (lines ++ line ∷ []) ≡ kept_with (kept_with nothing lines) (line ∷ [])
 kept_with-one lines line = simp (filter_map-append, fold-append)
 
--- after lines of which this is kept, lines of these fields give the store
+-- after lines with these contents, lines with these fields give the store
 abbrev pub Gives : Store → Kept → List (List (List ℕ)) → Type 0
 Gives store kept lines = (before : List Line) → kept_with nothing before ≡ kept → store_after Version.Two before (pieces 10 (lines_text lines)) ≡ Ok store
 
@@ -68,7 +68,7 @@ line_gives store kept first fields line rest are says more fine give = λ before
 
 -- ---- rows
 
--- the id of the first of these rows, FFFFh where there is none
+-- the id of the first of these rows, FFFFh if there is none
 abbrev pub first_row_id : List Row → ℕ
 first_row_id rows = first_id (λ (row : Row). row.id) rows
 
@@ -80,7 +80,7 @@ first_id-saved_rows : (rows : List Row) → first_id id_of (saved_rows rows) ≡
 first_id-saved_rows [] = refl
 first_id-saved_rows (row ∷ rows) = refl
 
--- with their next ids they are the rows again
+-- saved rows with their next ids are the original rows
 pub chained-saved_rows : (rows : List Row) → chained (saved_rows rows) ≡ rows
 chained-saved_rows [] = refl
 chained-saved_rows (row ∷ rows) = let more = chained-saved_rows rows in let first = first_id-saved_rows rows in grind (arith, nat_tests, more, first)
@@ -98,7 +98,7 @@ others_next (t ∷ saved) s row rows others lacks =
     let more = others_next saved s row rows others.1 lacks in
     (rw (ne_eqb row.id t.id others.0.0) more.0, (others.0.1, more.1))
 
--- the first row of all begins with its id, and no other has the id 0000h
+-- the bytes of the very first row begin with its id, and no other row has the id 0000h
 abbrev FirstFits : List SavedRow → List Row → Type 0
 FirstFits [] rows = IfSome (first_row rows) (λ row. id_in row.bytes ≡ row.id) × LacksId 0 (drop 1 rows)
 FirstFits (s ∷ saved) rows = LacksId 0 rows

@@ -1,4 +1,4 @@
--- Where a separator is, a text is cut.
+-- A text is cut at its separators.
 use Rattle.std.proofs.Common.{◌≡◌, ℕ, ◌+◌, ◌<◌, false, nat_eq, Option, None, Some, MatchOption, List, [], ◌∷◌, ◌++◌, length, take, drop, refl, arith, All, eq-eqb}
 use Rattle.std.specs.List.{position_or_len}
 use Rattle.std.proofs.lemmas.Bool.{false_from_ne_true}
@@ -37,7 +37,7 @@ pieces_cut separator bytes (Some k) first =
     (λ j below. false_from_ne_true _ (first.0.before j (omega arith) below)) (λ h. first.1) in
     rw at at (slice_split_first (is_byte separator) bytes 0 (omega (arith, at, lt)))
 
--- there is a piece
+-- there is at least one piece
 pub length_pieces : (separator : ℕ) (bytes : List ℕ) → 0 < length (pieces separator bytes)
 unfolding pieces
 length_pieces separator bytes = let len = length-slice_split (λ b. nat_eq b separator) bytes in omega (arith, len)

@@ -3,7 +3,7 @@ use Rattle.ipmi_image.specs.Below.{IsStore}
 use Rattle.ipmi_image.specs.Prelude.{pieces, Line, store_after, store_of, HoldsLines}
 use Rattle.ipmi_image.proofs.image.read_lines.Given as goal
 
--- the contents are what the lines before say, and the lines that are left give the same after them as all did
+-- The contents are those of the lines so far, and the remaining lines after them have the same result as all lines.
 abbrev pub invariant-lines : goal.invariant-lines
 invariant-lines l =
     IsStore (store_of l.contents)

@@ -2,7 +2,7 @@ use Rattle.std.proofs.Common.{◌≡◌, ◌++◌, drop, map, flat_map}
 use Rattle.ipmi_image.specs.Prelude.{kept_inventory, inventory_lines, lines_text}
 use Rattle.ipmi_image.proofs.rewrite.Text.push_inventories.Given as goal
 
--- with the lines of the inventories that are left the text is what it is to be
+-- The text so far, followed by the lines of the remaining inventories, is the whole text.
 abbrev pub invariant-inventories : goal.invariant-inventories
 invariant-inventories l =
     l.self.bytes.items ++ lines_text

@@ -2,7 +2,7 @@ use Rattle.std.proofs.Common.{◌≡◌, ◌++◌, ◌-◌, ◌≤◌, length, d
 use Rattle.ipmi_image.specs.Prelude.{chained, rows_lines, lines_text}
 use Rattle.ipmi_image.proofs.rewrite.Text.push_rows.Given as goal
 
--- with the lines of the rows that are left the text is what it is to be
+-- The text so far, followed by the lines of the remaining rows, is the whole text.
 abbrev pub invariant-rows : goal.invariant-rows
 invariant-rows l =
     (l.place ≤ length l.rows)
