@@ -1,4 +1,4 @@
--- All parts of a capture, one after the other.
+-- All phases of a capture, one after the other.
 use Rattle.std.proofs.Common.{Option, None, Some, ◌≡◌, ℕ, zero, suc, ◌<◌, true, false, IsTrue, List, [], ◌∷◌, length, take, get_or, map, ◌⊎◌, inl, inr, refl, sym, ap, subst, ◌∙◌, arith, All, Bool, slice_index_or}
 use Rattle.std.proofs.lemmas.List.{length-map}
 use Rattle.std.proofs.lemmas.List.Folds.{list_all_at}
@@ -67,7 +67,7 @@ module _ (left : List Left) (image store : Store) where
     own_inventories = own_inventories;
   }
 
--- ---- where nothing was left out
+-- ---- if nothing was left out
 
 module _ (left : List Left) (nothing : IsTrue (list_all leaves_nothing left)) where
   none_of : (P : Left → Type 0) → ((l : Left) → P l → leaves_nothing l ≡ false) → Any P left → ⊥
@@ -145,7 +145,7 @@ module _ (left : List Left) (nothing : IsTrue (list_all leaves_nothing left)) wh
     own_inventories = but.own_inventories;
   }
 
--- the records of a shelf, of which more are not there for this reason
+-- the records of a shelf whose listing ended for this reason
 pub captures_walk : {tries : ℕ} {s s' : Seen} (shelf : Shelf) (rows : List Row) (ended : Ended)
     → StaysHonest s s' → Walks shelf tries s s' rows (Some ended)
     → Captures tries s s' [] (Left.Records shelf ended ∷ [])
@@ -194,13 +194,13 @@ captures_walk {s = s} {s' = s'} shelf rows ended stays walks = record {
     fine (Stalled n) plain came = plain
     fine (Malformed n) plain came = plain
 
--- and of which there are no more
+-- the records of a shelf whose listing was finished
 pub captures_whole_walk : {tries : ℕ} {s s' : Seen} (shelf : Shelf) (rows : List Row) (left : List Left)
     → Walks shelf tries s s' rows None → Captures tries s s' left left (AreWalk shelf left s.store rows)
 captures_whole_walk shelf rows left walks =
     nothing_left left walks.counts (λ same walk end is ends. let came = walks.along same walk end is ends in inl (came.0, inl came.1))
 
--- ---- all parts, where each of them stays honest
+-- ---- all phases; the controller stays honest in each
 
 pub stays_on : {a b c : Seen} → (IsHonest a → StaysHonest a b) → (IsHonest b → StaysHonest b c)
     → IsHonest a → StaysHonest a c
@@ -255,7 +255,7 @@ readings_last marks image store left more has = record {
   own = has.own;
 }
 
--- what the parts put into images, each into the one that the part before it left
+-- the effect of each phase on the image of the phase before it
 abbrev pub Parts : List Bool → List Bool → Store → Store → Store → Store → Store → Store → List Left → Store → Type 0
 Parts sensors devices i1 i2 i3 i4 i5 i6 left store =
     ((((AreWalk Sdr left store (rows_of Sdr i1) × AreWalk Sel left store (rows_of Sel i2))
@@ -289,7 +289,7 @@ captures_parts i1 i2 i3 i4 i5 i6 sensors devices stays1 stays2 stays3 stays4 sta
     (walk_lasts Sdr (rows_of Sdr i1)) (walk_lasts Sel (rows_of Sel i2)) (info_lasts Sdr i3) (info_lasts Sel i4) (readings_last sensors i5)
     (a h) (b k1.honest) (c k2.honest) (d k3.honest) (e k4.honest) (f k5.honest)
 
--- what was put in one part stays in the image
+-- later phases keep what was put into the image
 pub assemble : (left : List Left) (store i0 i1 i2 i3 i4 i5 i6 : Store) → i1 ≡ with_rows Sdr (rows_of Sdr i1) i0
     → i2 ≡ with_rows Sel (rows_of Sel i2) i1 → i3 ≡ with_info Sdr (info_of Sdr i3) i2
     → i4 ≡ with_info Sel (info_of Sel i4) i3 → i5 ≡ record i4 { readings = i5.readings }
@@ -316,7 +316,7 @@ assemble left store i0 i1 i2 i3 i4 i5 i6 e1 e2 e3 e4 e5 e6 is_image is_store sen
     (named_inventories left i6 store is_image is_store devices (devices_of i6.sdr) named.ids named.devices_are facts.1)
     has.own facts.1.own
 
--- ---- what is left out is not in the image
+-- ---- an item left out is not in the image
 
 out_info : (shelf : Shelf) (image : Store) (l : Left) → LacksInfo shelf l
     → info_of shelf image ≡ None → IsLeftOut image l

@@ -1,4 +1,4 @@
--- Readings, inventories and marks, found where they were put.
+-- Finding readings, inventories and marks.
 use Rattle.std.proofs.Common.{◌≡◌, ℕ, zero, suc, ◌+◌, ◌<◌, ◌≤◌, true, cond, ◌&&◌, nat_eq, None, Some, List, [], ◌∷◌, ◌++◌, length, get_or, refl, arith, All}
 use Rattle.std.specs.List.{list_any}
 use Rattle.std.specs.Option.{option_or}
@@ -12,7 +12,7 @@ use Rattle.ipmi_capture.specs.Named.{sensor_place}
 abbrev pub place_of : SensorReading → ℕ
 place_of sensor = sensor_place (sensor.lun, sensor.number)
 
--- no reading from this place on
+-- all readings are before this place
 abbrev pub ReadBelow : ℕ → List SensorReading → Type 0
 ReadBelow place [] = Unit {0}
 ReadBelow place (sensor ∷ sensors) = (place_of sensor < place) × ReadBelow place sensors
@@ -32,7 +32,7 @@ pub read_next : (place : ℕ) (sensors : List SensorReading) (new : SensorReadin
 read_next place [] new is below = (omega (arith, is), tt)
 read_next place (x ∷ xs) new is below = (omega (arith, below.0), read_next place xs new is below.1)
 
--- the last one is found where no other is
+-- the last reading is found if no other is
 pub reading_in-snoc : (sensors : List SensorReading) (new : SensorReading) (lun number : ℕ)
     → reading_in (sensors ++ new ∷ []) lun number
     ≡ option_or (reading_in sensors lun number)
@@ -77,7 +77,7 @@ no_device (x ∷ xs) all =
 
 -- ---- marks
 
--- a place that is among these is marked
+-- each of these places is marked
 pub is_marked : (places : List ℕ) (k d : ℕ) → k < length places
     → list_any (nat_eq (get_or places k d)) places ≡ true
 is_marked [] k d lt = absurd (omega (arith, lt))

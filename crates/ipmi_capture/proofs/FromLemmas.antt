@@ -1,4 +1,5 @@
--- A walk from an id that is on a walk from the first record: two shelves that have the one have the other.
+-- Walks from an id on the walk from the first record. Two shelves with the same walk from the first record also have the same
+-- walk from the id.
 use Rattle.std.proofs.Common.{◌≡◌, ◌≢◌, ℕ, Bool, true, false, IsTrue, ◌||◌, nat_eq, cond, None, Some, List, [], ◌∷◌, ◌⊎◌, inl, inr, refl, sym, ◌∙◌, arith}
 use Rattle.std.proofs.lemmas.Bool.{false≢true}
 use Rattle.std.proofs.lemmas.Bool.Decides.{nat_tests}
@@ -16,7 +17,7 @@ look_at rows [] row all among = absurd among
 look_at rows (x ∷ xs) row all (inl is) = rw is all.0
 look_at rows (x ∷ xs) row all (inr among) = look_at rows xs row all.1 among
 
--- and an id that the walk has is that of a row of it
+-- an id on the walk is the id of one of its rows
 with_id : (walk : List Row) (n : ℕ) → IsTrue (has_id walk n) → (row : Row) × Among walk row × (row.id ≡ n)
 with_id [] n has = absurd (false≢true has)
 with_id (x ∷ xs) n has = by (nat_eq n x.id) refl has (with_id xs n)
@@ -32,9 +33,9 @@ has_own [] row among = absurd among
 has_own (x ∷ xs) row (inl is) = grind (arith, nat_tests, is)
 has_own (x ∷ xs) row (inr among) = grind (arith, nat_tests, has_own xs row among)
 
--- ---- where the next id of a row of a walk leads
+-- ---- the next id of a row of a walk
 
--- to a row of the walk, to none as it is FFFFh or 0000h, or to an id that no row has
+-- the id of a row of the walk, FFFFh, 0000h, or an id that no row has
 abbrev Leads : List Row → List Row → ℕ → Type 0
 Leads rows walk next = IsTrue (has_id walk next) ⊎ ((next ≡ 0xFFFF) ⊎ ((next ≡ 0) ⊎ (look rows next ≡ None)))
 
@@ -110,7 +111,7 @@ module _ (found : FoundIsRow) (shelf : Shelf) (a b walk : List Row) (end : WalkE
       by : (x : Row) → row ≡ x → Among walk x → x.id ≡ n → Among walk row × (row.id ≡ n)
       by x is among id = rw is (among, id)
 
-  -- and so is the row after it
+  -- and the row after it is on the walk
   after_on : (row after : Row) → Among walk row → row.next ≡ after.id → after.id ≢ 0
       → look a after.id ≡ Some after → IsTrue (has_id walk after.id)
   after_on row after among next some at = by (rw next at (leads a walk end on_a.links ends_a row among))
@@ -128,7 +129,7 @@ module _ (found : FoundIsRow) (shelf : Shelf) (a b walk : List Row) (end : WalkE
       let has = after_on row after among links.0 links.1 all.1.0 in
       (among, all_among after rows (is_on after.id after has all.1.0).0 all.1 links.2)
 
-  -- an id that no row of the one shelf has, no row of the other has either
+  -- an id that no row of one shelf has is not in the other shelf either
   none_after : (row : Row) (next : ℕ) → Among walk row → row.next ≡ next → next ≢ 0xFFFF → next ≢ 0
       → look a next ≡ None → look b next ≡ None
   none_after row next among is some not_zero none = by (rw is at (leads b walk end on_b.links ends_b row among))

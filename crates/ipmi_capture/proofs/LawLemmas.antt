@@ -1,4 +1,4 @@
--- What is printed over a capture is what is printed over the controller's store.
+-- A command prints the same over a capture as over the controller's store.
 use Rattle.std.proofs.Common.{◌≡◌, ℕ, ◌-◌, Bool, true, false, cond, nat_eq, ◌⊎◌, get_or, Option, None, Some, Result, Ok, Err, List, [], ◌∷◌, length, take, inl, inr, refl, sym, ap, subst, ◌∙◌, arith, All, filter_map}
 use Rattle.std.specs.List.{Any, cons_option, filter}
 use Rattle.std.proofs.lemmas.Bool.{true≢false}
@@ -24,7 +24,7 @@ use Rattle.ipmi_capture.proofs.FromLemmas.{Among, from_end, from_id, look_at}
 
 -- ---- texts
 
--- the same texts
+-- both have the same texts
 abbrev Same : (List ℕ → Type 0) → (List ℕ → Type 0) → Type 0
 Same P Q = (text : List ℕ) → (P text → Q text) × (Q text → P text)
 
@@ -36,18 +36,18 @@ chosen : (P Q : List ℕ → Type 0) (b : Bool) → (b ≡ true → Same P Q)
 chosen P Q true same = same refl
 chosen P Q false same = itself (λ text. text ≡ [])
 
--- the line of a record in one of its forms, or that of its fault
+-- the line of a record in one of its forms, or the line of its fault
 abbrev LineBy : (SdrView → Option Reading → List ℕ → Type 0) → (SdrFault → List ℕ → Type 0) → Store
     → Result SdrView SdrFault → List ℕ → Type 0
 LineBy IsLine IsFault store (Ok view) text = IsLine view (reading_for store view) text
 LineBy IsLine IsFault store (Err fault) text = IsFault fault text
 
--- the line of a fault in each text
+-- the line of a fault
 abbrev fault_is : ℕ → SdrFault → List ℕ → Type 0
 fault_is id fault text = text ≡ fault_line id fault
 
 module _ (a b : Store) where
-  -- the reading that is asked for on account of a record is the same in both stores
+  -- the reading requested for a record is the same in both stores
   abbrev SameFor : Result SdrView SdrFault → Type 0
   SameFor (Ok view) = reading_for a view ≡ reading_for b view
   SameFor (Err fault) = Unit {0}
@@ -106,7 +106,7 @@ module _ (a b : Store) where
   inventory_same wording id name items spots same others =
       All-cons (SameText a b) _ _ (piece wording id name same) others
 
-  -- other spots of the first item
+  -- the first item with other spots
   first_texts : (spots : List Spot) (items : List Item) → All (SameText a b) items
       → All (SameText a b) (with_first_spots spots items)
   first_texts spots [] same = same
@@ -118,13 +118,13 @@ module _ (a b : Store) where
   info_same wording shelf None = All-nil (SameText a b)
   info_same wording shelf (Some info) = All-cons (SameText a b) _ [] (itself _) (All-nil (SameText a b))
 
--- ---- what rows name
+-- ---- names in rows
 
 of_rest : {X : Type 0} (P : X → Type 0) (o : Option X) (xs : List X) → All P (cons_option o xs) → All P xs
 of_rest P None xs all = all
 of_rest P (Some x) xs all = All-tail P x xs all
 
--- what a row of these is named
+-- a fact about all names holds for the name in one row
 named : {X : Type 0} (h : Row → Option X) (P : X → Type 0) (rows : List Row) (row : Row) (x : X)
     → Among rows row → h row ≡ Some x → All P (filter_map h rows) → P x
 named h P [] row x among is all = absurd among
@@ -155,7 +155,7 @@ looked_up rows n row at = by (nat_eq n 0) at
     by true at = first rows at
     by false at = found_among rows n row at
 
--- where it passes the test, it is among those that do
+-- a row that passes the test is among the rows that do
 kept : (test : Row → Bool) (rows : List Row) (row : Row) → Among rows row → test row ≡ true
     → Among (filter test rows) row
 kept test [] row among passes = absurd among
@@ -168,7 +168,7 @@ kept test (x ∷ xs) row among passes = by (test x) refl among (λ later. kept t
     by false e (inl same) kept_later = absurd (true≢false (sym passes ∙ ap test same ∙ e))
     by false e (inr later) kept_later = kept_later later
 
--- what holds of all that rows name holds of what some of them name
+-- a fact about all names in rows holds for the names in some of the rows
 of_some : {X : Type 0} (h : Row → Option X) (P : X → Type 0) (test : Row → Bool) (rows : List Row)
     → All P (filter_map h rows) → All P (filter_map h (filter test rows))
 of_some h P test [] all = All-nil P
@@ -184,9 +184,9 @@ of_some {X = X} h P test (row ∷ rows) all =
     by true later = put (h row) (filter_map h rows) (filter_map h (filter test rows)) all later
     by false later = later
 
--- ---- what a command asks for
+-- ---- the requests of a command
 
--- it is the same in both stores
+-- everything that the command requests is the same in both stores
 record HasAsked (image store : Store) (task : Task) (wording : Wording) : Type 0 where
   walk : (shelf : Shelf) → is_walked shelf task wording ≡ true → SameWalk shelf image store
   info : (shelf : Shelf) → task ≡ Task.Info shelf → info_of shelf image ≡ info_of shelf store
@@ -221,7 +221,7 @@ module _ (image : Store) where
       All-cons P id [] (All-contains P (0 ∷ devices_of image.sdr) id all known) (All-nil P)
   asked_inventories P Task.Rewrite from known all = All-nil P
 
--- over a capture that lacks nothing, all is
+-- this holds for a capture that lacks nothing
 asked_of_capture : (image store : Store) (wording : Wording) (task : Task) (from : Option ℕ)
     → IsCaptureOf image store → IsOfCapture image task from → HasAsked image store task wording
 asked_of_capture image store wording task from capture known = record {
@@ -239,11 +239,11 @@ asked_of_capture image store wording task from capture known = record {
     info Sdr = capture.sdr_info
     info Sel = capture.sel_info
 
--- over one that lacks only what is not asked for, that is
+-- this holds for a capture that lacks only items that are not requested
 module _ (left : List Left) (image store : Store) (wording : Wording) (task : Task) (from : Option ℕ)
     (capture : IsCaptureBut left image store) (unneeded : All (IsUnneeded image wording task) left)
     (known : IsOfCapture image task from) where
-  -- of what was left out nothing is asked for
+  -- no item left out is requested
   never : (P : Left → Type 0) → ((l : Left) → IsUnneeded image wording task l → P l → ⊥) → Any P left → ⊥
   never P none any = none any.1 (subst (λ (l : Left). IsUnneeded image wording task l) any.3 (unneeded any.0 any.1 any.2)) any.4
 
@@ -331,7 +331,7 @@ module _ (exists : WalkExists) (unique : WalkIsUnique) (found : FoundIsRow) (ima
             (looked_up image.sdr row.id row (look_at image.sdr walk row one.2.of_shelf among))),
       )
 
-  -- with the readings that it asks for
+  -- the readings that it requests
   row_reads : (test : Row → Bool) → All (SameReading image store) (sensors_of (filter test image.sdr))
       → (row : Row) → Among image.sdr row → test row ≡ true
       → SameFor image store (sdr_view_of row.bytes)
@@ -349,7 +349,7 @@ module _ (exists : WalkExists) (unique : WalkIsUnique) (found : FoundIsRow) (ima
       by (Ok view) same = reading (sdr.reading_of view) same
       by (Err fault) same = tt
 
-  -- the plan of a listing of all of them
+  -- the plan of a listing of all records
   listing_same : (form : _) (from : Option ℕ) → SameWalk Sdr image store
       → IsKnownPlace Sdr image (start_of from)
       → ((row : Row) → Among image.sdr row
@@ -361,7 +361,7 @@ module _ (exists : WalkExists) (unique : WalkIsUnique) (found : FoundIsRow) (ima
       let one = records_same form from walks known same walk end is ends walk' end' is' ends' in
       (rw (one.0, one.1) refl, one.2)
 
-  -- what is printed for a record of the kind
+  -- the texts of a record of the kind
   module _ (kind : Kind) (readings : All (SameReading image store) (sensors_of (filter (row_is_of_kind kind) image.sdr)))
       (row : Row) (among : Among image.sdr row) where
     line_same : (IsLine : SdrView → Option Reading → List ℕ → Type 0) (IsFault : SdrFault → List ℕ → Type 0)
@@ -397,7 +397,7 @@ module _ (exists : WalkExists) (unique : WalkIsUnique) (found : FoundIsRow) (ima
       let one = one_walk Sel (Id id) walks known walk walk' end end' is ends is' ends' in
       (rw (one.0, one.1) refl, rows_same image store _ (Id id) (take 1 walk) (λ row among. itself _))
 
-  -- a listing of entries, each as such a line
+  -- a listing of entries with lines of this form
   lines_same : (entries : _) (count : Count) (from : Option ℕ)
       → SameWalk Sel image store → IsKnownPlace Sel image (start_of from) → (tries tries' : ℕ)
       → OnEntries entries count from tries store (λ plan calls.

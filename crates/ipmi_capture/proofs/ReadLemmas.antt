@@ -1,4 +1,4 @@
--- The readings of marked sensors, and the inventories of marked devices, put into an image one after the other.
+-- Putting the readings of marked sensors and the inventories of marked devices into an image, one by one.
 use Rattle.std.proofs.Common.{◌≡◌, ℕ, ◌+◌, ◌*◌, ◌<◌, ◌≤◌, Bool, true, false, cond, IsTrue, ◌&&◌, ◌||◌, ◌==◌, nat_eq, Option, None, Some, Result, Ok, Err, IfOk, IfSome, OnOk, MatchOption, List, [], ◌∷◌, ◌++◌, length, slice_index_or, ◌⊎◌, inl, inr, All, refl, sym, ap, subst, ◌∙◌, arith}
 use Rattle.std.specs.declared.alloc.AllocError.{AllocError}
 use Rattle.std.specs.List.{Any}
@@ -18,7 +18,7 @@ use Rattle.ipmi_capture.proofs.CountLemmas.{counted_inventory, counted_less, cou
 use Rattle.ipmi_capture.proofs.FoundLemmas.{inventory_in-snoc, kept_more, kept_next, KeptBelow, read_more, read_next, ReadBelow, reading_in-snoc}
 use Rattle.ipmi_capture.proofs.StepLemmas.{between}
 
--- ---- what was left out
+-- ---- items left out
 
 module _ (P : Left → Type 0) where
   pub any_of_one : (one : Left) → P one → Any P (one ∷ [])
@@ -73,7 +73,7 @@ module _ (shelf : Shelf) (left other : List Left) where
         → AreWalk shelf (left ++ other) store rows
     walk_after store are = λ walk end is ends. rows_after walk end (are walk end is ends)
 
--- what was asked for in vain says nothing of the store
+-- an item that was refused or given up says nothing about the store
 told_unread : (store : Store) (l : Left) (unread : Unread) → unread_in l ≡ Some unread
     → IsTrueOf store l
 told_unread store (Left.Records shelf (Cycle n)) unread is = absurd (none-some unread is)
@@ -96,7 +96,7 @@ none_or_same : {V : Type 0} (P : Left → Type 0) (left : List Left) (a b : Opti
 none_or_same P left a b (inl same) = inr same
 none_or_same P left a b (inr lacks) = inl lacks.0
 
--- ---- more that was left out
+-- ---- more items left out
 
 of_option : (P : Left → Type 0) (o : Option Left) → IfSome o P → All P (option_to_list o)
 of_option P None is = All-nil P
@@ -126,7 +126,7 @@ adds_then {left = left} P Q o weaker adds is = record {
   all = All-append Q adds.more (option_to_list o) (All-weaker P Q weaker adds.more adds.all) (of_option Q o is);
 }
 
--- ---- a part of a capture that leaves nothing out
+-- ---- a phase of a capture that leaves nothing out
 pub nothing_left : {tries : ℕ} {s s' : Seen} {Fact : Type 0} (left : List Left) → AreCounted tries [] s s'
     → (s'.stores_added ≡ s.stores_added → Fact) → Captures tries s s' left left Fact
 nothing_left {s = s} left counts fact = record {
@@ -138,9 +138,9 @@ nothing_left {s = s} left counts fact = record {
   plain = λ p all. all;
 }
 
--- ---- two parts of a capture, one after the other
+-- ---- two phases of a capture, one after the other
 
--- what is left out comes after what was
+-- the new items are appended to the earlier ones
 pub captures_after : {tries : ℕ} {s s' : Seen} {Fact Fact' : Type 0} (left later : List Left) → (Fact → Fact')
     → Captures tries s s' [] later Fact → Captures tries s s' left (left ++ later) Fact'
 captures_after {s = s} left later to captures = record {
@@ -176,13 +176,13 @@ captures_then {s = s} {s' = s'} {s'' = s''} {left = left} {left' = left'} {left'
 
 -- ---- readings
 
--- those of the places before this one
+-- the readings of the places before this one
 pub record ReadTo (place : ℕ) (marks : List Bool) (left : List Left) (image store : Store) : Type 0 where
   pub named : (key : ℕ × ℕ) → IsSensorKey key → sensor_place key < place
       → slice_index_or marks (sensor_place key) false ≡ true → ReadingOrLeft left image store key
   pub own : OwnReadings image store
 
--- a reading of a place before this one, that the image has not
+-- a reading of a place before this one that the image lacks
 abbrev pub UnreadTo : ℕ → Store → Left → Type 0
 UnreadTo place image left = (unread : IsUnread image left) × (sensor_place unread.key < place)
 
@@ -271,7 +271,7 @@ reading_skipped {place = place} {marks = marks} {s = s} {left' = left'} {new = n
     by store key is mark (inl lt) to = to.named key is lt mark
     by store key is mark (inr here) to = absurd (grind (arith, unmarked, rw here at mark))
 
--- what a reading that came leaves of the image
+-- the image after a reading was added
 module _ (lun number : ℕ) where
   read_beside : (old new more : Store) (o : Option Reading) → HasRead lun number o new more
       → new ≡ record old { readings = new.readings } → more ≡ record old { readings = more.readings }
@@ -298,7 +298,7 @@ module _ (lun number : ℕ) where
           → option_or found (cond (nat_eq lun key.0 && nat_eq number key.1) (Some reading) None) ≡ found
       other found = grind (arith, nat_tests, lt)
 
-  -- and each is the store's still
+  -- each reading is still that of the store
   own_read : (new more store : Store) (o : Option Reading) → HasRead lun number o new more
       → OwnReadings new store
       → NoneOrSame (reading_of lun number more) (reading_of lun number store)
@@ -325,7 +325,7 @@ module _ (lun number : ℕ) where
           let stays : reading_of l n more ≡ reading_of l n new = found l n ∙ rw e (nothing (reading_of l n new)) in
           subst (λ (o : Option Reading). NoneOrSame o (reading_of l n store)) (sym stays) (own l n)
 
--- two sensors at one place are one
+-- two sensors with the same place are equal
 same_key : (key : ℕ × ℕ) (lun number : ℕ) → IsSensorKey key → number < 256
     → sensor_place key ≡ sensor_place (lun, number) → (key.0 ≡ lun) × (key.1 ≡ number)
 same_key key lun number is fits at = (omega (arith, is.number, fits, at), omega (arith, is.number, fits, at))
@@ -400,7 +400,7 @@ pub record KeptTo (to : ℕ) (marks : List Bool) (left : List Left) (image store
       → InventoryOrLeft left image store id
   pub own : OwnInventories image store
 
--- an inventory of a device before this one, that the image has not
+-- an inventory of a device before this one that the image lacks
 abbrev pub UnkeptTo : ℕ → Store → Left → Type 0
 UnkeptTo to image left = (unkept : IsUnkept image left) × (unkept.id < to)
 
@@ -592,7 +592,7 @@ keeping_read {tries = tries} {marks = marks} {s = s} {s' = s'} {s'' = s''} {left
         (subst (λ (o : Option (List ℕ)). SameOrLeft (LacksInventory other) left' o (inventory_of other s.store)) (sym stays) (done.named other lt mark))
     by other mark (inr here) done this store = rw here (subst (λ (x : Store). InventoryOrLeft (left' ++ option_to_list lacks) more x id) store this)
 
--- what a result that is Ok has
+-- a fact about Ok results implies another
 pub on_ok : {T E A B : Type 0} (result : Result T E) → OnOk result A → (A → B) → OnOk result B
 on_ok (Ok value) has to = to has
 on_ok (Err e) has to = tt
@@ -663,7 +663,7 @@ pub came_inventory : {tries : ℕ} {s s' : Seen} (id : ℕ) (bytes : List ℕ) (
 came_inventory id bytes old new none is reads =
     nothing_left [] (counted_within reads.counts.0) (λ same. inl (kept_again id bytes old new none is ∙ sym (reads.is same).1))
 
--- one without bytes is not put into the image
+-- an inventory without bytes is not put into the image
 pub came_empty : {tries : ℕ} {s s' : Seen} (id : ℕ) (bytes : List ℕ) (image : Store)
     → inventory_of id image ≡ None → bytes ≡ [] → ReadsInventory id tries s s' (Ok bytes)
     → Captures tries s s' [] (Left.Empty id ∷ []) (InventoryOrLeft (Left.Empty id ∷ []) image s.store id)
@@ -679,7 +679,7 @@ came_empty {s = s} {s' = s'} id bytes image none no_bytes reads = record {
     empty : s'.stores_added ≡ s.stores_added → inventory_of id s.store ≡ Some []
     empty same = (reads.is same).1 ∙ ap Some no_bytes
 
--- where it was not read, nothing is left out only where there is none
+-- an inventory that was not read is left out, unless there is none
 pub left_inventory : {tries : ℕ} {s s' s'' : Seen} (id : ℕ) (ended : FruEnded)
     (result : Result (Option Left) AllocError) (image : Store) → inventory_of id image ≡ None
     → ReadsInventory id tries s s' (Err ended) → StaysHonest s' s'' → AreCounted 0 [] s' s''
@@ -714,7 +714,7 @@ left_inventory {tries = tries} {s = s} {s' = s'} id ended (Ok (Some lacks)) imag
     told FruEnded.Stalled is not counts = absurd counts
     told FruEnded.Words is not counts = absurd counts
 
--- what is left out is of this device, and it is not in the image
+-- the item left out is of this device, and is not in the image
 pub lacks_left : (id : ℕ) (ended : FruEnded) (result : Result (Option Left) AllocError)
     (image : Store) → inventory_of id image ≡ None
     → IfOk result (λ o. MatchOption o (ended ≡ FruEnded.Refused not_present)
@@ -724,9 +724,9 @@ lacks_left id ended (Err e) image none left = tt
 lacks_left id ended (Ok None) image none left = tt
 lacks_left id ended (Ok (Some l)) image none left = (left.0, none)
 
--- ---- all parts
+-- ---- all phases
 
--- it holds also where more was left out
+-- the fact still holds if more items are left out
 abbrev pub Lasts : (Store → List Left → Type 0) → Type 0
 Lasts Fact = (store : Store) (left more : List Left) → Fact store left → Fact store (left ++ more)
 

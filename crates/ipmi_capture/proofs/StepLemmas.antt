@@ -1,4 +1,4 @@
--- The records of a shelf, put into an image one step of a cursor after another.
+-- Putting the records of a shelf into an image, step by step of a cursor.
 use Rattle.std.proofs.Common.{◌≡◌, ◌≢◌, ◌⊎◌, nat_eq, nat_lt, true≢false, ℕ, ◌+◌, ◌*◌, ◌<◌, ◌≤◌, true, false, IsTrue, Option, None, Some, Result, Ok, Err, IfOk, List, [], ◌∷◌, ◌++◌, length, map, take, drop, inl, inr, refl, sym, ap, ◌∙◌, arith, take_all, length-append, take-add}
 use Rattle.std.specs.declared.alloc.AllocError.{AllocError}
 use Rattle.std.specs.FinSet as set
@@ -40,9 +40,9 @@ with_rows-own Sel store = refl
 digits_some : (n : ℕ) → 0 < n → 1 ≤ digits n
 digits_some n some = grind (arith, nat_tests)
 
--- ---- a record that may come after others
+-- ---- a record that may follow others
 
--- the first one's bytes begin with its id, and the id of a later one is not 0000h
+-- the bytes of a first record begin with its id, and the id of a later one is not 0000h
 abbrev MayBe : List Row → Row → Type 0
 MayBe [] row = id_in row.bytes ≡ row.id
 MayBe (r ∷ rows) row = row.id ≢ 0
@@ -63,7 +63,7 @@ may_follow_these shelf (r ∷ rows) row id whole fits unseen may =
     let id_is : nat_eq row.id 65535 ≡ false = grind (arith, nat_tests, id) in
     rw (zero_is, id_is, unseen, whole_is, fits_is) refl
 
--- where a cursor is that handed these out
+-- the place of a cursor that returned these rows
 place_now : (rows : List Row) (place there : Place)
     → (place ≡ there) ⊎ ((place ≡ End) × (First ≡ First) × (first_row rows ≡ None)) → place ≢ End
     → place ≡ there
@@ -86,16 +86,16 @@ id_now place ids (r ∷ rows) row at not_end none id =
     by End not_end not none id = absurd (not_end refl)
     by (Id n) not_end not none id = λ zero. grind (arith, nat_tests, none, id, zero)
 
--- ---- stretches of calls
+-- ---- sequences of calls
 
 pub between : (s s' s'' : Seen) → StaysHonest s s' → StaysHonest s' s''
     → s''.stores_added ≡ s.stores_added
     → (s'.stores_added ≡ s.stores_added) × (s''.stores_added ≡ s'.stores_added)
 between s s' s'' before later same = omega (arith, before.store.grows, later.store.grows, same)
 
--- ---- what holds so far
+-- ---- the state so far
 
--- the first rows of each walk came, and the cursor is after them
+-- the first rows of each walk were read, and the cursor is after them
 abbrev Along : Shelf → Seen → Seen → CursorState → List Row → Type 0
 Along shelf s s' cursor rows = s'.stores_added ≡ s.stores_added → (walk : List Row) (end : WalkEnd)
     → IsWalk (rows_of shelf s.store) First walk → EndsBy (rows_of shelf s.store) First walk end
@@ -117,7 +117,7 @@ pub record Walked (shelf : Shelf) (part tries : ℕ) (s s' : Seen) (cursor : Cur
   pub along : IsHonest s → Along shelf s s' cursor (rows_of shelf new)
   pub holds : IsHonest s → IsTrue s.plain → CursorHoldsCurrent cursor s'
 
--- nothing came yet
+-- at the start: nothing was read
 pub walked_none : (shelf : Shelf) (part tries : ℕ) (s : Seen) (cursor : CursorState) (old : Store)
     → 0 < part → rows_of shelf old ≡ []
     → cursor ≡ record {
@@ -147,7 +147,7 @@ walked_none shelf part tries s cursor old some none fresh stands =
       holds = λ h p. record { held = λ n is. absurd (none-some n (sym (ap (λ (x : CursorState). x.reservation) fresh) ∙ is)) };
     }
 
--- since one step more
+-- one more step
 module _ {shelf : Shelf} {part tries : ℕ} {s s' s'' : Seen} {now next : CursorState}
     {old new : Store} {result : Result (Option Row) Ended}
     (walked : Walked shelf part tries s s' now old new) (step : IsStep now next s' s'' result) where
@@ -157,7 +157,7 @@ module _ {shelf : Shelf} {part tries : ℕ} {s s' s'' : Seen} {now next : Cursor
   pub stays_on : IsHonest s → StaysHonest s s''
   stays_on h = stays_trans s s' s'' (walked.stays h) (step.honest (walked.stays h).honest).stays
 
-  -- all calls, after which the cursor asks no more
+  -- the number of calls is within the bound of a walk
   pub calls_on : s''.calls ≤ s.calls + most_on_walk shelf tries
   calls_on =
       let each = step_call_bound tries (largest_len shelf) in
@@ -185,12 +185,12 @@ module _ {shelf : Shelf} {part tries : ℕ} {s s' s'' : Seen} {now next : Cursor
       let rows : rows_of now.shelf s'.store ≡ rows_of shelf s.store = rw walked.shelf_is (ap (rows_of shelf) ((walked.stays h).store.stays parts.0)) in
       (there.0, (rw rows at ((step.walks honest).follows parts.1 First walk end (length (rows_of shelf new)))) is ends there.1)
 
-  -- over any controller, what was asked for was asked for from the shelf
+  -- first rows that are as many as the walk's rows are the whole walk
   all_rows : (walk : List Row) (rows : List Row) → rows ≡ take (length rows) walk
       → length rows ≡ length walk → rows ≡ walk
   all_rows walk rows is all = is ∙ take_all (length rows) walk (omega (arith, all))
 
-  -- why there are no more
+  -- the step ended the listing
   pub came_ended : (ended : Ended) → result ≡ Err ended → IsHonest s
       → Walks shelf tries s s'' (rows_of shelf new) (Some ended)
   came_ended ended is h = record {
@@ -231,14 +231,14 @@ module _ {shelf : Shelf} {part tries : ℕ} {s s' s'' : Seen} {now next : Cursor
       none : StepAnswers now s' s'' (Ok None) → WithinTries now.tries s' s''
       none answers = answers.0
 
-  -- a record came
+  -- the step returned a record
   came_record : {row : Row} → result ≡ Ok (Some row) → IsHonest s → AreCounted tries [] s s''
   came_record {row = row} is h = counted_then [] [] (walked.counts h) (counted_within (one (rw is at (step_honest h).answers)))
     where
       one : StepAnswers now s' s'' (Ok (Some row)) → WithinTries now.tries s' s''
       one answers = answers.0
 
-  -- over a plain controller a record may come after those before it
+  -- over a plain controller the record may follow the earlier ones
   may_put : IsHonest s → IsTrue s.plain → (row : Row) → result ≡ Ok (Some row)
       → may_follow shelf (rows_of shelf new) row ≡ true
   may_put h p row is =
@@ -255,7 +255,7 @@ module _ {shelf : Shelf} {part tries : ℕ} {s s' s'' : Seen} {now next : Cursor
       (rw (sym at.0) at (sym (at.1.ids row.id)) ∙ hands.unseen)
       (id_now now.place now.ids (rows_of shelf new) row place hands.not_at_end none hands.id)
 
-  -- a record that is left out
+  -- a record that may not follow is left out
   pub came_malformed : (n : ℕ) {row : Row} → result ≡ Ok (Some row)
       → may_follow shelf (rows_of shelf new) row ≡ false
       → IsHonest s → Walks shelf tries s s'' (rows_of shelf new) (Some (Malformed n))
@@ -265,14 +265,14 @@ module _ {shelf : Shelf} {part tries : ℕ} {s s' s'' : Seen} {now next : Cursor
     counts = counted_nothing (Left.Records shelf (Malformed n)) refl refl (came_record is h);
   }
 
-  -- a record is one id more
+  -- the record adds one id
   pub ids_next : {row : Row} → result ≡ Ok (Some row)
       → (set.len next.ids ≡ set.len now.ids + 1) × (set.len next.ids ≤ 65536)
   ids_next {row = row} is =
       let hands = (rw is at step.leaves).1 in
       (rw hands.ids (len-insert nat_cmp_total now.ids row.id ∙ rw hands.unseen refl), hands.at_most)
 
-  -- a record that is put after the others
+  -- the record is appended to the others
   module _ {row : Row} (is : result ≡ Ok (Some row)) {more : Store}
       (put : more ≡ with_rows shelf (rows_of shelf new ++ row ∷ []) new) where
     hands : HandsOut now next row
@@ -322,7 +322,7 @@ module _ {shelf : Shelf} {part tries : ℕ} {s s' s'' : Seen} {now next : Cursor
           holds = λ h p. (step_plain h p).holds;
         }
 
--- ---- a shelf that is begun again
+-- ---- a shelf that is read again
 
 pub record IsAgain (shelf : Shelf) (part tries times : ℕ) (s s' : Seen) (old new : Store) : Type 0 where
   pub beside : new ≡ with_rows shelf [] old
@@ -368,7 +368,7 @@ module _ {shelf : Shelf} {part tries times : ℕ} {s s' s'' : Seen} {old now new
   walks_all_ok (Ok ended) walks h = walks_all walks h
   walks_all_ok (Err e) walks h = tt
 
-  -- and cleared
+  -- with its rows cleared
   pub again_cleared : {cleared : Store} {ended : Option Ended} → cleared ≡ with_rows shelf [] new
       → (IsHonest s' → Walks shelf tries s' s'' (rows_of shelf new) ended)
       → IsAgain shelf part tries (times + 1) s s'' old cleared

@@ -1,4 +1,4 @@
--- A walk of a shelf is the walk of its own rows, with the same end.
+-- The walk of a shelf is also the walk of a shelf with only its rows, with the same end.
 use Rattle.std.proofs.Common.{◌≡◌, ℕ, false, None, Some, IfSome, List, [], ◌∷◌, length, take, ◌⊎◌, inl, inr, refl, sym, subst, arith}
 use Rattle.std.specs.List.{Any}
 use Rattle.std.proofs.lemmas.Bool.Decides.{nat_tests}
@@ -8,7 +8,7 @@ use Rattle.ipmi_capture.specs.Left.{EndIsNoted, LacksRecords}
 use Rattle.ipmi_capture.specs.declared.left.Left.{Left}
 use Rattle.ipmi_capture.specs.Phases.{AreRowsOf, AreWalk}
 
--- each of these rows is found by its id among others
+-- each of these rows is found by its id among the others
 abbrev AllFound : List Row → List Row → Type 0
 AllFound rows [] = Unit {0}
 AllFound rows (row ∷ some) = (row_with_id row.id rows ≡ Some row) × AllFound rows some
@@ -23,7 +23,7 @@ all_found : (rows : List Row) → DistinctIds rows → AllFound rows rows
 all_found [] distinct = tt
 all_found (row ∷ rows) distinct = (grind (arith, nat_tests), found_after row rows rows distinct.0 (all_found rows distinct.1))
 
--- and so is each that comes after another, as its id is not 0000h
+-- a row after another is also found by `look`, as its id is not 0000h
 all_of_later : (all : List Row) (before : Row) (rows : List Row) → Links (before ∷ rows)
     → AllFound all rows → AllOf all rows
 all_of_later all before [] links found = tt

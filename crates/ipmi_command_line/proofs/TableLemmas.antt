@@ -1,4 +1,4 @@
--- The table's rows by the number of words.
+-- The rows of the table, by the number of words.
 use Rattle.std.proofs.Common.{◌≡◌, ◌≤◌, ◌<◌, List, ◌∷◌, [], None, Bor, arith, get_or, length, map, refl}
 use Rattle.clap.specs.Words.{Text}
 use Rattle.ipmi_command_line.specs.Table.{task_of, task_of_four, task_of_one, task_of_three, task_of_two}

@@ -1,10 +1,10 @@
--- The fields that bytes spell, field by field.
+-- The fields that bytes encode, field by field.
 use Rattle.std.proofs.Common.{◌≡◌, ◌≢◌, ℕ, zero, suc, ◌/◌, ◌%◌, ◌≤◌, false, Option, None, Some, List, [], ◌∷◌, ◌++◌, length, take, drop, refl, sym, ap, subst, ◌∙◌, arith, inl, inr, option_map, is_some, ne_eqb, eq-eqb, true≢false, length-append, length-drop, length-take-le, take-append-drop}
 use Rattle.std.proofs.Math.Seq.{drop-append_seam, take-append_seam}
 use Rattle.std.proofs.lemmas.Bool.{cases_eq, cases_lt, le-ltb, lt-ltb}
 use Rattle.ipmi_fru.specs.Prelude.{AreaField, Spells, fields_from, fields_in}
 
--- a field and what is after it
+-- a field and the bytes after it
 fields_from-cons : (n byte : ℕ) (bytes : List ℕ) → byte ≢ 0xc1 → byte % 64 ≤ length bytes
     → fields_from (suc n) (byte ∷ bytes)
     ≡ option_map (λ fields. (record { code = byte / 64; bytes = take (byte % 64) bytes }) ∷ fields) (fields_from n (drop (byte % 64) bytes))
@@ -29,7 +29,7 @@ fields_in-first bytes after rest byte field is no_end fits field_is rest_is =
     let enough = fields_from-enough (length after) (length (drop (byte % 64) after)) (drop (byte % 64) after) (omega (arith, left)) (omega arith) in
     ap fields_in is ∙ fields_from-cons (length after) byte after no_end fits ∙ rw (rest_is, field_is, enough) refl
 
--- ---- the fields that are found are those that the bytes spell
+-- ---- the fields found are the fields that the bytes encode
 
 fields_from-spelt : (n : ℕ) (bytes : List ℕ) (fields : List AreaField) → length bytes ≤ n
     → Spells bytes fields → fields_from n bytes ≡ Some fields
@@ -46,7 +46,7 @@ fields_from-spelt (suc n) (byte ∷ bytes) (field ∷ fields) fits spells =
     ap (fields_from (suc n)) b.bytes_are ∙ fields_from-cons n b.type_length (field.bytes ++ rest) b.is_no_end (omega (arith, joined, b.length_is))
     ∙ rw (← b.length_is, drop-append_seam field.bytes rest, take-append_seam field.bytes rest, ← b.code_is, more) refl
 
--- what is spelt is found
+-- encoded fields are found
 pub fields_in-found : (bytes : List ℕ) (fields : List AreaField) → Spells bytes fields
     → fields_in bytes ≡ Some fields
 fields_in-found bytes fields spells = fields_from-spelt (length bytes) bytes fields (omega arith) spells
@@ -84,12 +84,12 @@ found (suc n) (byte ∷ bytes) fields e = elim (cases_eq byte 0xc1) [
   ]
 ]
 
--- what is found is spelt
+-- the fields found are encoded
 pub are_spelt : (bytes : List ℕ) (fields : List AreaField) → fields_in bytes ≡ Some fields
     → Spells bytes fields
 are_spelt bytes fields is = found (length bytes) bytes fields is
 
--- nothing is spelt where nothing is found
+-- if nothing is found, nothing is encoded
 pub none_spelt : (bytes : List ℕ) → is_some (fields_in bytes) ≡ false → (fields : List AreaField)
     → Spells bytes fields → ⊥
 none_spelt bytes none fields spells = true≢false (sym (ap is_some (fields_in-found bytes fields spells)) ∙ none)

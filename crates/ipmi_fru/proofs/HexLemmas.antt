@@ -1,4 +1,4 @@
--- A byte in hex, by both of its definitions.
+-- Both definitions of a byte in hex agree.
 use Rattle.std.proofs.Common.{◌≡◌, ◌/◌, ◌%◌, ◌<◌, ◌≤◌, ℕ, List, [], ◌∷◌, ap₂, arith, false, length, slice_index, take}
 use Rattle.std.proofs.lemmas.List.FromFn.{get_or-map-range_with_len}
 use Rattle.std.specs.Fmt.{digit_glyph}

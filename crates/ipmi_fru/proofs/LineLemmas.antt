@@ -1,4 +1,4 @@
--- A device has one line.
+-- A device has exactly one line.
 use Rattle.std.proofs.Common.{◌∙◌, ◌≡◌, ℕ, Option, None, Some, List, refl, sym}
 use Rattle.ipmi_text.specs.Bytes.{AreBytes}
 use Rattle.ipmi_text.specs.Laws.{DecimalExists, DecimalIsUnique, MinutesTextExists, MinutesTextIsUnique}
@@ -6,7 +6,7 @@ use Rattle.ipmi_fru.specs.Prelude.{Board, FruFault, IsFruLine, IsLineByFault, Pr
 use Rattle.ipmi_fru.proofs.ExistenceLemmas.{area_text}
 use Rattle.ipmi_fru.proofs.TextLemmas.{one_found}
 
--- ---- at most one
+-- ---- at most one line
 
 module _ (one_text : DecimalIsUnique) (one_minutes_text : MinutesTextIsUnique) where
   one_by_fault : (fault : Option FruFault) (id : ℕ) (name bytes text other : List ℕ)
@@ -21,7 +21,7 @@ module _ (one_text : DecimalIsUnique) (one_minutes_text : MinutesTextIsUnique) w
   one_line id name None text other h k = h ∙ sym k
   one_line id name (Some bytes) text other h k = one_by_fault (header_fault bytes) id _ bytes text other h k
 
--- ---- and at least one
+-- ---- at least one line
 
 module _ (decimal : DecimalExists) (minutes_text : MinutesTextExists) where
   line_by_fault : (fault : Option FruFault) (id : ℕ) (name bytes : List ℕ) → AreBytes bytes

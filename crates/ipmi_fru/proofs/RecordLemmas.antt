@@ -1,4 +1,4 @@
--- The records of the multirecord area, one after the other.
+-- The records of the multirecord area, one by one.
 use Rattle.std.proofs.Common.{◌≡◌, ℕ, zero, suc, ◌+◌, ◌<◌, ◌≤◌, Bool, true, false, cond, Option, None, Some, Result, Ok, List, [], ◌∷◌, length, drop, slice_index, refl, sym, ap, ◌∙◌, arith, length-drop}
 use Rattle.std.proofs.lemmas.Bool.Decides.{nat_tests}
 use Rattle.ipmi_fru.specs.Prelude.{MultiFault, offset_of, MultiRecord, IsRecordList, HasItems, items_of, record_in, record_fault, after_record, items_by, items_from, items_in}
@@ -20,7 +20,7 @@ items_in-more bytes fine r rest is rest_is last shorter =
     let not_last : (record_in bytes).last ≡ false = ap (λ (r : MultiRecord). r.last) (sym is) ∙ last in
     rw (fine, ← is, not_last, ← rest_is, items_from-enough (length bytes) (suc (length rest)) rest shorter (omega arith)) refl
 
--- ---- the items that are found are those of the one list of records
+-- ---- the items found are those of the only list of records
 
 -- a list of records with these items
 pub record IsListed (bytes : List ℕ) (items : List (Result MultiRecord MultiFault)) : Type 0 where

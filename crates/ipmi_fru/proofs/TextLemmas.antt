@@ -20,7 +20,7 @@ module _ (one_text : DecimalIsUnique) (one_minutes_text : MinutesTextIsUnique) w
       let spells : Spells (field_bytes kind b.bytes) a.fields = subst (λ (l : List ℕ). Spells (field_bytes kind l) a.fields) same x.fields_are in
       same_area a b (x.kind_is ∙ sym y.kind_is) same (one_list_of_fields (field_bytes kind b.bytes) a.fields b.fields spells y.fields_are)
 
-  -- where there is an area there is no fault
+  -- bytes are not both an area and a faulty area
   no_fault : (kind : AreaKind) (offset : ℕ) (bytes : List ℕ) (a : Area) (f : AreaFault)
       → IsArea kind offset bytes a → IsAreaFault kind offset bytes f → ⊥
   no_fault kind offset bytes a f x (inl is) = cc (x.fine, is)
@@ -33,12 +33,12 @@ module _ (one_text : DecimalIsUnique) (one_minutes_text : MinutesTextIsUnique) w
   one_fault kind offset bytes f g (inr past) (inl is) = cc (is, past.0.fine)
   one_fault kind offset bytes f g (inr past) (inr other) = past.1 ∙ sym other.1
 
-  -- what holds of the place of one holds of that of the other, which is the same
+  -- a fact about one of two equal places holds for the other
   moved : {place : Option ℕ} (P : ℕ → Type 0) (m n : ℕ) → place ≡ Some m → place ≡ Some n → P n
       → P m
   moved P m n x y holds = let same : n ≡ m = cc (x, y) in subst P same holds
 
-  -- an inventory has one thing of a kind
+  -- an inventory has at most one area, or fault, of a kind
   pub one_found : (kind : AreaKind) (bytes : List ℕ) (a b : Option (Result Area AreaFault))
       → IsFound kind bytes a → IsFound kind bytes b → a ≡ b
   one_found kind bytes None None x y = refl

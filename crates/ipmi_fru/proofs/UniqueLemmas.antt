@@ -1,4 +1,4 @@
--- Bytes spell one list of fields, and are one list of records.
+-- Bytes encode one list of fields, and one list of records.
 use Rattle.std.proofs.Common.{◌≡◌, ◌∙◌, ℕ, Bool, true, false, Option, None, Some, List, [], ◌∷◌, refl, sym, subst}
 use Rattle.ipmi_fru.specs.Prelude.{AreaField, ContinuesBy, IsRecordList, MultiFault, MultiRecord, Spells, after_record}
 use Rattle.ipmi_fru.proofs.FieldLemmas.{fields_in-found}

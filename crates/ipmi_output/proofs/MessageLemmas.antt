@@ -1,4 +1,4 @@
--- What a message sink took once parts were written to it one after another.
+-- The bytes taken by a message sink after writing several parts.
 pub use Rattle.std.proofs.Common.{append_assoc}
 use Rattle.std.proofs.Common.{◌≡◌, ◌∙◌, ℕ, ◌<◌, ◌==◌, if◌then◌else◌, suc, List, [], ◌++◌, ◌+◌, ◌-◌, Option, None, Some, Ok, Err, Result, Bor, get_or, length, length-append, take, drop, refl, sym, ap, subst, arith, ne_eqb, drop-cons, take-add, append-nil, take-append-drop, option_map, flat_map}
 use Rattle.std.proofs.Math.Seq.{take-append-add}
@@ -15,7 +15,7 @@ take_next i n bytes = rw (take_rest bytes i) (take-add i n bytes)
 
 pub ruleset next_bytes = (take_next, append_assoc)
 
--- to append some and then more is to append both
+-- appending twice is appending both
 pub Appends-both : (old mid new : Option (List ℕ)) (xs ys : List ℕ) → Appends old mid xs
     → Appends mid new ys → Appends old new (xs ++ ys)
 Appends-both old mid new xs ys first second = grind (arith, append_assoc)
@@ -24,7 +24,7 @@ Appends-both old mid new xs ys first second = grind (arith, append_assoc)
 pub Appends-kept : (old new : Option (List ℕ)) → Keeps old new → Appends old new []
 Appends-kept old new kept = grind (arith, append-nil)
 
--- a call that took some bytes was no fault
+-- a call that took some bytes was not a fault
 pub option_map-kept : (faults : Option ℕ) (n : ℕ) → (n ≡ 0 → ⊥)
     → option_map (λ k. k + (if n == 0 then 1 else 0)) faults ≡ faults
 option_map-kept faults n some = grind (arith, nat_tests)
@@ -35,12 +35,12 @@ pub ReceivesAll-both : (old mid new : Received) (xs ys : List ℕ) → ReceivesA
 ReceivesAll-both old mid new xs ys first second =
     (Appends-both old.taken mid.taken new.taken xs ys first.0 second.0, second.1 ∙ first.1)
 
--- a part of the first bytes is a part of them with more after them
+-- a part of the first bytes is also a part of all bytes
 pub ReceivesPart-before : (old new : Received) (xs ys : List ℕ) → ReceivesPart old new xs
     → ReceivesPart old new (xs ++ ys)
 ReceivesPart-before old new xs ys part = (part.0, omega (arith, part.1, length-append xs ys), rw (take-append-le part.0 xs ys (omega (arith, part.1))) part.2, part.3)
 
--- all of the first bytes, and then a part of those after them
+-- all of the first bytes, then a part of the next ones
 pub ReceivesPart-after : (old mid new : Received) (xs ys : List ℕ) → ReceivesAll old mid xs
     → ReceivesPart mid new ys → ReceivesPart old new (xs ++ ys)
 ReceivesPart-after old mid new xs ys first part = (
@@ -50,7 +50,7 @@ ReceivesPart-after old mid new xs ys first part = (
   part.3 ∙ rw first.1 refl,
 )
 
--- the texts of the items before item i, and then a part of its own
+-- the texts of the items before item i, then a part of the text of item i
 pub ReceivesPart-in_item : {X : Type 0} (f : X → List ℕ) (old mid new : Received) (xs : List X)
     (i : ℕ) (d : X) → i < length xs → ReceivesAll old mid (flat_map f (take i xs))
     → ReceivesPart mid new (f (get_or xs i d)) → ReceivesPart old new (flat_map f xs)

@@ -1,4 +1,4 @@
--- Columns that are appended to a line.
+-- Appending columns to a line.
 use Rattle.std.proofs.Common.{◌≡◌, ◌∙◌, ℕ, ℤ, Option, Some, List, ◌++◌, append_assoc, subst, refl}
 use Rattle.ipmi_records.specs.Below.{Appends, IsDecimalOf, reading_value, after_space}
 use Rattle.ipmi_records.specs.Prelude.{IsRawText, IsValueText, unit_text_in, factors_in}

@@ -1,4 +1,4 @@
--- Blocks out of the parts that the code puts together. `format_args` writes more than twelve parts in two groups.
+-- Blocks consist of the parts that the code writes. `format_args` writes more than twelve parts in two groups.
 use Rattle.std.proofs.Common.{◌≡◌, ◌∙◌, ℕ, List, ◌++◌, codes, slice_index, append_assoc, decimal, if◌then◌else◌}
 use Rattle.ipmi_records.specs.Below.{binary_text, byte_h, hex_byte, IsUtcTextOf, word_h}
 use Rattle.ipmi_records.specs.Prelude.{AreEventLines, IsInfoBlock, byte_at, direction_text, event_data, generator_id, has_bit, is_deasserted, number_at, numbered_sensor, revision, sensor_number, sensor_type, time_stamp, words_of_event}

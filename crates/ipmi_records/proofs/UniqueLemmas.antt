@@ -69,7 +69,7 @@ module _ (one_text : DecimalIsUnique) where
 -- ---- the event log and infos
 
 module _ (one_utc_text : UtcTextIsUnique) where
-  -- what is at a place is a byte; past the end it is 0
+  -- the value at a place is a byte; past the end it is 0
   slice_index-lt : (bytes : List ℕ) → AreBytes bytes → (k : ℕ) → slice_index bytes k < 256
   slice_index-lt bytes are k = elim (cases_lt k (length bytes)) [
     | inl within ↦ are k 0 within

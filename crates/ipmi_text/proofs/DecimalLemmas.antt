@@ -1,4 +1,4 @@
--- A value has one decimal, and a decimal one value.
+-- A value has one decimal, and a decimal has one value.
 use Rattle.std.proofs.Common.{◌≡◌, ◌∙◌, ℕ, zero, suc, ◌+◌, ◌-◌, ◌*◌, ◌^◌, ◌<◌, ◌≤◌, ℤ, pos, negsuc, List, [], ◌∷◌, ◌++◌, length, drop, get_or, replicate, ap, sym, refl, arith, inl, inr, length-append, unsigned_abs}
 use Rattle.std.proofs.lemmas.Bool.{cases_lt}
 use Rattle.std.proofs.lemmas.Bool.Decides.{nat_tests}
@@ -11,7 +11,7 @@ use Rattle.ipmi_text.specs.Decimal.{IsDecimalOf, IsFraction, IsWhole, after_poin
 is_digit : (c : ℕ) → digit_value c < 10 → c ≡ 48 + digit_value c
 is_digit c h = grind (arith, nat_tests)
 
--- as many digits of one value are the same, and so are the numbers before them
+-- equally many digits of one value are equal, and so are the numbers before them
 same_digits : (m n : ℕ) (xs ys : List ℕ) → length xs ≡ length ys → AllDigits 10 xs → AllDigits 10 ys
     → digits_value_after 10 m xs ≡ digits_value_after 10 n ys → (m ≡ n) × (xs ≡ ys)
 same_digits m n [] [] l h k e = (e, refl)
@@ -22,7 +22,7 @@ same_digits m n (x ∷ xs) (y ∷ ys) l h k e =
     let first : x ≡ y = omega (arith, is_digit x h.0, is_digit y k.0, more.0, h.0, k.0) in
     (omega (arith, more.0, h.0, k.0), cc (first, more.1))
 
--- the number before the fewer digits of one value is no less
+-- the number before fewer digits of one value is not less
 no_less : (m n : ℕ) (xs ys : List ℕ) → length xs ≤ length ys → AllDigits 10 xs → AllDigits 10 ys
     → digits_value_after 10 m xs ≡ digits_value_after 10 n ys → n ≤ m
 no_less m n xs [] l h k e = omega (arith, (same_digits m n xs [] (omega arith) h k e).0)
@@ -31,7 +31,7 @@ no_less m n xs (y ∷ ys) l h k e = elim (cases_lt (length xs) (length (y ∷ ys
   | inr above ↦ omega (arith, (same_digits m n xs (y ∷ ys) (omega arith) h k e).0)
 ]
 
--- of whole digits of one value, which have no spare zero, none are more
+-- whole digits of one value without a spare zero are equally many
 not_longer : (xs ys : List ℕ) → IsWhole xs → IsWhole ys → digits_value 10 xs ≡ digits_value 10 ys
     → length ys ≤ length xs
 not_longer xs [] h k e = omega arith
@@ -58,7 +58,7 @@ length-filled ds h = let short : length ds ≤ 16 = h.short in rw (length-append
 digits_value-filled : (ds : List ℕ) → IsFraction ds → digits_value 10 (filled ds) < 10 ^ 16
 digits_value-filled ds h = rw (length-filled ds h) at (digits_value-lt 10 (filled ds) (AllDigits-filled (16 - length ds) ds h.all_digits))
 
--- the fraction that is not 0 to its end is no longer than another of the same filled digits
+-- a fraction that does not end with 0 is not longer than another with the same filled digits
 no_longer : (xs ys : List ℕ) → IsFraction xs → IsFraction ys → filled xs ≡ filled ys
     → length ys ≤ length xs
 no_longer xs ys h k e = elim (cases_lt (length xs) (length ys)) [
@@ -90,7 +90,7 @@ one_text value text other h k =
     let fraction = same_fraction h.fraction k.fraction h.is_fraction k.is_fraction (omega arith) in
     cc
 
--- a digit is no point and no sign
+-- a digit is neither a point nor a sign
 not_mark : (d mark : ℕ) → digit_value mark ≡ 36 → digit_value d < 10 → d ≡ mark → ⊥
 not_mark d mark none h e = let there : digit_value d ≡ 36 = rw e none in omega arith
 
@@ -98,13 +98,13 @@ drop-after_point : (ds : List ℕ) → drop 1 (after_point ds) ≡ ds
 drop-after_point [] = refl
 drop-after_point (d ∷ ds) = refl
 
--- what comes after a point begins with no digit
+-- a fraction does not begin with a digit
 no_digit_after : (d : ℕ) (ds fraction : List ℕ) → digit_value d < 10 → d ∷ ds ≡ after_point fraction
     → ⊥
 no_digit_after d ds [] h e = cc
 no_digit_after d ds (f ∷ fs) h e = not_mark d 46 refl h (cc e)
 
--- digits and what comes after them are told apart by the point
+-- the point separates the digits from the text after them
 same_parts : (xs ys f g : List ℕ) → AllDigits 10 xs → AllDigits 10 ys
     → xs ++ after_point f ≡ ys ++ after_point g → (xs ≡ ys) × (f ≡ g)
 same_parts [] [] f g h k e = (refl, sym (drop-after_point f) ∙ ap (drop 1) e ∙ drop-after_point g)
@@ -122,7 +122,7 @@ same_size value other text rest h k e =
     let parts = same_parts h.whole k.whole h.fraction k.fraction h.is_whole.numeral.1 k.is_whole.numeral.1 e in
     cc (h.size_is, k.size_is, parts.0, parts.1)
 
--- a number below 0 has a sign, and another none
+-- only a number below 0 has a sign
 signs_differ : (xs after rest : List ℕ) → IsWhole xs → xs ++ after ≡ 45 ∷ rest → ⊥
 signs_differ [] after rest h e = omega (arith, h.numeral.0)
 signs_differ (x ∷ xs) after rest h e = not_mark x 45 refl h.numeral.1.0 (cc e)

@@ -1,4 +1,4 @@
--- The long division that makes the digits of a fraction.
+-- The digits of a fraction by long division.
 use Rattle.std.proofs.Common.{◌≡◌, ◌≢◌, ℕ, suc, ◌+◌, ◌-◌, ◌*◌, ◌/◌, ◌%◌, ◌^◌, ◌<◌, ◌≤◌, List, [], ◌∷◌, ◌++◌, length, get_or, slice_index, replicate, arith, refl, zero, ap, sym, subst, ◌∙◌, append_assoc, append-nil, length-append, pow-suc, div-lt_iff_lt-mul, decimal, ℤ, unsigned_abs}
 use Rattle.std.proofs.Math.Nat.{one-le-pow}
 use Rattle.std.specs.Char.{digit_value}
@@ -11,7 +11,7 @@ use Rattle.std.proofs.lemmas.Fmt.{decimal_by_steps_wide, decimal_is_IsNumeral_wi
 use Rattle.ipmi_text.specs.Appended.{Appends}
 use Rattle.ipmi_text.specs.Decimal.{AppendsFraction, IsDecimalOf, IsWhole, after_point, filled, sign_of}
 
--- a point and the first digits of the fraction n come after old, and rest is left of it, below the last place
+-- `new` is `old` followed by a point and the first digits of the fraction n; `rest` is the remainder, below the last place
 pub record HasWritten (n : ℕ) (old new : List ℕ) (place rest : ℕ) : Type 0 where
   pub digits : List ℕ
   pub text_is : new ≡ old ++ 46 ∷ digits
@@ -25,7 +25,7 @@ pub record HasWritten (n : ℕ) (old new : List ℕ) (place rest : ℕ) : Type 0
 pub digit_value-digit : (d : ℕ) → d < 10 → digit_value (48 + d) ≡ d
 digit_value-digit d h = grind (arith, nat_tests)
 
--- above something that is left, a place is ten times the next
+-- if there is a remainder, the place is ten times the next place
 next_place : (k place rest : ℕ) → place ≡ 10 ^ k → rest < place → rest ≢ 0
     → (0 < k) × ((0 < place / 10) × ((place ≡ place / 10 * 10) × (place / 10 ≡ 10 ^ (k - 1))))
 next_place zero place rest is below some = absurd (some (omega arith))
@@ -41,7 +41,7 @@ last_digit q rest h some none e =
     let all : q * (rest / q) + rest % q ≡ rest = omega arith in
     some (sym all ∙ rw zero_digit (omega arith))
 
--- the next digit is one, below a place that is not 0
+-- the next place is not 0, and the next digit is below ten
 pub next_digit : (n : ℕ) (old new : List ℕ) (place rest : ℕ) → HasWritten n old new place rest
     → rest ≢ 0 → (0 < place / 10) × (rest / (place / 10) < 10)
 next_digit n old new place rest h some =
@@ -84,7 +84,7 @@ digits_value-zeros (suc k) ds =
     let power = pow-suc 10 k in
     ap (digits_value 10) (sym (append_assoc ds (48 ∷ []) (replicate k 48))) ∙ digits_value-zeros k (ds ++ 48 ∷ []) ∙ rw (one, power) (omega arith)
 
--- no leading zero but in `0` itself
+-- no leading zero, except in `0`
 IsWhole-decimal : (n : ℕ) → n < 10 ^ 64 → IsWhole (decimal n)
 IsWhole-decimal n small =
     let steps = decimal_by_steps_wide (λ m ds. (0 < length ds) × (get_or ds 0 0 ≡ 48 → (m ≡ 0) × (length ds ≡ 1)))
@@ -97,7 +97,7 @@ after_point-some : (ds : List ℕ) → ds ≢ [] → after_point ds ≡ 46 ∷ d
 after_point-some [] some = absurd (some refl)
 after_point-some (d ∷ ds) some = refl
 
--- the whole fraction is written, where it is not 0
+-- without a remainder the whole fraction is written, if it is not 0
 pub all_written : (n : ℕ) (old new : List ℕ) (place rest : ℕ) → HasWritten n old new place rest
     → rest ≡ 0 → n ≢ 0 → AppendsFraction n old new
 all_written n old new place rest h none some =
@@ -110,7 +110,7 @@ all_written n old new place rest h none some =
       text_is = h.text_is ∙ rw (after_point-some h.digits (λ e. some (sym value ∙ rw e refl))) refl;
     }
 
--- a sign, the whole digits and the fraction make the decimal, after any text
+-- the sign, the whole digits and the fraction are the decimal, after any text
 pub appended : (v : ℤ) (old start text : List ℕ) → unsigned_abs v < 10 ^ 64
     → start ≡ old ++ (sign_of v ++ decimal (unsigned_abs v / 10 ^ 16))
     → AppendsFraction (unsigned_abs v % 10 ^ 16) start text → Appends (IsDecimalOf v) old text

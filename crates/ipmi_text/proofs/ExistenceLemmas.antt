@@ -53,7 +53,7 @@ whole_digits (suc k) n lt = elim (cases_lt n 10) [
       }
 ]
 
--- what is left of a fraction can be written
+-- the rest of a fraction can be written
 rest_written : (k n : ℕ) (text : List ℕ) (place rest : ℕ) → HasWritten n [] text place rest
     → place ≡ 10 ^ k → n ≢ 0 → (new : List ℕ) × AppendsFraction n [] new
 rest_written k n text place zero h is some = (text, all_written n [] text place 0 h refl some)
@@ -101,7 +101,7 @@ some_days : (year : ℤ) (month : ℕ) → (1 ≤ days_in_month year month)
     × (month ≡ 12 → days_in_month year month ≡ 31)
 some_days year month = (grind (arith, nat_tests), grind (arith, nat_tests))
 
--- the day after, of a date that is not the last one
+-- the next day after a date, unless it is the last date
 next_date : (d : Date) → epoch_day d <ℤ pos 100000
     → (next : Date) × (epoch_day next ≡ epoch_day d +ℤ pos 1)
 next_date d lt = elim (cases_lt d.day (days_in_month d.year d.month)) [

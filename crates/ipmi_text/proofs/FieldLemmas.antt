@@ -1,4 +1,4 @@
--- Texts of fields, a step at a time.
+-- Texts of fields, step by step.
 use Rattle.std.proofs.Common.{◌≡◌, ◌≢◌, ◌∙◌, ℕ, zero, suc, ◌+◌, ◌*◌, ◌/◌, ◌%◌, ◌^◌, ◌<◌, ◌≤◌, ◌==◌, true, false, List, [], ◌∷◌, ◌++◌, length, get_or, get_or-drop, slice_index, drop, map, encode_utf8, add-one, ap, drop-cons, sym, refl, arith, codes, nat_le, nat_lt, pow-add, IsAscii}
 use Rattle.std.proofs.Math.Nat.{div-div-eq-div-mul}
 use Rattle.std.proofs.lemmas.List.{drop-drop}
@@ -36,7 +36,7 @@ low_digit v n (suc (suc zero)) h = omega arith
 low_digit v n (suc (suc (suc zero))) h = omega arith
 low_digit v n (suc (suc (suc (suc i)))) h = absurd (omega arith)
 
--- a character out of its three bytes
+-- a character from its three bytes
 pub six_bit_character_is : (bs : List ℕ) (i a b c : ℕ) → ((k : ℕ) → slice_index bs k < 256)
     → a ≡ slice_index bs (i / 4 * 3) → b ≡ slice_index bs (i / 4 * 3 + 1)
     → c ≡ slice_index bs (i / 4 * 3 + 2)
@@ -68,7 +68,7 @@ pub latin1_text-drop : (bs : List ℕ) (i : ℕ) → i < length bs → get_or bs
     ++ latin1_text (drop (i + 1) bs)
 latin1_text-drop bs i within some = rw add-one (ap latin1_text (drop-cons bs i 0 within) ∙ latin1_text-cons (get_or bs i 0) (drop (suc i) bs) some)
 
--- bytes that are all printed as themselves
+-- bytes that are printed unchanged
 pub all_plain : (bs : List ℕ)
     → ((k : ℕ) → k < length bs → (0x20 ≤ get_or bs k 0) × (get_or bs k 0 ≤ 0x7e))
     → bs ≡ latin1_text bs

@@ -13,7 +13,7 @@ pub is_not_empty_append : (xs ys : List ℕ)
 is_not_empty_append [] ys = refl
 is_not_empty_append (x ∷ xs) ys = refl
 
--- the parts with a space between each two that are there
+-- the parts that are not empty, with a space between each two
 pub append_spaced : (p u r f s : List ℕ)
     → f ≡ (if is_not_empty p && is_not_empty u then codes " " else [])
     → s ≡ (if (is_not_empty p || is_not_empty u) && is_not_empty r then codes " " else [])
@@ -27,7 +27,7 @@ append_spaced (x ∷ xs) [] (z ∷ zs) f s first second = rw (first, second) ref
 append_spaced (x ∷ xs) (y ∷ ys) [] f s first second = rw (first, second, append-nil ys) refl
 append_spaced (x ∷ xs) (y ∷ ys) (z ∷ zs) f s first second = rw (first, second) refl
 
--- they are something where one of them is
+-- the text is not empty if one of the parts is not
 pub is_not_empty_join_with_byte : (p u r : List ℕ)
     → is_not_empty (join_with_byte 32 (filter is_not_empty (p ∷ u ∷ r ∷ [])))
     ≡ (is_not_empty p || is_not_empty u) || is_not_empty r
@@ -40,13 +40,13 @@ is_not_empty_join_with_byte (x ∷ xs) [] (z ∷ zs) = refl
 is_not_empty_join_with_byte (x ∷ xs) (y ∷ ys) [] = refl
 is_not_empty_join_with_byte (x ∷ xs) (y ∷ ys) (z ∷ zs) = refl
 
--- a name that is all there is
+-- a name without other parts
 only_name : (name : List ℕ) → name ≡ join_with_byte 32
     (filter is_not_empty ([] ∷ (name ++ []) ∷ [] ∷ []))
 only_name [] = refl
 only_name (c ∷ name) = rw append-nil refl
 
--- without percent, modifier and rate the name is printed, and nothing else
+-- without percent, modifier and rate only the name is printed
 pub unit_text_of_plain : (units1 base modifier : ℕ) → units1 % 64 ≡ 0
     → unit_text_of units1 base modifier ≡ unit_name_or_code base
 unit_text_of_plain units1 base modifier none =

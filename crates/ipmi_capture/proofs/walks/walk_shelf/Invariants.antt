@@ -7,6 +7,6 @@ abbrev pub invariant-records : goal.invariant-records
 invariant-records g l =
     Walked l.shelf l.fn.asking.part l.fn.asking.tries (g.C.Controller.seen l.fn.ctl) (g.C.Controller.seen l.ctl) l.cursor l.fn.image l.image
 
--- the ids that the cursor can still hand out
+-- The number of ids that the cursor can still return.
 abbrev pub decreases-records : goal.decreases-records
 decreases-records g l = 65536 - set.len l.cursor.ids

@@ -1,4 +1,4 @@
--- What `from_str_radix` reads of a number on a command line.
+-- `from_str_radix` reads a number on a command line.
 use Rattle.std.proofs.Common.{◌≡◌, ◌≢◌, rules, ℕ, ◌<◌, ◌^◌, true, List, [], ◌∷◌, length, refl, arith, Result, get_or}
 use Rattle.std.specs.Result.{result_ok}
 use Rattle.std.specs.Char.{is_digit}
@@ -18,7 +18,7 @@ all_tested : (radix : ℕ) (bs : List ℕ) → AllDigits radix bs → list_all (
 all_tested radix [] h = refl
 all_tested radix (c ∷ cs) h = grind (arith, nat_tests, all_tested radix cs h.1, h.0)
 
--- what is read, in a range of the type, is the number of the digits
+-- the number read, if it is in the range of the type, is the number of the digits
 digits_read : {E : Type 0} (r : Result ℕ E) (radix : ℕ) (bs : List ℕ) (low high : ℕ) → 0 < length bs
     → get_or bs 0 0 ≢ 43 → high < 2 ^ 16 → ParsesUnsigned 16 radix bs r
     → within low high (result_ok r) ≡ within low high (digits_of radix bs)

@@ -3,6 +3,6 @@ use Rattle.ipmi_text.specs.Appended.{Appends}
 use Rattle.ipmi_fru.specs.Prelude.{items_left, AreItemTexts}
 use Rattle.ipmi_fru.proofs.record_text.push_records.Given as goal
 
--- the lines so far, with those of what is left after them
+-- The lines so far, followed by those of the remaining items, are all lines.
 abbrev pub invariant-records : goal.invariant-records
 invariant-records l = (more : List ℕ) → AreItemTexts (items_left l.item-iterator) more → Appends (AreItemTexts (items_left l.fn.records)) (string_bytes l.fn.text) (string_bytes l.text ++ more)

@@ -1,4 +1,4 @@
--- A part of what comes before the line feed is a part of the line.
+-- A part of the text before the line feed is a part of the line.
 use Rattle.std.proofs.Common.{codes}
 use Rattle.std.proofs.lemmas.Result.{MatchResult-from_err, MatchResult-weaker}
 use Rattle.ipmi_output.proofs.MessageLemmas.{ReceivesAll-both, ReceivesPart-before, ReceivesPart-after}

@@ -1,4 +1,4 @@
--- After the name comes no further part.
+-- There is no further part after the name.
 use Rattle.std.proofs.Common.{append-nil}
 use Rattle.ipmi_output.specs.Failure.{escaped_name}
 use Rattle.ipmi_output.proofs.message.say_unreadable.Goals as goal

@@ -1,4 +1,4 @@
--- A name without control bytes is as it is; of another the bytes before this one, and then a part of it.
+-- A name without control bytes is not changed. Of another name, the bytes before this one and a part of it were taken.
 use Rattle.std.proofs.Common.{◌≡◌, not, true, List, ℕ, [], ◌∷◌, ◌∙◌, sym, refl, rules}
 use Rattle.std.proofs.lemmas.Result.{MatchResult-from_err}
 use Rattle.std.specs.Char.{is_ascii_control}

@@ -1,4 +1,4 @@
--- The parts before this one, and then a part of it.
+-- The parts before this one, then a part of it.
 use Rattle.std.proofs.Common.{subst}
 use Rattle.std.proofs.lemmas.Result.{MatchResult-from_err}
 use Rattle.ipmi_output.specs.Failure.{part_text}

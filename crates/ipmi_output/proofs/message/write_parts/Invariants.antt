@@ -1,4 +1,4 @@
--- So far the parts before this one were taken, and no call is known to have been a fault.
+-- The parts before this one were taken, and no call is known to have been a fault.
 use Rattle.std.proofs.Common.{take}
 use Rattle.ipmi_output.specs.Received.{ReceivesAll}
 use Rattle.ipmi_output.specs.Failure.{joined_parts}

@@ -1,4 +1,4 @@
--- The pieces before this one, and then a part of it.
+-- The pieces before this one, then a part of it.
 use Rattle.std.proofs.lemmas.Result.{MatchResult-from_err}
 use Rattle.ipmi_output.specs.Failure.{piece_text}
 use Rattle.ipmi_output.proofs.MessageLemmas.{ReceivesPart-in_item}

@@ -1,4 +1,4 @@
--- The bytes before `done` and those taken then are the bytes before the new `done`.
+-- The bytes before `done` and those taken next are the bytes before the new `done`.
 use Rattle.std.proofs.Common.{ℕ, arith, List, [], ◌+◌, ◌<◌, ◌≡◌, append-nil, length, take, ap, ◌∙◌, option_map}
 use Rattle.std.proofs.lemmas.Grind.{common_steps}
 use Rattle.std.proofs.lemmas.Result.{MatchResult-from_err}
@@ -7,7 +7,7 @@ use Rattle.ipmi_output.specs.Received.{Received, ReceivesAll, ReceivesPart}
 use Rattle.ipmi_output.proofs.MessageLemmas.{Appends-both, Appends-kept, option_map-kept, take_next}
 use Rattle.ipmi_output.proofs.message_sink.offer_all.Goals as goal
 
--- the part before `done`, where the next call took none
+-- the part before `done`, if the next call took none
 cut : (done : ℕ) (bytes : List ℕ) (old mid new : Received) → done < length bytes
     → ReceivesAll old mid (take done bytes) → Appends mid.taken new.taken []
     → new.faults ≡ option_map (λ n. n + 1) mid.faults → ReceivesPart old new bytes

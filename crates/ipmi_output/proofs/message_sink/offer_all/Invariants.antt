@@ -1,4 +1,4 @@
--- So far the bytes before `done` were taken, and no call is known to have been a fault.
+-- The bytes before `done` were taken, and no call is known to have been a fault.
 use Rattle.std.proofs.Common.{◌≤◌, ◌-◌, length, take}
 use Rattle.ipmi_output.specs.Received.{ReceivesAll}
 use Rattle.ipmi_output.proofs.message_sink.offer_all.Given as goal

@@ -1,4 +1,4 @@
--- So far the sink took the bytes before `done`, and no call was a fault.
+-- The sink has taken the bytes before `done`, and no call was a fault.
 use Rattle.std.proofs.Common.{◌≡◌, ◌≤◌, ◌-◌, ◌++◌, length, take}
 use Rattle.ipmi_output.proofs.sink.write_all.Given as goal
 

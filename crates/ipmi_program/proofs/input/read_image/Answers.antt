@@ -1,4 +1,4 @@
--- Of a reader whose bytes are known, all were read: it had no more than may be read.
+-- If the bytes of the reader are known, all were read, as there were at most as many as allowed.
 use Rattle.std.proofs.Common.{◌≡◌, ◌∙◌, ℕ, ◌<◌, Option, None, Some, IfSome, List, [], ◌++◌, length, take, ap, arith, option_map, take_all, length-take}
 use Rattle.ipmi_program.proofs.input.read_image.Goals as goal
 

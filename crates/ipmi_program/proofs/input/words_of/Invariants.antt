@@ -1,4 +1,4 @@
--- So far the words are the arguments before this one.
+-- The words are the arguments before this one.
 use Rattle.std.proofs.Common.{◌≡◌, map, string_bytes, take}
 use Rattle.ipmi_program.proofs.input.words_of.Given as goal
 
