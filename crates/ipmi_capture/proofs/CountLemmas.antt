@@ -1,4 +1,4 @@
--- What a controller counts while things are left out.
+-- The counts of a controller while items are left out.
 use Rattle.std.proofs.Common.{◌≡◌, ℕ, ◌+◌, ◌≤◌, ◌⊎◌, ◌==◌, false, Option, None, Some, Err, List, [], ◌∷◌, ◌++◌, inl, inr, All, refl, sym, ◌∙◌, arith, subst}
 use Rattle.std.specs.List.{sum_by}
 use Rattle.std.proofs.lemmas.List.Elements.{All-append, All-cons, All-nil}
@@ -10,9 +10,9 @@ use Rattle.ipmi_capture.specs.Phases.{IsNotPlain}
 use Rattle.ipmi_capture.specs.declared.left.Left.{Left}
 use Rattle.ipmi_capture.specs.declared.left.Unread.{Unread}
 
--- ---- one stretch of calls after another
+-- ---- two sequences of calls
 
--- where none of these was refused, each has whatever code
+-- an item that was not refused agrees with each last code
 code_of_none : (last : ℕ) (o : Option Unread) → refusals_for o ≡ 0 → HasCode last o
 code_of_none last None none = tt
 code_of_none last (Some Unread.GaveUp) none = tt
@@ -34,7 +34,7 @@ codes_of_none last (l ∷ left) none =
     All-cons (λ l. HasCode last (unread_in l)) l left (code_of_left last l (omega (arith, sum, none))) (codes_of_none last left (omega (arith, sum, none)))
 
 module _ {tries : ℕ} where
-  -- where nothing was left out
+  -- if nothing was left out
   pub counted_calls : {s s' : Seen} → s.troubles ≤ s'.troubles → s.refusals ≤ s'.refusals
       → (s'.refusals ≡ s.refusals → s'.last_code ≡ s.last_code) → AreCounted tries [] s s'
   counted_calls troubles refusals none = record {
@@ -50,7 +50,7 @@ module _ {tries : ℕ} where
   pub counted_within : {t : ℕ} {s s' : Seen} → WithinTries t s s' → AreCounted tries [] s s'
   counted_within within = counted_calls within.grows (omega (arith, within.refusals)) (λ none. within.last_code)
 
-  -- what was counted is more where less is left out
+  -- the counts also suffice if fewer items are left out
   pub counted_less : {t : ℕ} {s s' : Seen} {left : List Left} → AreCounted t left s s' → AreCounted tries [] s s'
   counted_less counts = counted_calls (omega (arith, counts.troubles)) (omega (arith, counts.refusals)) counts.none
 
@@ -77,10 +77,10 @@ module _ {tries : ℕ} where
           (subst (λ (n : ℕ). All (λ l. HasCode n (unread_in l)) left) (sym (later.none none)) (before.one first))
           (codes_of_none s''.last_code more (omega (arith, none, later.refusals)))
 
--- ---- one thing
+-- ---- one item
 
 module _ {tries : ℕ} {s s' : Seen} where
-  -- what was asked for in vain
+  -- an item that was refused or given up
   counted_one : (l : Left) (o : Option Unread) → unread_in l ≡ o
       → s.troubles + troubles_for tries o ≤ s'.troubles
       → s.refusals + refusals_in l ≤ s'.refusals
@@ -133,7 +133,7 @@ module _ {tries : ℕ} {s s' : Seen} where
   counted_record shelf c (Stalled n) same is = absurd is
   counted_record shelf c (Malformed n) same is = absurd is
 
--- an inventory, whose size may have been refused once more after that
+-- an inventory, whose size may have been refused once more afterwards
 pub counted_inventory : {tries : ℕ} {s s' s'' : Seen} (id : ℕ) (l : Left) (ended : FruEnded)
     → unread_in l ≡ unread_in (Left.Inventory id ended) → IsNotPlain ended
     → InventoryCounts id tries s s' (Err ended) → AreCounted 0 [] s' s''

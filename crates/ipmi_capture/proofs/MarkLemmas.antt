@@ -1,4 +1,4 @@
--- The marks of what the first records of an image name.
+-- The marks of the sensors and devices that the first records of an image name.
 use Rattle.std.proofs.Common.{◌≡◌, ℕ, zero, suc, ◌+◌, ◌<◌, ◌≤◌, Bool, true, false, ◌||◌, nat_eq, Option, None, Some, List, [], ◌∷◌, ◌++◌, length, get_or, set, map, take, refl, ap, ◌∙◌, arith, All, IfSome, option_map, slice_get, filter_map, append-nil, replicate, take_all, add-one}
 use Rattle.std.specs.List.{cons_option, list_any}
 use Rattle.std.specs.Option.{option_to_list}
@@ -9,7 +9,7 @@ use Rattle.ipmi_capture.specs.Below.{Row, sdr_view_of}
 use Rattle.ipmi_capture.specs.Capture.{device_named, devices_of, sensor_named, sensors_of}
 use Rattle.ipmi_capture.specs.Named.{AreMarks, IsSensorKey, marked, Names, sensor_place}
 
--- ---- one mark more
+-- ---- one more mark
 
 list_any-snoc : (p q : ℕ) (places : List ℕ)
     → list_any (nat_eq p) (places ++ q ∷ []) ≡ (list_any (nat_eq p) places || nat_eq p q)
@@ -29,7 +29,7 @@ marks_more : (marks : List Bool) (places : List ℕ) (o : Option ℕ) → AreMar
 marks_more marks places None are fits = λ q. rw (append-nil places) (are q)
 marks_more marks places (Some p) are fits = λ q. mark_at marks p q fits ∙ rw (are q, list_any-snoc q p places) refl
 
--- ---- one record more
+-- ---- one more record
 
 named_next : {X : Type 0} (h : Row → Option X) (rows : List Row) (place : ℕ) (row : Row)
     → slice_get rows place ≡ Some row
@@ -68,7 +68,7 @@ places_more : (keys : List (ℕ × ℕ)) (o : Option (ℕ × ℕ))
 places_more keys None = map-append sensor_place keys []
 places_more keys (Some key) = map-append sensor_place keys (key ∷ [])
 
--- the first records name what is marked, and nothing else is
+-- the marks are those of the sensors and devices that the records before the place name
 pub record NamesTo (place : ℕ) (rows : List Row) (sensors devices : List Bool) : Type 0 where
   pub within : place ≤ length rows
   pub names : Names (take place rows) sensors devices
@@ -117,7 +117,7 @@ names_more {place = place} {rows = rows} {sensors = sensors} {devices = devices}
       };
     }
 
--- no mark yet
+-- at the start: no marks
 pub no_marks : (n : ℕ) → AreMarks (replicate n false) []
 no_marks n = λ place. none n place
   where
@@ -126,7 +126,7 @@ no_marks n = λ place. none n place
     none (suc n) zero = refl
     none (suc n) (suc place) = none n place
 
--- nothing is named yet
+-- at the start: no names
 pub names_none : (rows : List Row) (sensors devices : ℕ)
     → NamesTo 0 rows (replicate sensors false) (replicate devices false)
 names_none rows sensors devices = record {
@@ -139,7 +139,7 @@ names_none rows sensors devices = record {
   };
 }
 
--- all is named where no record is left
+-- at the end: all names
 pub names_all : {place : ℕ} {rows : List Row} {sensors devices : List Bool}
     → NamesTo place rows sensors devices → slice_get rows place ≡ None → Names rows sensors devices
 names_all {place = place} {rows = rows} names none = rw (take_all place rows (past rows place none)) at names.names
@@ -149,7 +149,7 @@ names_all {place = place} {rows = rows} names none = rw (take_all place rows (pa
     past (x ∷ xs) zero none = absurd (grind (arith, none))
     past (x ∷ xs) (suc place) none = omega (arith, past xs place none)
 
--- the row of these bytes
+-- the row with these bytes
 pub row_there : (o : Option Row) (bytes : List ℕ) → Some bytes ≡ option_map (λ (row : Row). row.bytes) o
     → (row : Row) × (o ≡ Some row) × (bytes ≡ row.bytes)
 row_there None bytes is = absurd (grind (arith, is))

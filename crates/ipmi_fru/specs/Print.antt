@@ -114,7 +114,7 @@ volts_at place bytes = record {
 abbrev pub IsVoltsAt : ℕ → List ℕ → List ℕ → Type 0
 IsVoltsAt place bytes text = IsDecimalOf (volts_at place bytes).0 text
 
--- what the data of an output or a load say; bit 7 of the first byte means something only in an output
+-- the values in the data of an output or a load; bit 7 of the first byte has a meaning only for an output
 abbrev pub dc_fields : List ℕ → DcFields
 dc_fields bytes = record {
   number = slice_index bytes 0 % 16;

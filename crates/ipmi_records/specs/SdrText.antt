@@ -97,7 +97,7 @@ head_lines id view =
     labelled (codes "Record") (word_h id)
     ++ (labelled (codes "Type") (kind_text view) ++ name_line (name_of view))
 
--- the lines of a sensor: its address, and what it senses
+-- the lines of a sensor: its address, its entity and its type
 abbrev pub sensor_lines : Option Sensor → List ℕ
 sensor_lines None = []
 sensor_lines (Some sensor) = labelled_lines (

@@ -68,22 +68,22 @@ fn overflow_text(bytes: &[u8; 14]) -> &'static str
     }
 }
 
-/// What a repository or a log tells of itself (IPMI v2.0, sections 33.9 and 31.2).
+/// The info of a repository or a log (IPMI v2.0, sections 33.9 and 31.2).
 #[derive(Clone, Copy, Debug, PartialEq, Eq)]
 pub struct Info {
     /// The version of the commands: 51h is that of IPMI v1.5 and v2.0.
     pub version: u8,
-    /// How many records there are.
+    /// The number of records.
     pub record_count: u16,
-    /// How many bytes are free.
+    /// The free space in bytes.
     pub free_space: u16,
     /// The time stamp of the most recent addition, as `ipmi_text::UtcTime::of` reads it.
     pub last_addition: u32,
     /// The time stamp of the most recent erase.
     pub last_erase: u32,
-    /// Whether a record was lost for want of room.
+    /// Whether a record was lost because there was no space.
     pub overflow: bool,
-    /// The byte that says which operations there are.
+    /// The byte with the supported operations.
     pub support: u8,
 }
 

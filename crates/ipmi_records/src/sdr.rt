@@ -48,7 +48,7 @@ pub enum SdrFault {
     BodyShort,
 }
 
-/// A record of a type without a view of its own.
+/// A record of another type, which has no view of its own.
 pub type OtherRecord<'a> = AtLeast<'a, OTHER_TYPE, SDR_HEADER_LEN>;
 
 /// A sensor data record, by its type.

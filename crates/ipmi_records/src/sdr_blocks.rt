@@ -61,7 +61,7 @@ fn head_lines(alloc: Global, id: u16, view: &SdrView) -> Result<String, AllocErr
     Ok(text)
 }
 
-/// The lines of a sensor: its address, and what it senses.
+/// The lines of a sensor: its address, its entity and its type.
 fn sensor_lines(alloc: Global, sensor: Option<Sensor>) -> Result<String, AllocError>
     ensures { IfOk result (λ text. string_bytes text ≡ sensor_lines sensor) }
 {
@@ -97,7 +97,7 @@ fn locator_lines(alloc: Global, locator: Option<Locator>) -> Result<String, Allo
     Ok(text)
 }
 
-/// The reading column and the status, each on a line of its own.
+/// The reading column and the status, one line each.
 fn reading_lines(
     alloc: Global,
     view: &SdrView,

@@ -11,7 +11,7 @@ const MODIFIER_BITS: u8 = 0x03;
 /// Bits 6:0 of the second byte: the modifier of the first sensor.
 const OFFSET_BITS: u8 = 0x7F;
 
-/// What is appended to the ID string to give each of the sensors that share it a name of its own.
+/// The form of the suffix that distinguishes the sensors that share a record.
 #[derive(Clone, Copy, Debug, PartialEq, Eq)]
 pub enum Modifier {
     /// 00b: a number.
