@@ -1,4 +1,4 @@
--- What is written for an area.
+-- The members written for an area.
 use Rattle.std.proofs.Common.{◌≡◌, ◌∙◌, ◌≤◌, ℕ, List, [], ◌∷◌, ◌++◌, ap, append-nil, arith, codes, drop, refl, sym}
 use Rattle.json.specs.Token.{Token, key}
 use Rattle.json.specs.Tree.{depth, json_tokens}
@@ -20,7 +20,7 @@ within_fields language (name ∷ keys) fields =
     let rest = within_fields language keys (drop 1 fields) in
     omega (arith, one, rest)
 
--- the last member ends them all
+-- with the last member all fields are written
 pub fields_written : (language language_is_of : ℕ) (keys : List (List ℕ)) (first fields left : List AreaField)
     (list : List (List ℕ)) (old now new : List Token)
     → list ≡ extra_texts language left

@@ -1,4 +1,4 @@
--- What is written for an inventory.
+-- The members written for an inventory.
 use Rattle.std.proofs.Common.{ℕ, List, ◌++◌, Option, Result, arith, codes, refl}
 use Rattle.json.specs.Written.{Written}
 use Rattle.ipmi_fru.specs.Prelude.{Area, HasItems, IsFound, MultiRecord}

@@ -1,4 +1,4 @@
--- What is written for multirecords.
+-- The members written for multirecords.
 use Rattle.std.proofs.Common.{◌≡◌, ◌∙◌, ◌≤◌, ℕ, List, [], ◌∷◌, ◌++◌, Result, Ok, append_assoc, append-nil, arith, refl, sym}
 use Rattle.std.specs.List.{flat_map}
 use Rattle.json.specs.Json.{Json}

@@ -1,4 +1,4 @@
--- The exact decimal of a value is a number of JSON.
+-- The exact decimal of a value is a JSON number.
 use Rattle.std.proofs.Common.{◌≡◌, ◌∙◌, ℕ, suc, ◌<◌, ◌==◌, true, false, cond, ℤ, pos, negsuc, List, [], ◌∷◌, ◌++◌, length, drop, Some, None, option_and_then, ap, refl, arith, ne_eqb, append-nil}
 use Rattle.std.proofs.Math.Seq.{drop-append_seam}
 use Rattle.std.proofs.lemmas.Bool.Decides.{nat_tests}
@@ -15,7 +15,7 @@ is_digit c h = grind (arith, nat_tests)
 no_mark : (c mark : ℕ) → is_ascii_digit mark ≡ false → digit_value c < 10 → (c == mark) ≡ false
 no_mark c mark none h = grind (arith, nat_tests)
 
--- digits, and then what begins with no digit
+-- digits, then a text that does not begin with a digit
 digits_end : (ds rest : List ℕ) → AllDigits 10 ds → is_ascii_digit (head rest) ≡ false
     → prefix_len is_ascii_digit (ds ++ rest) ≡ length ds
 digits_end [] [] h e = refl
@@ -30,7 +30,7 @@ after_digits_is d ds rest h e =
     let after : drop (length (d ∷ ds)) ((d ∷ ds) ++ rest) ≡ rest = drop-append_seam (d ∷ ds) rest in
     ap (λ n. cond (n == 0) None (Some (drop n (d ∷ (ds ++ rest))))) all ∙ ap (λ b. cond b None (Some (drop (length (d ∷ ds)) (d ∷ (ds ++ rest))))) some ∙ ap Some after
 
--- what a fraction begins with is no digit
+-- a fraction does not begin with a digit
 no_digit : (fraction : List ℕ) → is_ascii_digit (head (after_point fraction)) ≡ false
 no_digit [] = refl
 no_digit (f ∷ fs) = refl
@@ -41,7 +41,7 @@ fraction_read [] h = refl
 fraction_read (f ∷ fs) h = rw (append-nil fs) at (after_digits_is f fs [] h refl)
 
 module _ (fraction : List ℕ) where
-  -- whole digits and the fraction after them
+  -- whole digits, then the fraction
   whole_read : (whole : List ℕ) → IsWhole whole
       → after_whole (whole ++ after_point fraction) ≡ Some (after_point fraction)
   whole_read [] h = absurd (omega (arith, h.numeral.0))

@@ -1,4 +1,4 @@
--- What is written for a record by its kind.
+-- The members written for a record, by its kind.
 use Rattle.std.proofs.Common.{ℕ, List, ◌++◌, Option, None, refl}
 use Rattle.json.specs.Written.{Written}
 use Rattle.ipmi_text.specs.declared.reading.Reading.{Reading}

@@ -1,4 +1,4 @@
--- What is written for an entry by its kind.
+-- The members written for an entry, by its kind.
 use Rattle.std.proofs.Common.{ℕ, Option, List, [], ◌∷◌, ◌++◌, codes, refl}
 use Rattle.json.specs.Written.{Written}
 use Rattle.ipmi_records.specs.Prelude.{manufacturer_id, oem_data, time_stamp}

@@ -8,7 +8,7 @@ use Rattle.ipmi_records.specs.declared.sensor.Sensor.{Sensor}
 use Rattle.ipmi_events.specs.States.{state_words}
 use Rattle.ipmi_events.proofs.StateLemmas.{set_below, state_passed}
 
--- the texts of those that are set, of the first ones
+-- the texts of the states below `count` that are set
 abbrev pub texts_below : Sensor → ℕ → ℕ → List (List ℕ)
 texts_below sensor count states =
     map (state_words sensor.event_type sensor.sensor_type) (set_below count states)

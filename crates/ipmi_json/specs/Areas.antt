@@ -30,23 +30,23 @@ field_keys AreaKind.Product =
     ∷ codes "fru_file_id"
     ∷ []
 
--- the text of the first field, null where it is empty, and where there is no field
+-- the text of the first field; null if it is empty or there is no field
 abbrev pub first_value : ℕ → List AreaField → Json
 first_value language [] = null
 first_value language (field ∷ fields) =
     text_unless_empty (fru_text_of field.code language field.bytes)
 
--- the texts of the fields that have no key
+-- the texts of the fields without a key
 abbrev pub extra_texts : ℕ → List AreaField → List (List ℕ)
 extra_texts language fields = map (λ field. fru_text_of field.code language field.bytes) fields
 
--- a member for each key, with the field at its place, and the fields past the keys as an array
+-- a member for each key with its field, and an array of the fields after those
 abbrev pub field_members : ℕ → List (List ℕ) → List AreaField → List Pair
 field_members language [] fields = (codes "extra", texts (extra_texts language fields)) ∷ []
 field_members language (key ∷ keys) fields =
     (key, first_value language fields) ∷ field_members language keys (drop 1 fields)
 
--- what comes before the fields: the type of a chassis, the language of a board and of a product, the date of a board
+-- the members before the fields: the type of a chassis, the language of a board or a product, the date of a board
 abbrev pub AreLeadMembers : AreaKind → List ℕ → List Pair → Type 0
 AreLeadMembers AreaKind.Chassis area ms =
     ms ≡ (codes "type", integer (slice_index area 2))
@@ -65,7 +65,7 @@ pub record IsAreaObject (area : Area) (j : Json) : Type 0 where
   pub are_lead : AreLeadMembers area.kind area.bytes lead
   pub is : j ≡ object_in (lead ++ field_members (language_of area.kind area.bytes) (field_keys area.kind) area.fields)
 
--- null where the inventory has no area of the kind, and where it has a fault
+-- null if the inventory has no area of the kind, or the area has a fault
 abbrev pub IsAreaValue : Option (Result Area AreaFault) → Json → Type 0
 IsAreaValue None j = j ≡ null
 IsAreaValue (Some (Ok area)) j = IsAreaObject area j
@@ -83,7 +83,7 @@ fault_found None = None
 fault_found (Some (Ok area)) = None
 fault_found (Some (Err f)) = Some (area_fault_word f)
 
--- an area under its key, and its fault under another
+-- an area with its key, and its fault with another key
 pub record AreAreaMembers (key fault_key : List ℕ) (found : Option (Result Area AreaFault))
     (ms : List Pair) : Type 0 where
   pub value : Json

@@ -1,5 +1,5 @@
--- The object of an inventory (Platform Management FRU Information Storage Definition v1.0). The keys are always there,
--- and a value never changes its type, but for null.
+-- The object of an inventory (Platform Management FRU Information Storage Definition v1.0). It always has the same keys, and a
+-- value never changes its type, except to null.
 use Rattle.std.specs.Prelude.{◌≡◌, ℕ, Option, Some, None, option_map, Result, List, [], ◌∷◌, ◌++◌, length, codes}
 use Rattle.json.specs.Json.{null, string}
 use Rattle.ipmi_text.specs.FieldText.{binary_text}
@@ -19,8 +19,7 @@ header_fault_word FruFault.Short = codes "header_short"
 header_fault_word FruFault.HeaderVersion = codes "header_version"
 header_fault_word FruFault.HeaderSum = codes "header_checksum"
 
--- what is known of a device: its id, if it is this controller's, its name, if there is a locator, its state, and the
--- fault of its inventory's header
+-- a device: its id if it is this controller's, its name if it has a locator, its state, and the fault of its inventory's header
 abbrev pub device_members : Option ℕ → Option (List ℕ) → List ℕ → Option (List ℕ) → List Pair
 device_members id name state fault =
     (codes "object", string (codes "fru"))
@@ -30,7 +29,7 @@ device_members id name state fault =
     ∷ (codes "fault", text_or_null fault)
     ∷ []
 
--- where there is nothing to read
+-- the members if nothing can be read
 abbrev pub no_content : List Pair
 no_content =
     (codes "chassis", null)
@@ -43,7 +42,7 @@ no_content =
     ∷ (codes "records_fault", null)
     ∷ []
 
--- what an inventory has of a kind of area
+-- the members for the area of a kind
 pub record AreFoundMembers (kind : AreaKind) (key fault_key bytes : List ℕ)
     (ms : List Pair) : Type 0 where
   pub found : Option (Result Area AreaFault)
@@ -64,14 +63,14 @@ pub record AreContentMembers (bytes : List ℕ) (ms : List Pair) : Type 0 where
   pub are_records : AreRecordMembers items records
   pub are : ms ≡ ((chassis ++ board) ++ product) ++ records
 
--- the bytes of an inventory, and how many there are
+-- the size and the bytes of an inventory
 abbrev pub bytes_members : Option (List ℕ) → List Pair
 bytes_members bytes =
     (codes "size", integer_or_null (option_map length bytes))
     ∷ (codes "raw", text_or_null (option_map binary_text bytes))
     ∷ []
 
--- a device whose inventory tells nothing
+-- a device whose inventory has no areas or records that can be read
 abbrev pub bare_members : Option ℕ → Option (List ℕ) → List ℕ → Option (List ℕ) → Option (List ℕ)
     → List Pair
 bare_members id name state fault bytes =
@@ -99,6 +98,6 @@ IsFruLine id name None labels text =
 IsFruLine id name (Some bytes) labels text =
     IsLineByFault (header_fault bytes) id name bytes labels text
 
--- a device that is reached in another way than through the controller itself
+-- a device that is not reached through the controller itself
 abbrev pub elsewhere_members : Option (List ℕ) → List Pair
 elsewhere_members name = bare_members None name (codes "elsewhere") None None

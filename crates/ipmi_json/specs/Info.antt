@@ -1,4 +1,4 @@
--- The objects of what a repository or a log tells of itself, and the object at the end of a listing.
+-- The objects of infos, and the object at the end of a listing.
 use Rattle.std.specs.Prelude.{ℕ, Option, List, [], ◌∷◌, codes}
 use Rattle.json.specs.Json.{boolean, string}
 use Rattle.ipmi_records.specs.Prelude.{byte_at, has_bit, number_at}
@@ -8,9 +8,9 @@ use Rattle.ipmi_json.specs.Time.{IsIsoTimeOf}
 
 -- ---- infos
 
--- the answers of Get SDR Repository Info and Get SEL Info (IPMI v2.0, sections 33.9 and 31.2), after their completion
--- code: 14 bytes, alike in both. Bytes 6 to 9 are the time of the most recent addition, 10 to 13 that of the most recent
--- erase; bit 7 of byte 14 says that a record was lost for want of room
+-- The answer of Get SDR Repository Info or Get SEL Info (IPMI v2.0, sections 33.9 and 31.2), after the completion code: 14 bytes
+-- with the same layout. Bytes 6 to 9 are the time of the most recent addition, 10 to 13 that of the most recent erase. Bit 7 of
+-- byte 14 means that a record was lost because there was no space.
 abbrev pub info_members : List ℕ → Option (List ℕ) → Option (List ℕ) → List ℕ → List Pair
 info_members name addition erase bytes =
     (codes "object", string name)
@@ -25,7 +25,7 @@ info_members name addition erase bytes =
     ∷ (codes "operation_support", integer (byte_at 14 bytes))
     ∷ []
 
--- the line of an info, by the name of its object
+-- the line of an info, with the name of its object
 pub record IsInfoLine (name bytes : List ℕ) (labels : List Label) (text : List ℕ) : Type 0 where
   pub addition : Option (List ℕ)
   pub erase : Option (List ℕ)
@@ -35,7 +35,7 @@ pub record IsInfoLine (name bytes : List ℕ) (labels : List Label) (text : List
 
 -- ---- the end
 
--- how a run ended: its status, its message, if there is one, and how many objects came before
+-- the end of a run: its status, its message if there is one, and the number of objects before
 abbrev pub end_members : ℕ → Option (List ℕ) → ℕ → List Pair
 end_members status message count =
     (codes "object", string (codes "end"))

@@ -14,31 +14,31 @@ use Rattle.ipmi_json.specs.Sel.{IsSelLine}
 
 -- ---- at most one
 
--- members and labels have at most one line
+-- an object with labels has at most one line
 abbrev pub ObjectLineIsUnique : Type 0
 ObjectLineIsUnique = (ms : List Pair) (labels : List Label) (text other : List ℕ)
     → IsLineOf ms labels text → IsLineOf ms labels other → text ≡ other
 
--- a record has at most one for an id, a reading and labels
+-- a record has at most one line for an id, a reading and labels
 abbrev pub RecordLineIsUnique : Type 0
 RecordLineIsUnique = (id : ℕ) (view : SdrView) (reading : Option Reading) (labels : List Label)
     (text other : List ℕ) → IsSdrLine id view reading labels text
     → IsSdrLine id view reading labels other → text ≡ other
 
--- an entry has at most one for an id, the records of the sensors and labels
+-- an entry has at most one line for an id, the records of the sensors and labels
 abbrev pub EntryLineIsUnique : Type 0
 EntryLineIsUnique = (id : ℕ) (view : SelView) (records : Option (List (List ℕ)))
     (labels : List Label) (text other : List ℕ) → AreBytes (entry_bytes view)
     → IsSelLine id view records labels text → IsSelLine id view records labels other
     → text ≡ other
 
--- an info has at most one under the name of its object
+-- an info has at most one line for the name of its object and labels
 abbrev pub InfoLineIsUnique : Type 0
 InfoLineIsUnique = (name bytes : List ℕ) (labels : List Label) (text other : List ℕ)
     → AreBytes bytes → IsInfoLine name bytes labels text → IsInfoLine name bytes labels other
     → text ≡ other
 
--- a device has at most one for an id, a name, an inventory and labels
+-- a device has at most one line for an id, a name, an inventory and labels
 abbrev pub DeviceLineIsUnique : Type 0
 DeviceLineIsUnique =
     (id : ℕ) (name inventory : Option (List ℕ)) (labels : List Label) (text other : List ℕ)

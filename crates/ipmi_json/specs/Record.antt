@@ -1,10 +1,10 @@
--- What the objects of records and of entries have first and last.
+-- The first and the last members of the objects of records and entries.
 use Rattle.std.specs.Prelude.{ℕ, List, [], ◌∷◌, codes}
 use Rattle.json.specs.Json.{string}
 use Rattle.ipmi_text.specs.FieldText.{binary_text}
 use Rattle.ipmi_json.specs.Object.{integer, Pair}
 
--- the word for the object, and the id, the type and the kind
+-- the name of the object, and the id, the type and the kind
 abbrev pub head_members : List ℕ → ℕ → ℕ → List ℕ → List Pair
 head_members object id type kind =
     (codes "object", string object)

@@ -1,5 +1,5 @@
--- The object of an entry of the event log. The keys of each kind are always there, and a value never changes its type,
--- but for null.
+-- The object of an entry of the event log. Each kind always has the same keys, and a value never changes its type, except to
+-- null.
 use Rattle.std.specs.Prelude.{◌≡◌, ℕ, Bool, if◌then◌else◌, Option, Some, None, List, [], ◌∷◌, ◌++◌, codes}
 use Rattle.json.specs.Json.{Json, null, string}
 use Rattle.ipmi_text.specs.FieldText.{binary_text}
@@ -22,7 +22,7 @@ kind_word (SelView.OemTimed bytes) = codes "oem_timestamped"
 kind_word (SelView.OemPlain bytes) = codes "oem"
 kind_word (SelView.Other bytes) = codes "unknown"
 
--- a point in time, and the time stamp that it is from
+-- the time, and the time stamp itself
 abbrev pub time_members : Option (List ℕ) → ℕ → List Pair
 time_members time stamp =
     (codes "timestamp", text_or_null time) ∷ (codes "timestamp_raw", integer stamp) ∷ []
@@ -32,17 +32,17 @@ data_members bytes = (codes "oem_data", string (binary_text bytes)) ∷ []
 
 -- ---- events
 
--- the record of an event's sensor, by the records of a repository, if they are there
+-- the record of an event's sensor among the records of a repository, if they are given
 abbrev pub sensor_record : List ℕ → Option (List (List ℕ)) → Option SdrView
 sensor_record event None = None
 sensor_record event (Some records) = record_for event records
 
--- the name of the sensor; null without a record of it, and where that has no name
+-- the name of the sensor; null if it has no record, or the record has no name
 abbrev pub name_by : List ℕ → Option SdrView → Json
 name_by event None = null
 name_by event (Some view) = text_unless_empty (sensor_name view (sensor_number event))
 
--- what the event is from
+-- the source of the event
 abbrev pub source_members : Option SdrView → List ℕ → List Pair
 source_members view bytes =
     (codes "generator_id", integer (generator_id bytes))
@@ -56,7 +56,7 @@ source_members view bytes =
 abbrev pub direction_word : Bool → List ℕ
 direction_word deasserted = if deasserted then codes "deasserted" else codes "asserted"
 
--- what it says, with the details in its second and third byte of data
+-- the meaning of the event, with the details in its second and third byte of data
 abbrev pub meaning_members : List ℕ → List ℕ → List Pair
 meaning_members details bytes =
     (codes "event_type", integer (event_type bytes))
@@ -67,7 +67,7 @@ meaning_members details bytes =
     ∷ (codes "event_details", text_unless_empty details)
     ∷ []
 
--- the full record of its sensor, if there is one, makes values of the bytes
+-- the full record of the sensor, if there is one, converts raw bytes to values
 pub record AreEventMembers (bytes : List ℕ) (view : Option SdrView) (ms : List Pair) : Type 0 where
   pub time : Option (List ℕ)
   pub details : List ℕ
@@ -86,14 +86,14 @@ pub record AreTimedMembers (bytes : List ℕ) (ms : List Pair) : Type 0 where
       ++ (codes "manufacturer_id", integer (manufacturer_id bytes)) ∷ [])
       ++ data_members (oem_data bytes)
 
--- by the kind of the entry; the records of a repository, if they are there, name an event's sensor
+-- the members by the kind of the entry; the records of a repository, if they are given, name an event's sensor
 abbrev pub AreTold : SelView → Option (List (List ℕ)) → List Pair → Type 0
 AreTold (SelView.Event bytes) records ms = AreEventMembers bytes (sensor_record bytes records) ms
 AreTold (SelView.OemTimed bytes) records ms = AreTimedMembers bytes ms
 AreTold (SelView.OemPlain bytes) records ms = ms ≡ data_members (data_after_type bytes)
 AreTold (SelView.Other bytes) records ms = ms ≡ data_members (data_after_type bytes)
 
--- the line of an entry under its id
+-- the line of an entry, with its id
 pub record IsSelLine (id : ℕ) (view : SelView) (records : Option (List (List ℕ)))
     (labels : List Label) (text : List ℕ) : Type 0 where
   pub told : List Pair

@@ -1,13 +1,13 @@
-//! What the tests share: bytes in hex, and a line compared with the wanted one.
+//! Reading bytes in hex, and comparing a line with the expected one.
 use std::alloc::{AllocError, Global};
 use std::process::Abort;
 
-/// The bytes that hex digits stand for.
+/// The bytes in hex digits.
 pub(crate) fn bytes_of(rt: &impl Abort, alloc: Global, digits: &str) -> Vec<u8> {
     hex::decode(alloc, digits).expect(rt, digits)
 }
 
-/// Asserts that a call gave the wanted line, which ends in a line feed.
+/// Asserts that a call returned the expected line, which ends with a line feed.
 pub(crate) fn assert_line(rt: &impl Abort, got: Result<Vec<u8>, AllocError>, wanted: &str) {
     let got = got.expect(rt, wanted);
     let got = std::str::from_utf8(&got).expect(rt, wanted);
@@ -17,7 +17,7 @@ pub(crate) fn assert_line(rt: &impl Abort, got: Result<Vec<u8>, AllocError>, wan
     );
 }
 
-/// Asserts that a call gave the wanted line, or that memory was refused.
+/// Asserts that a call returned the expected line, or that memory was refused.
 pub(crate) fn assert_line_or_refused(
     rt: &impl Abort,
     got: Result<Vec<u8>, AllocError>,

@@ -13,7 +13,7 @@ const THRESHOLD: [u8; 16] = [
 const THRESHOLD_LINE: &str =
     r#"{"object":"sel_entry","record_id":1,"record_type":2,"kind":"event","timestamp":"2020-09-13T12:26:40Z","timestamp_raw":1600000000,"generator_id":32,"event_revision":4,"sensor_type":1,"sensor_type_name":"Temperature","sensor_number":1,"sensor_name":null,"event_type":1,"event":"Upper Non-critical going high","event_words":"Upper Non-critical going high","direction":"asserted","event_data":"574746","event_details":"Reading raw 0x47 > threshold raw 0x46","raw":"01000200105e5f200004010101574746"}"#;
 
-/// A deassertion with no time, of the second of four memory sensors.
+/// A deassertion without a time, of the second of four memory sensors.
 pub(crate) const MEMORY: [u8; 16] = [
     0x02, 0x00, 0x02, 0xff, 0xff, 0xff, 0xff, 0x20, 0x00, 0x04, 0x0c, 0x11, 0xef, 0x01, 0xff, 0xff,
 ];
@@ -21,7 +21,7 @@ pub(crate) const MEMORY: [u8; 16] = [
 pub(crate) const MEMORY_LINE: &str =
     r#"{"object":"sel_entry","record_id":2,"record_type":2,"kind":"event","timestamp":null,"timestamp_raw":4294967295,"generator_id":32,"event_revision":4,"sensor_type":12,"sensor_type_name":"Memory","sensor_number":17,"sensor_name":"DIMM 2","event_type":111,"event":"event 0x6f offset 0x1","event_words":"Uncorrectable ECC / other uncorrectable memory error","direction":"deasserted","event_data":"01ffff","event_details":null,"raw":"020002ffffffff2000040c11ef01ffff"}"#;
 
-/// The same event, of an offset that the standard does not name and a sensor without a record.
+/// The same event, with an offset that the standard does not name, and of a sensor without a record.
 const UNKNOWN: [u8; 16] = [
     0x03, 0x00, 0x02, 0x00, 0x00, 0x00, 0x20, 0x20, 0x00, 0x04, 0xc0, 0x99, 0x6f, 0x0f, 0xff, 0xff,
 ];
@@ -29,7 +29,7 @@ const UNKNOWN: [u8; 16] = [
 const UNKNOWN_LINE: &str =
     r#"{"object":"sel_entry","record_id":3,"record_type":2,"kind":"event","timestamp":null,"timestamp_raw":536870912,"generator_id":32,"event_revision":4,"sensor_type":192,"sensor_type_name":"sensor type 0xc0","sensor_number":153,"sensor_name":null,"event_type":111,"event":"event 0x6f offset 0xf","event_words":null,"direction":"asserted","event_data":"0fffff","event_details":null,"raw":"03000200000020200004c0996f0fffff"}"#;
 
-/// A threshold event of the processor's temperature: its record has the name and the units.
+/// A threshold event of the processor's temperature. The record has the name and the units.
 const HOT: [u8; 16] = [
     0x05, 0x00, 0x02, 0x00, 0x10, 0x5e, 0x5f, 0x20, 0x00, 0x04, 0x01, 0x01, 0x01, 0x59, 0x5c, 0x5a,
 ];
@@ -56,11 +56,11 @@ const OTHER: [u8; 16] = [
     0x04, 0x00, 0x03, 0x01, 0x02, 0x03, 0x04, 0x05, 0x06, 0x07, 0x08, 0x09, 0x0a, 0x0b, 0x0c, 0x0d,
 ];
 
-/// With labels, whose texts are escaped.
+/// The line of `OTHER` with labels. Their texts are escaped.
 const OTHER_LINE: &str =
     r#"{"object":"sel_entry","record_id":4,"record_type":3,"kind":"unknown","oem_data":"0102030405060708090a0b0c0d","raw":"0400030102030405060708090a0b0c0d","host":"web\"17\\","no\tte":"\u0001\né"}"#;
 
-/// A record of four memory sensors from number 10h on, and the full record of a temperature.
+/// A record of four memory sensors, starting with number 10h, and the full record of a temperature.
 pub(crate) const SENSORS: &str =
     "0200510220200010200100000c6f0000000000000000000401000000000000c544494d4d20010051013320000103017f680101000000003838000100000100000000f00000000000005f5a550000000202000000c84350552054656d70";
 
@@ -70,7 +70,7 @@ fn line_of(alloc: Global, id: u16, entry: &[u8; 16]) -> Result<Vec<u8>, AllocErr
     sel_entry_line(alloc, id, &view, None, &[])
 }
 
-/// The line of an entry, by a table of sensors.
+/// The line of an entry, with a table of sensors.
 fn named_line(
     alloc: Global,
     id: u16,

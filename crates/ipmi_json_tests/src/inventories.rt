@@ -2,14 +2,14 @@
 use crate::cases::{assert_line, bytes_of};
 use ipmi_json::{Label, fru_elsewhere_line, fru_line};
 
-/// Something of each thing that an inventory has, and of each fault but those of the header.
+/// An inventory with each kind of area and record, and each fault except those of the header.
 pub(crate) const MIXED: &str =
     "01000102040500f3010117c24142c1e10102000100008329dca6411201abc10e020100000000000001020de80801b0043c003c0078000000710202020d0ee1024a012c01590100000a0014000302033cbc016162c00201a6975ac0";
 
 pub(crate) const MIXED_LINE: &str =
     r#"{"object":"fru","fru_device_id":1,"name":"P\"S\\U","state":"read","fault":null,"chassis":{"type":23,"type_name":"Rack Mount Chassis","part_number":"AB","serial_number":null,"extra":[]},"chassis_fault":null,"board":{"language":0,"manufactured":"1996-01-01T00:01:00Z","manufactured_raw":1,"manufacturer":"IPMI","product_name":"12","serial_number":"ab","part_number":null,"fru_file_id":null,"extra":[]},"board_fault":null,"product":null,"product_fault":"version","records":[{"kind":"dc_output","type":1,"type_name":"dc_output","number":1,"standby":false,"nominal_volts":12,"negative_deviation_volts":0.6,"positive_deviation_volts":0.6,"ripple_millivolts":120,"minimum_milliamperes":0,"maximum_milliamperes":625,"raw":"01b0043c003c00780000007102"},{"kind":"dc_load","type":2,"type_name":"dc_load","number":2,"nominal_volts":3.3,"minimum_volts":3,"maximum_volts":3.45,"ripple_millivolts":0,"minimum_milliamperes":10,"maximum_milliamperes":20,"raw":"024a012c01590100000a001400"},{"kind":"management_access","type":3,"type_name":"management_access","subtype":1,"value":"ab","raw":"016162"},{"kind":"other","type":192,"type_name":"oem","raw":"5a"}],"records_fault":"outside","size":91,"raw":"01000102040500f3010117c24142c1e10102000100008329dca6411201abc10e020100000000000001020de80801b0043c003c0078000000710202020d0ee1024a012c01590100000a0014000302033cbc016162c00201a6975ac0"}"#;
 
-/// A product with a manufacturer, a part number, a serial number and two fields past the seventh, one of them empty.
+/// A product with a manufacturer, a part number, a serial number and two fields after the seventh, one of them empty.
 const PRODUCT: &str = "01000000010000fe010319c24142c0c2504ec0c2534ec0c0c25831c0c100000f";
 
 const PRODUCT_LINE: &str =

@@ -1,4 +1,4 @@
-//! Worked examples of ipmi_json: the lines that it makes, compared with lines that were put together by hand.
+//! Worked examples of ipmi_json: its lines, compared with lines that were put together by hand.
 #![tactic(auto)]
 
 #[cfg(test)]

@@ -1,4 +1,4 @@
-//! Each call that makes a line, once: with ample memory, and with requests for memory refused.
+//! Each call that makes a line, with ample memory and with requests refused.
 use crate::cases::{assert_line, assert_line_or_refused};
 use crate::entries::{MEMORY, MEMORY_LINE, SENSORS};
 use crate::infos::{END_LINE, INFO, OTHER_INFO, SDR_INFO_LINE, SEL_INFO_LINE};
@@ -12,10 +12,10 @@ use ipmi_json::{
 use ipmi_records::{SdrFault, SdrView, SelView};
 use std::alloc::{AllocError, Global};
 
-/// The answer of a call, and the line that it gives with ample memory.
+/// The result of a call, and the expected line.
 type Case = (Result<Vec<u8>, AllocError>, &'static str);
 
-/// The bytes that hex digits stand for.
+/// The bytes in hex digits.
 fn decoded(alloc: Global, digits: &str) -> Result<Vec<u8>, AllocError> {
     match hex::decode(alloc, digits) {
         Ok(bytes) => Ok(bytes),
@@ -41,7 +41,7 @@ fn device_line(alloc: Global) -> Result<Vec<u8>, AllocError> {
     fru_line(alloc, 1, Some("P\"S\\U"), Some(&bytes), &[])
 }
 
-/// A case of each call.
+/// A case for each call.
 fn cases(alloc: Global) -> [Case; 9] {
     [
         (entry_line(alloc), MEMORY_LINE),
@@ -62,7 +62,7 @@ fn cases(alloc: Global) -> [Case; 9] {
     ]
 }
 
-/// None is always out of memory: with ample memory each call answers with its line.
+/// With ample memory each call returns its line.
 #[test]
 fn not_always_out_of_memory(rt: HostRuntime) {
     for (got, wanted) in cases(rt.alloc()) {
@@ -70,7 +70,7 @@ fn not_always_out_of_memory(rt: HostRuntime) {
     }
 }
 
-/// Where memory is refused, each answers with its line or with want of memory.
+/// With memory refused each call returns its line, or fails when out of memory.
 #[test]
 fn memory_may_be_refused(rt: HostRuntime) {
     for (got, wanted) in cases(rt.alloc()) {

@@ -4,7 +4,7 @@ use ipmi_json::{sdr_fault_line, sdr_raw_line, sdr_record_line};
 use ipmi_records::{SdrFault, SdrView};
 use ipmi_text::Reading;
 
-/// A full record of a temperature in tenths of a degree. Its upper thresholds, 9.5, 9 and 8.5, can be read.
+/// A full record of a temperature in tenths of a degree. Its upper thresholds, 9.5, 9 and 8.5, are readable.
 pub(crate) const FULL: &str =
     "010051013320000103017f680101000000003838000100000100000000f00000000000005f5a550000000202000000c84350552054656d70";
 
@@ -14,7 +14,7 @@ pub(crate) const READ_LINE: &str =
 const UNREAD_LINE: &str =
     r#"{"object":"sdr_record","record_id":1,"record_type":1,"kind":"full","name":"CPU Temp","owner_id":32,"owner_lun":0,"sensor_number":1,"entity_id":3,"entity_name":"processor","entity_instance":1,"sensor_type":1,"sensor_type_name":"Temperature","event_type":1,"reading":null,"unit":"degrees C","reading_raw":null,"states":null,"state_words":null,"status":"ns","status_words":"ns","upper_non_recoverable":9.5,"upper_critical":9,"upper_non_critical":8.5,"lower_non_recoverable":null,"lower_critical":null,"lower_non_critical":null,"raw":"010051013320000103017f680101000000003838000100000100000000f00000000000005f5a550000000202000000c84350552054656d70"}"#;
 
-/// What the sensor of the full record answers: above the upper critical threshold.
+/// A reading of the full record's sensor, above the upper critical threshold.
 pub(crate) const HOT: Reading = Reading {
     raw: 92,
     flags: 0xc0,
@@ -22,7 +22,7 @@ pub(crate) const HOT: Reading = Reading {
     more: 0,
 };
 
-/// A compact record of a discrete sensor, whose states 1, 3 and 14 are set. The standard names the first alone.
+/// A compact record of a discrete sensor with states 1, 3 and 14. The standard has a name only for the first.
 const COMPACT: &str = "030051021f200305070100000503000000000000c000000000000000000000c4446f6f72";
 
 const COMPACT_LINE: &str =

@@ -7,7 +7,7 @@ use Rattle.ipmi_json.specs.Multirecords.{AreObjects, fault_among, records_among}
 use Rattle.ipmi_json.specs.Object.{items_in}
 use Rattle.ipmi_json.proofs.multirecords.write_objects.Given as goal
 
--- the objects so far, with those of what is left after them
+-- The objects so far, followed by those of the remaining items, are all objects.
 abbrev pub invariant-records : goal.invariant-records
 invariant-records l =
     (done : List Json)
