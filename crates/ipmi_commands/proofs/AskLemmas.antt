@@ -1,21 +1,21 @@
--- What is known after a reading, an info or an inventory was asked for.
+-- The state after a request for a reading, an info or an inventory.
 use Rattle.std.proofs.Common.{◌≡◌, ℕ, Bool, false, Result, Err, List, refl, arith, IsErrAnd}
 use Rattle.ipmi_commands.specs.Below.{CodeClass, CursorState, Failure, RefusesRecord, RefusesValue, IsStep, StepLeaves, Ended, Seen, IsHonest}
 use Rattle.ipmi_commands.specs.Run.{MayEndOn}
 use Rattle.ipmi_commands.specs.Prelude.{end_of, ending_of, EndsListing, failure_of, Form, LacksPiece, shelf_of, Unread, AtEnd, Cause, CountsSo, IsFine, AsksAt, Spot}
 use Rattle.ipmi_commands.proofs.CountLemmas.{ends_as, ends_here}
 
--- why it failed is passed up
+-- the reason for the failure is returned unchanged
 pub passed : {T E : Type 0} (result : Result T E) (error : E) → IsErrAnd result (λ e. e ≡ error)
     → result ≡ Err error
 passed result error is = grind arith
 
--- nothing was asked for
+-- nothing was requested
 pub asks_nothing : (spots : List Spot) (tries : ℕ) (s : Seen) → IsHonest s
     → AsksAt spots tries s s AtEnd
 asks_nothing spots tries s honest = record { ends = ends_here honest refl tt; calls = λ same. omega arith; keeps = λ p. record { sdr = refl; sel = refl } }
 
--- what was found may lead to this too
+-- after an item was found, the run may still end for this cause
 pub asks_as : {spots : List Spot} {tries : ℕ} {s s' : Seen} {cause : Cause}
     → AsksAt spots tries s s' AtEnd
     → CountsSo tries s s' cause → IsFine cause → AsksAt spots tries s s' cause
@@ -27,19 +27,19 @@ refuses_record : (asked : ℕ) (class : CodeClass) → RefusesValue asked class
     → RefusesRecord asked class
 refuses_record asked class refuses = grind arith
 
--- what is not found ends a listing as it may end
+-- an item that was not found is a possible end of a listing
 pub unread_ends : (form : Form) (unread : Unread) (seen : Seen) → LacksPiece form unread seen
     → EndsListing form seen (Err (failure_of unread))
 unread_ends (Form.Device wording) (Unread.Inventory id ended) seen lacks = (wording, (refl, lacks))
 unread_ends form unread seen lacks = grind (arith, refuses_record)
 
--- and so does one whose last record came
+-- and so is the end after the last record
 pub end_ends : {T : Type 0} (form : Form) (wrote : Bool) (value : T) (seen : Seen)
     → EndsListing form seen (ending_of (end_of form wrote value))
 end_ends (Form.Block wording name) false value seen = (wording, refl)
 end_ends form wrote value seen = grind arith
 
--- and so does a record that does not come
+-- and so is a record that was not read
 pub step_ends_listing : (form : Form) {now next : CursorState} {s s' : Seen} (ended : Ended)
     → now.shelf ≡ shelf_of form → IsStep now next s s' (Err ended)
     → EndsListing form s' (Err (Failure.Ended ended))

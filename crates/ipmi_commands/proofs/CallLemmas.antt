@@ -1,4 +1,4 @@
--- How many calls a listing makes, and the rows of a walk that are wanted.
+-- The number of calls of a listing, and the rows of a walk within its limit.
 use Rattle.std.proofs.Common.{◌≡◌, inl, inr, ℕ, zero, suc, ◌+◌, ◌*◌, ◌<◌, ◌≤◌, false, true, Option, None, Some, IfOk, Result, Ok, Err, List, [], ◌∷◌, ◌++◌, length, take, drop, refl, sym, ap, ◌∙◌, arith, take-append-drop, take_all, length-drop, length-take}
 use Rattle.std.specs.FinSet as set
 use Rattle.std.specs.FinSet.{len-insert}
@@ -18,12 +18,12 @@ digits_some n some = grind (arith, nat_tests)
 
 -- ---- limits
 
--- no more than are wanted
+-- the count is within the limit
 abbrev pub IsWithin : Option ℕ → ℕ → Type 0
 IsWithin None count = Unit {0}
 IsWithin (Some n) count = count ≤ n
 
--- as many were handed out as are wanted
+-- the limit is reached
 pub at_limit : (most : Option ℕ) (count : ℕ) → is_reached most count ≡ true → most ≡ Some count
 at_limit most count reached = grind (arith, nat_tests)
 
@@ -31,12 +31,12 @@ pub not_at_limit : (most : Option ℕ) (count : ℕ) → is_reached most count �
     → most ≡ Some count → ⊥
 not_at_limit most count more is = grind (arith, nat_tests)
 
--- otherwise one more is wanted
+-- otherwise one more is within the limit
 pub within_more : (most : Option ℕ) (count : ℕ) → IsWithin most count
     → is_reached most count ≡ false → IsWithin most (count + 1)
 within_more most count within more = grind (arith, nat_tests)
 
--- all rows are wanted where more are wanted than there are
+-- if the limit is above the number of rows, all rows are listed
 pub first_rows-all : (most : Option ℕ) (rows : List Row) → IsWithin most (length rows + 1)
     → first_rows most rows ≡ rows
 first_rows-all most rows below = grind (arith, take_all)
@@ -46,17 +46,17 @@ pub first_end-all : (most : Option ℕ) (rows : List Row) (end : WalkEnd)
     → first_end most rows end ≡ end
 first_end-all most rows end below = grind (arith, nat_tests)
 
--- and the end is none where no more are wanted
+-- if the limit is within the rows, the listing ends with `Done`
 pub first_end-none : (count : ℕ) (rows : List Row) (end : WalkEnd) → count ≤ length rows
     → first_end (Some count) rows end ≡ Done
 first_end-none count rows end within = grind (arith, nat_tests)
 
--- no row is left where no more are wanted
+-- if no row within the limit remains, the count is the number of rows
 pub none_left : (most : Option ℕ) (count : ℕ) (rows : List Row) → IsWithin most (count + 1)
     → drop count (first_rows most rows) ≡ [] → length rows ≤ count
 none_left most count rows below none = grind (arith, length-drop, length-take, ap length none)
 
--- the next row is wanted where more are
+-- the next row is listed if the limit is not reached
 pub first_row-first_rows : (most : Option ℕ) (k : ℕ) (walk : List Row) → IsWithin most (k + 1)
     → first_row (drop k (first_rows most walk)) ≡ first_row (drop k walk)
 first_row-first_rows None k walk below = refl
@@ -71,14 +71,14 @@ first_row-first_rows (Some n) k walk below = fewer n k walk below
 
 -- ---- over any controller
 
--- since a listing began: for no more calls than for the records that were handed out
+-- since the listing began: the calls are within the bound for the records returned
 pub record HasCalled (each count : ℕ) (begun now : CursorState) (s s' : Seen) : Type 0 where
   pub keeps : KeepsListing begun now
   pub calls : s'.calls + set.len begun.ids * each + digits now.part
       ≤ s.calls + set.len now.ids * each + digits begun.part
   pub ids : set.len now.ids ≡ set.len begun.ids + count
 
--- each record that is handed out is one id more
+-- each returned record adds one id
 pub len-next_ids : (now next : CursorState) (row : Row) → HandsOut now next row
     → set.len next.ids ≡ set.len now.ids + 1
 len-next_ids now next row hands =
@@ -87,7 +87,7 @@ len-next_ids now next row hands =
 is_place : (next : ℕ) → next < 65536 → IsPlace (place_after next)
 is_place next fits = grind (arith, nat_tests)
 
--- no more records are asked for than there are ids
+-- at most as many records are requested as there are ids
 at_most_all : (rows bound : ℕ) → rows ≤ 65536 → rows * bound ≤ 65536 * bound
 at_most_all rows bound most = mul-le rows bound 65536 bound most (omega arith)
 
@@ -96,7 +96,7 @@ if_ok : {T E : Type 0} {P : T → Type 0} (result : Result T E) → ((value : T)
 if_ok (Ok value) holds = holds value
 if_ok (Err e) holds = tt
 
--- a listing that stops after a record
+-- the listing stops after a record
 pub called_stopped : (each count : ℕ) (most : Option ℕ) (begun now : CursorState) (s s' : Seen)
     (result : Result ℕ Failure) → HasCalled each count begun now s s'
     → ListingCalls each most begun now s s' result
@@ -105,7 +105,7 @@ called_stopped each count most begun now s s' result called = record {
   some = if_ok result (λ n limit. called.calls);
 }
 
--- a step that hands out nothing
+-- a step that returns no record
 abbrev pub HandsNothing : Result (Option Row) Ended → Type 0
 HandsNothing (Ok (Some row)) = ⊥
 HandsNothing _ = Unit {0}
@@ -118,7 +118,7 @@ ids_kept : (now next : CursorState) (result : Result (Option Row) Ended) → Han
     → StepLeaves now next result → next.ids ≡ now.ids
 ids_kept now next result none leaves = grind arith
 
--- a step of a listing over this shelf, with these tries, where each record takes so many calls at most
+-- a step of a listing over this shelf with these tries; `each` is the largest number of calls for a record
 module _ (later : ℕ) {tries each count : ℕ} {shelf : Shelf} {begun now next : CursorState}
     {s s' s'' : Seen} {result : Result (Option Row) Ended}
     (each_is : each ≡ step_call_bound tries (largest_len shelf) + later)
@@ -135,7 +135,7 @@ module _ (later : ℕ) {tries each count : ℕ} {shelf : Shelf} {begun now next 
     place = λ from. place (called.keeps.place from);
   }
 
-  -- after a record, and what is asked for on account of it
+  -- after a record, and its reading or inventory
   pub called_more : {row : Row} → (last : Seen) → result ≡ Ok (Some row)
       → last.calls ≤ s''.calls + later
       → HasCalled each (count + 1) begun next s last
@@ -149,7 +149,7 @@ module _ (later : ℕ) {tries each count : ℕ} {shelf : Shelf} {begun now next 
         ids = omega (arith, more, called.ids);
       }
 
-  -- a listing whose last step handed out nothing
+  -- the last step of the listing returned no record
   pub called_ended : HandsNothing result → KeepsListing begun next
   called_ended none = kept_on (rw (ids_kept now next result none step.leaves) called.keeps.room) (place_kept now next result none step.leaves)
 
@@ -176,26 +176,26 @@ module _ (form : Form) (store : Store) (tries : ℕ) where
   calls_for-append [] rest = omega arith
   calls_for-append (d ∷ done) rest = omega (arith, calls_for-append done rest)
 
-  -- those for the first rows, and for the rows after them
+  -- the calls for the first rows, and for the rows after them
   pub calls_split : (size : ℕ) (walk : List Row)
       → calls_for form store tries (take size walk) + calls_for form store tries (drop size walk)
       ≡ calls_for form store tries walk
   calls_split size walk = sym (calls_for-append (take size walk) (drop size walk)) ∙ ap (calls_for form store tries) (take-append-drop size walk)
 
-  -- a step for the next row, or one that finds none
+  -- a step for the next row, or a step that finds no row
   pub next_calls : (rows : List Row) → step_call_bound tries (len_of (first_row rows))
       ≤ calls_for form store tries rows + step_call_bound tries 0
   next_calls rows = grind arith
 
 -- ---- rows
 
--- the place after some rows, and then after more
+-- the place after some rows, then after more rows
 pub place_after_rows-append : (start : Place) (done rest : List Row)
     → place_after_rows start (done ++ rest) ≡ place_after_rows (place_after_rows start done) rest
 place_after_rows-append start [] rest = refl
 place_after_rows-append start (d ∷ done) rest = place_after_rows-append (place_after d.next) done rest
 
--- the next of some rows, and those after it
+-- the first of some rows, and those after it
 first_is : (rows : List Row) (row : Row) → first_row rows ≡ Some row → rows ≡ row ∷ drop 1 rows
 first_is rows row is = grind arith
 

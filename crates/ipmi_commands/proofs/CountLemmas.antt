@@ -1,20 +1,20 @@
--- What an honest controller counts over several stretches of calls.
+-- The counts of an honest controller over several sequences of calls.
 use Rattle.std.proofs.Common.{◌≡◌, ℕ, ◌≤◌, arith}
 use Rattle.ipmi_commands.specs.Below.{Seen, IsHonest, StaysHonest, stays_refl, stays_trans}
 use Rattle.ipmi_commands.specs.Prelude.{AtEnd, Cause, CountsSo, EndsFor, IsFine}
 
--- over no call at all
+-- over no calls
 pub ends_here : {tries : ℕ} {IsPlain : Type 0} {s : Seen} {cause : Cause} → IsHonest s
     → CountsSo tries s s cause → IsFine cause → EndsFor tries IsPlain s s cause
 ends_here {s = s} honest counts fine = record { stays = stays_refl s honest; grows = omega arith; counts = counts; plain = λ p. fine }
 
--- what went well may end by this too
+-- a run without a failure may still end for this cause
 pub ends_as : {tries : ℕ} {IsPlain : Type 0} {s s' : Seen} {cause : Cause}
     → EndsFor tries IsPlain s s' AtEnd
     → CountsSo tries s s' cause → IsFine cause → EndsFor tries IsPlain s s' cause
 ends_as ends counts fine = record { stays = ends.stays; grows = ends.grows; counts = counts; plain = λ p. fine }
 
--- where no store is added in all, none is added in either part
+-- if no store is added in total, none is added in either sequence
 pub between : (s s' s'' : Seen) → StaysHonest s s' → StaysHonest s' s''
     → s''.stores_added ≡ s.stores_added
     → (s'.stores_added ≡ s.stores_added) × (s''.stores_added ≡ s'.stores_added)
@@ -26,7 +26,7 @@ counts_since : (tries : ℕ) (s s' s'' : Seen)
     → CountsSo tries s s'' cause
 counts_since tries s s' s'' later cause refusals troubles counts = grind arith
 
--- what came later ended so, and so did all
+-- the later calls ended for this cause, and so did all
 pub ends_since : {tries : ℕ} {IsPlain IsPlainLater : Type 0} {s s' s'' : Seen} {cause : Cause}
     → EndsFor tries IsPlain s s' AtEnd → (IsPlain → IsPlainLater)
     → EndsFor tries IsPlainLater s' s'' cause → EndsFor tries IsPlain s s'' cause

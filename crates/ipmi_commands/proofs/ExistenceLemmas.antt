@@ -1,4 +1,4 @@
--- What is printed has a text.
+-- Each item has a text.
 use Rattle.std.proofs.Common.{◌≡◌, ℕ, suc, Bool, true, false, cond, nat_eq, Option, None, Some, Result, Ok, Err, List, [], ◌∷◌, All, refl, arith}
 use Rattle.ipmi_bus.specs.Store.{Inventory, IsInventory, inventory_in}
 use Rattle.ipmi_records.specs.declared.sel.SelView.{SelView}
@@ -14,7 +14,7 @@ has_chosen : (chosen : Bool) (IsText : List ℕ → Type 0) → HasText IsText
 has_chosen true IsText has = has
 has_chosen false IsText has = ([], refl)
 
--- the inventories of a store are of bytes
+-- the inventories of a store consist of bytes
 inventory_bytes : (inventories : List Inventory) (id : ℕ) (bytes : List ℕ)
     → All IsInventory inventories → inventory_in inventories id ≡ Some bytes → AreBytes bytes
 inventory_bytes [] id bytes all is = cc is

@@ -1,23 +1,23 @@
--- The items of a plan, their texts, and what may be left where a run stops before or at one of them.
+-- The items of a plan, their texts, and the output if a run stops before or at one of them.
 use Rattle.std.proofs.Common.{◌≡◌, ℕ, ◌+◌, ◌<◌, List, [], ◌∷◌, ◌++◌, length, take, drop, refl, sym, ap, ◌∙◌, append_assoc, append-nil, take-add, take-append-drop}
 use Rattle.ipmi_commands.specs.Below.{Place, Row, place_after, place_after_rows, asked_at, TakesPart, Ending}
 use Rattle.ipmi_commands.specs.Prelude.{AreTexts, AtEnd, AtRecord, Cause, Dishonest, Form, GaveUp, HasFirstItems, IsAmong, Item, Leaves, IsStopAmong, NoMemory, NoOutput, OfRow, Plan, Printed, PrintsAll, Refused, row_items, Spot, spots_because_of, next_spots, Subject}
 
 -- ---- items and rows
 
--- those of some rows, and of the rows after them
+-- the items of some rows, and of the rows after them
 pub row_items-append : (form : Form) (start : Place) (done rest : List Row)
     → row_items form start (done ++ rest)
     ≡ row_items form start done ++ row_items form (place_after_rows start done) rest
 row_items-append form start [] rest = refl
 row_items-append form start (d ∷ done) rest = rw (row_items-append form (place_after d.next) done rest) refl
 
--- the item of a row that is asked for at this place
+-- the item of a row requested at this place
 abbrev pub row_item : Form → Place → Row → Item
 row_item form place row =
     record { subject = OfRow form row; spots = AtRecord (asked_at place) ∷ spots_because_of form row }
 
--- of the first rows, and the next one
+-- the items of the first rows, and of the next row
 pub row_items-next : (form : Form) (at : Place) (rows : List Row) (count : ℕ) (row : Row)
     (rest : List Row) → drop count rows ≡ row ∷ rest
     → row_items form at (take (count + 1) rows)
@@ -25,7 +25,7 @@ pub row_items-next : (form : Form) (at : Place) (rows : List Row) (count : ℕ) 
     ++ row_item form (place_after_rows at (take count rows)) row ∷ []
 row_items-next form at rows count row rest is = rw (take-add count 1 rows, is) (row_items-append form at (take count rows) (row ∷ []))
 
--- and of those after the first ones
+-- the items of the first rows, and of the rows after them
 pub row_items-split : (form : Form) (at : Place) (rows : List Row) (count : ℕ)
     → row_items form at rows ≡ row_items form at (take count rows)
     ++ row_items form (place_after_rows at (take count rows)) (drop count rows)
@@ -34,7 +34,7 @@ row_items-split form at rows count =
 
 -- ---- texts
 
--- after some items
+-- a plan with other items before its own
 abbrev pub after_items : List Item → Plan → Plan
 after_items first p = record { items = first ++ p.items; end = p.end; end_spots = p.end_spots }
 
@@ -50,7 +50,7 @@ module _ (IsText : Subject → List ℕ → Type 0) where
     joined = rw are.joined (append_assoc are.first are.rest b);
   }
 
-  -- what is printed after what was printed
+  -- printing some items, then more
   pub printed_joined : (items more : List Item) (old text new : List ℕ)
       → Printed IsText items old text → Printed IsText more text new
       → Printed IsText (items ++ more) old new
@@ -70,9 +70,9 @@ module _ (IsText : Subject → List ℕ → Type 0) where
   abbrev pub no_items : (p : Plan) (old new : List ℕ) → new ≡ old → HasFirstItems IsText p old new
   no_items p old new same = record { done = []; rest = p.items; items_are = refl; printed = none_printed old new same }
 
-  -- ---- where a run stops
+  -- ---- a run that stops
 
-  -- what may be given up or refused, or memory wanted, after some items
+  -- after some items, the run gives up, is refused, or is out of memory
   pub stops_after : (p : Plan) (old new : List ℕ) (ending : Ending) (cause : Cause)
       (first : HasFirstItems IsText p old new) → IsStopAmong (next_spots first.rest p.end_spots) cause
       → Leaves IsText p old new ending cause
@@ -81,7 +81,7 @@ module _ (IsText : Subject → List ℕ → Type 0) where
   stops_after p old new ending NoMemory first may = first
   stops_after p old new ending _ first may = absurd may
 
-  -- a text of the next item was written in part
+  -- a part of the next item's text was written
   pub cut_after : (p : Plan) (old whole new : List ℕ) (ending : Ending)
       (first : HasFirstItems IsText p old whole) (item : Item) (later : List Item) (text : List ℕ)
       → first.rest ≡ item ∷ later → IsText item.subject text → 0 < length text
@@ -89,10 +89,10 @@ module _ (IsText : Subject → List ℕ → Type 0) where
   cut_after p old whole new ending first item later text next is some part =
       record { whole = whole; first = first; item = item; later = later; next = next; text = text; is_text = is; some = some; part = part }
 
--- ---- what is left by one plan is left by another
+-- ---- an output that one plan allows is allowed by another
 
--- the first items of the one were printed: so were the first of the other, and what comes next has these spots and texts,
--- perhaps more
+-- if the first items of the one plan were printed, so were the first items of the other, and the next item has at least these
+-- spots and texts
 pub record IsCarried (IsText : Subject → List ℕ → Type 0) (p q : Plan) (old new : List ℕ)
     (rest : List Item) : Type 0 where
   pub first : HasFirstItems IsText q old new
@@ -119,7 +119,7 @@ leaves_carried IsText p q old old' new ending ending' NoOutput carry all leaves 
     cut_after IsText q old' leaves.whole new ending' at.first next.0 next.1 leaves.text next.2 next.3 leaves.some leaves.part
 leaves_carried IsText p q old old' new ending ending' Dishonest carry all leaves = absurd leaves
 
--- after some items that were printed
+-- a plan after items that were printed
 pub leaves_joined : (IsText : Subject → List ℕ → Type 0) (done : List Item) (p : Plan)
     (old text new : List ℕ) (ending : Ending) (cause : Cause) → Printed IsText done old text
     → Leaves IsText p text new ending cause → Leaves IsText
@@ -137,7 +137,7 @@ leaves_joined IsText done p old text new ending cause before leaves = leaves_car
     })
     (λ is all. (printed_joined IsText done p.items old text new before all.0, all.1)) leaves
 
--- by a longer one, where each spot after some of its items is one there
+-- a longer plan with at least the same spots after each of the items
 pub leaves_longer : (IsText : Subject → List ℕ → Type 0) (p q : Plan) (more : List Item)
     → q.items ≡ p.items ++ more
     → ((spot : Spot) (rest : List Item) → IsAmong (next_spots rest p.end_spots) spot

@@ -1,4 +1,4 @@
--- The last entries of a shelf: a walk that counts them, and a second one that passes those before them.
+-- The last entries of a shelf: one walk counts the entries, a second one skips those before the last.
 use Rattle.std.proofs.Common.{◌≡◌, ℕ, ◌+◌, ◌-◌, ◌<◌, ◌≤◌, Option, None, Some, IfOk, Result, Ok, Err, List, [], ◌∷◌, ◌++◌, length, take, drop, refl, sym, ap, ◌∙◌, append_assoc, append-nil, arith, length-append, length-drop, length-take-le, take-append-drop}
 use Rattle.std.proofs.lemmas.List.{nil_from_length}
 use Rattle.std.proofs.Math.Seq.{drop-nil}
@@ -10,9 +10,9 @@ use Rattle.ipmi_commands.proofs.ItemLemmas.{IsCarried, leaves_carried, no_items,
 use Rattle.ipmi_commands.proofs.ListingLemmas.{fresh_along, fresh_ends, holds_none}
 use Rattle.ipmi_commands.proofs.SpotLemmas.{among_after, quiet_there, spots_at_walk_end-joined, spots_of_rows-split}
 
--- ---- the spots of what comes first
+-- ---- the spots of the first item
 
--- what comes first along rows, or after them, is asked for at a spot of theirs
+-- the spots of the first item along rows, or after them, are spots of the rows
 first_there : (entries : Entries) (start : Place) (rows : List Row) (ends : List Spot)
     (spot : Spot) → IsAmong (next_spots (row_items (Form.EntryLine entries) start rows) ends) spot
     → IsAmong (spots_of_rows start rows ++ ends) spot
@@ -52,7 +52,7 @@ module _ (IsText : Subject → List ℕ → Type 0) (spots : List Spot) (p : Pla
       (λ whole first. widened old whole first.done first.rest first.items_are first.printed)
       (λ is all. (grind (arith, all.0), ends all.1)) leaves
 
--- the listing of the last entries leaves what the plan allows
+-- the plan allows the output of the listing of the last entries
 last_leaves : (entries : Entries) (store : Store) (n k : ℕ) (start : Place)
     (walk : List Row) (old new : List ℕ) (ending : Ending) → k ≡ length walk - n
     → IsAllowed (IsTextOver store) (listing_plan (listing (Form.EntryLine entries) (place_after_rows start (take k walk)) None) (drop k walk) Done) old new ending
@@ -65,14 +65,14 @@ last_leaves entries store n k start walk old new ending is allowed =
     (λ spot among. rw (spots_of_rows-split k start walk ends) (among_after (spots_of_rows start (take k walk)) (spots_of_rows place (drop k walk) ++ ends) spot (first_there entries place (drop k walk) ends spot (rw joined at among))))
     old new ending ending (cause_of ending) (λ is. is) allowed)
 
--- ---- passed entries
+-- ---- skipped entries
 
 calls_for-named : (entries : Entries) (store : Store) (tries : ℕ) (rows : List Row)
     → calls_for (Form.EntryLine entries) store tries rows ≡ calls_for Form.Passed store tries rows
 calls_for-named entries store tries [] = refl
 calls_for-named entries store tries (row ∷ rows) = rw (calls_for-named entries store tries rows) refl
 
--- nothing is printed of them
+-- nothing is printed for skipped entries
 no_text : (store : Store) (rows : List Row) (start : Place) (done rest : List Item) (text : List ℕ)
     → row_items Form.Passed start rows ≡ done ++ rest → AreTexts (IsTextOver store) done text
     → text ≡ []
@@ -81,14 +81,14 @@ no_text store [] start (d ∷ done) rest text is are = cc is
 no_text store (row ∷ rows) start (d ∷ done) rest text is are =
     grind (arith, are.joined, are.is_first, no_text store rows (place_after row.next) done rest are.rest (cc is) are.is_rest)
 
--- the first of them were passed
+-- the first entries were skipped
 nothing : (store : Store) (most : Option ℕ) (start : Place) (walk : List Row)
     (done rest : List Item) (old new : List ℕ)
     → row_items Form.Passed start (first_rows most walk) ≡ done ++ rest
     → Printed (IsTextOver store) done old new → new ≡ old
 nothing store most start walk done rest old new is printed = printed.new_is ∙ rw (no_text store (first_rows most walk) start done rest printed.text is printed.are) (append-nil old)
 
--- a run that ends while they are passed
+-- a run that ends while entries are skipped
 module _ (entries : Entries) (store : Store) (n : ℕ) (most : Option ℕ) (start : Place)
     (walk : List Row) (end : WalkEnd) (end_is : first_end most walk end ≡ end) (old new : List ℕ) (failure : Failure) where
   abbrev passing : Plan
@@ -108,7 +108,7 @@ module _ (entries : Entries) (store : Store) (n : ℕ) (most : Option ℕ) (star
       })
       (λ is all. grind (arith, none_printed, rw end_is at all.1, nothing store most start walk _ [] old new (sym (append-nil _)) all.0)) leaves
 
--- ---- entries are counted
+-- ---- counting entries
 
 module _ {command : CommandState} {from : Option ℕ} {tries : ℕ} {begun now : CursorState}
     {c : Change}
@@ -136,7 +136,7 @@ counted_without_memory tries start s text honest = record {
   along = λ same walk end w ends. (λ entries n. no_items (IsTextOver s.store) (last_plan entries n start walk end) text text refl, omega arith);
 }
 
--- ---- entries are passed, and those after them listed
+-- ---- skipping entries, and listing those after them
 
 pub after_without_memory : (entries : Entries) (tries : ℕ) (start : Place) (passed : ℕ)
     (s : Seen) (text : List ℕ) → IsHonest s
@@ -148,7 +148,7 @@ after_without_memory entries tries start passed s text honest = record {
 
 module _ (entries : Entries) {command : CommandState} {from : Option ℕ}
     {tries passed : ℕ} {begun mid : CursorState} {s s' : Seen} {old text : List ℕ} (fresh : IsFresh command Form.Passed from begun) where
-  -- they could not be passed
+  -- skipping failed
   pub after_failed : (failure : Failure)
       → ListsHonestly Form.Passed tries (Some passed) begun mid (change s s' old text) (Err failure)
       → ListsAfter entries (start_of from) passed tries (change s s' old text) (Err failure)
@@ -171,7 +171,7 @@ module _ (entries : Entries) {command : CommandState} {from : Option ℕ}
         absurd (fewer ((fresh_along fresh lists same walk end w ends).0.all.count_is ∙ length-take-le passed walk (omega (arith, is))));
   }
 
-  -- those after them were listed
+  -- the entries after them were listed
   pub after_passed : (now : CursorState) (s'' : Seen) (new : List ℕ) (result : Result ℕ Failure)
       → 0 < mid.part → ListsHonestly Form.Passed tries (Some passed) begun mid
       (change s s' old text) (Ok passed)
@@ -194,7 +194,7 @@ module _ (entries : Entries) {command : CommandState} {from : Option ℕ}
 
 -- ---- the last entries
 
--- what ends a walk of them ends a listing of them
+-- a possible end of a walk is a possible end of a listing
 pub passed_ends : (entries : Entries) (seen : Seen) (ending : Ending)
     → EndsListing Form.Passed seen ending → EndsListing (Form.EntryLine entries) seen ending
 passed_ends entries seen ending ends = grind arith
@@ -205,7 +205,7 @@ second_walk_bound-some bound rows some = grind arith
 
 module _ (entries : Entries) (n : ℕ) (from : Option ℕ) (tries : ℕ) (some : 1 ≤ n) (s s' : Seen)
     (old text : List ℕ) where
-  -- entries could not be counted, or there is none
+  -- counting failed, or there are no entries
   pub last_prints_none : (result : Result ℕ Failure) → IfOk result (λ count. count ≡ 0)
       → s'.stores_added ≡ s.stores_added → CountsEntries (start_of from) tries
       (change s s' old text) result
@@ -217,7 +217,7 @@ module _ (entries : Entries) (n : ℕ) (from : Option ℕ) (tries : ℕ) (some :
   last_prints_none (Err failure) none same counts = λ walk end w ends.
       let along = counts.along same walk end w ends in (along.0 entries n, omega (arith, along.1))
 
-  -- those after the passed ones were listed
+  -- the entries after the skipped ones were listed
   pub last_prints : (s'' : Seen) (new : List ℕ) (count : ℕ) (ending : Ending) → (count ≡ 0 → ⊥)
       → StaysHonest s s' → s'.stores_added ≡ s.stores_added → s''.stores_added ≡ s'.stores_added
       → CountsEntries (start_of from) tries (change s s' old text) (Ok count)

@@ -1,4 +1,4 @@
--- A listing, one step of its cursor after another, and the piece of each record.
+-- A listing, step by step of its cursor, with the piece of each record.
 use Rattle.std.proofs.Common.{◌≡◌, ◌≢◌, ◌⊎◌, inl, inr, ℕ, ◌+◌, ◌<◌, ◌≤◌, true, false, IsTrue, Option, None, Some, IfOk, Result, Ok, Err, List, [], ◌∷◌, ◌++◌, ◌==◌, ◌||◌, not, length, take, drop, refl, sym, ap, ◌∙◌, arith, take_all, length-drop, length-take-le, take-add, take-append-drop, Bool}
 use Rattle.std.proofs.lemmas.List.{drop-drop, take-take}
 use Rattle.std.specs.FinSet as set
@@ -13,31 +13,31 @@ use Rattle.ipmi_commands.proofs.ItemLemmas.{cut_after, one_printed, printed_join
 use Rattle.ipmi_commands.proofs.NameLemmas.{end_of-wrote, Wrote, wrote_more}
 use Rattle.ipmi_commands.proofs.SpotLemmas.{asked_first, end_spot, spots_at_walk_end-joined}
 
--- ---- the rows that are listed, where the cursor was after k rows of a walk
+-- ---- the listed rows, if the cursor was after k rows of a walk
 
--- where the first of them is asked for, and they
+-- the place of the first of them, and the rows
 abbrev from_here : Place → List Row → ℕ → Place
 from_here start walk k = place_after_rows start (take k walk)
 
 abbrev used : Option ℕ → List Row → ℕ → List Row
 used most walk k = first_rows most (drop k walk)
 
--- the first ones of them
+-- the first of them
 take_used : (most : Option ℕ) (count : ℕ) (rows : List Row) → IsWithin most count
     → take count (first_rows most rows) ≡ take count rows
 take_used None count rows within = refl
 take_used (Some n) count rows within = take-take count n rows within
 
--- the place after these
+-- the place after them
 place_here : (most : Option ℕ) (count : ℕ) (start : Place) (walk : List Row) (k : ℕ)
     → IsWithin most count → place_after_rows (from_here start walk k) (take count (used most walk k))
     ≡ place_after_rows start (take (k + count) walk)
 place_here most count start walk k within =
     rw (take_used most count (drop k walk) within, take-add k count walk) (sym (place_after_rows-append start (take k walk) (take count (drop k walk))))
 
--- ---- what holds so far
+-- ---- the state so far
 
--- along a walk: the cursor is after so many rows more, of which so many are printed, and so many calls are left
+-- along a walk: the number of rows passed, the number printed of them, and the number of calls left
 pub record WentAlong (form : Form) (tries : ℕ) (most : Option ℕ) (passed printed calls_left : ℕ)
     (begun now : CursorState) (c : Change) (start : Place) (walk : List Row) (k : ℕ) : Type 0 where
   pub stands : StandsAt (rows_of (shelf_of form) c.seen.store) start walk (k + passed) now
@@ -46,7 +46,7 @@ pub record WentAlong (form : Form) (tries : ℕ) (most : Option ℕ) (passed pri
   pub are_printed : Printed (IsTextOver c.seen.store)
       (row_items form (from_here start walk k) (take printed (used most walk k))) c.old c.new
 
--- the rows that are wanted and not handed out
+-- the rows within the limit that were not returned yet
 abbrev left_rows : Option ℕ → ℕ → List Row → ℕ → List Row
 left_rows most count walk k = drop count (used most walk k)
 
@@ -61,7 +61,7 @@ pub record Went (form : Form) (tries : ℕ) (most : Option ℕ) (count : ℕ) (b
       (λ start walk end k. WentAlong form tries most count count
       (calls_for form c.seen.store tries (left_rows most count walk k)) begun now c start walk k)
 
--- a listing that goes on
+-- a listing that continues
 pub record Listed (form : Form) (tries : ℕ) (most : Option ℕ) (count : ℕ) (wrote : Bool)
     (begun now : CursorState) (c : Change) : Type 0 where
   pub shelf : now.shelf ≡ shelf_of form
@@ -73,7 +73,7 @@ pub record Listed (form : Form) (tries : ℕ) (most : Option ℕ) (count : ℕ) 
 
 -- ---- a step
 
--- what comes of its answer
+-- the cause of an ending, from the result of a step
 abbrev step_cause : Result (Option Row) Ended → Cause
 step_cause (Ok row) = AtEnd
 step_cause (Err ended) = cause_of (Err (Failure.Ended ended))
@@ -96,7 +96,7 @@ step_ends tries old new s s' result tries_are step = let counts = step_counts ol
     fine : (r : Result (Option Row) Ended) → NotGivenUpOrRefused r → IsFine (step_cause r)
     fine r is = grind arith
 
--- a step that handed out a record asked for it
+-- a step that returned a record made a call
 asks_something : (now next : CursorState) (row : Row) → StepLeaves now next (Ok (Some row))
     → AsksNothing now → ⊥
 asks_something now next row leaves asks = grind arith
@@ -111,7 +111,7 @@ current-kept : (shelf : Shelf) (s s' : Seen) → KeepsReservations s s'
     → current shelf s' ≡ current shelf s
 current-kept shelf s s' keeps = grind arith
 
--- what may stop at a spot of what comes later
+-- a stop at a later spot is a stop at one of all spots
 may_later : (first : Spot) (spots : List Spot) (cause : Cause) → IsStopAmong spots cause
     → IsStopAmong (first ∷ spots) cause
 may_later first spots cause may = grind arith
@@ -126,11 +126,11 @@ abbrev LeavesHere : Store → Form → Option ℕ → Place → List Row → Wal
     → Type 0
 LeavesHere store form most start walk end k old new ending = IsAllowed (IsTextOver store) (plan_here form most start walk end k) old new ending
 
--- so many of the rows were printed
+-- the first `count` rows were printed
 abbrev PrintsFirst : Store → Form → Option ℕ → ℕ → Place → List Row → ℕ → List ℕ → List ℕ → Type 0
 PrintsFirst store form most count start walk k old new = Printed (IsTextOver store) (row_items form (from_here start walk k) (take count (used most walk k))) old new
 
--- their items, and those of the others
+-- the items of the first rows, and those of the other rows
 abbrev first_items : (form : Form) (store : Store) (most : Option ℕ) (count : ℕ) (start : Place)
     (walk : List Row) (end : WalkEnd) (k : ℕ) (old new : List ℕ)
     → PrintsFirst store form most count start walk k old new
@@ -153,7 +153,7 @@ ok_end P form wrote value holds = grind arith
 module _ {form : Form} {tries : ℕ} {most : Option ℕ} {count : ℕ} {wrote : Bool}
     {begun now : CursorState} {s s' : Seen} {old new : List ℕ}
     (kept : Listed form tries most count wrote begun now (change s s' old new)) where
-  -- all that is wanted was listed
+  -- all rows within the limit were listed
   all_listed : (store : Store) (start : Place) (walk : List Row) (end : WalkEnd) (k : ℕ)
       (e : WalkEnd)
       (result : Result ℕ Failure) → count ≡ length (used most walk k)
@@ -172,7 +172,7 @@ module _ {form : Form} {tries : ℕ} {most : Option ℕ} {count : ℕ} {wrote : 
       → ending_of (end_of form wrote count) ≡ rows_end form rows Done
   ends_by_name store start rows printed = end_of-wrote form wrote count store start rows old new printed kept.has_written
 
-  -- as many were listed as are wanted
+  -- the limit is reached
   pub listing_full : is_reached most count ≡ true
       → Lists form tries most begun now (change s s' old new) (end_of form wrote count)
   listing_full full =
@@ -232,13 +232,13 @@ module _ {form : Form} {tries : ℕ} {most : Option ℕ} {count : ℕ} {wrote : 
           (k + count) now next result
       stepped = (rw same_rows at ((step.walks (kept.went h).ends.stays.honest).follows parts.1 start walk end (k + count))) on.walks on.ends there.stands
 
-      -- it asks for the next row, or for none, or asks nothing
+      -- the step requests the next row or no row, or makes no call
       asks_next : AsksNothing now
           ⊎ (len_of (look (rows_of (shelf_of form) s.store) (asked_at now.place))
           ≡ len_of (first_row (drop (k + count) walk)))
       asks_next = (rw same_rows at (step.asks (kept.went h).ends.stays.honest start walk end (k + count))) on.walks on.ends there.stands
 
-      -- for as many calls as the next row, or none, may take
+      -- its calls are within the bound for the next row, or for no row
       for_next : len_of (look (rows_of (shelf_of form) s.store) (asked_at now.place))
           ≡ len_of (first_row (drop (k + count) walk))
           → s''.calls + digits next.part ≤ s'.calls
@@ -248,7 +248,7 @@ module _ {form : Form} {tries : ℕ} {most : Option ℕ} {count : ℕ} {wrote : 
       next_row : first_row (left_rows most count walk k) ≡ first_row (drop (k + count) walk)
       next_row = first_row-first_rows most count (drop k walk) below ∙ ap first_row (drop-drop count k walk)
 
-      -- and so all of the listing
+      -- so all calls of the listing are within the bound
       in_all : CallsAlong form tries (used most walk k) begun s s''
       in_all part =
           let calls = there.calls in
@@ -272,7 +272,7 @@ module _ {form : Form} {tries : ℕ} {most : Option ℕ} {count : ℕ} {wrote : 
           let rest : length (drop k walk) ≡ count = omega (arith, length-drop k walk, all) in
           all_listed s.store start walk end k e listed (count_all all) (first_end-all most (drop k walk) end (rw rest below) ∙ is) cause ends_so there.are_printed
 
-      -- where nothing came
+      -- the step returned no record
       where_asked : (n : ℕ) → FailsAt n now next → (k + count ≡ length walk → MayFail end now.place)
           → StopsAt (AtRecord n) (IsTextOver s.store) (plan_here form most start walk end k) old new
       where_asked n fails may =
@@ -295,7 +295,7 @@ module _ {form : Form} {tries : ℕ} {most : Option ℕ} {count : ℕ} {wrote : 
           }
 
   module _ {next : CursorState} {s'' : Seen} (wanted : is_reached most count ≡ false) where
-    -- the cursor gave no record, for this reason
+    -- the cursor returned no record, for this reason
     pub listing_ended : (ended : Ended) → IsStep now next s' s'' (Err ended)
         → Lists form tries most begun next (change s s'' old new) (Err (Failure.Ended ended))
     listing_ended ended step = record {
@@ -337,7 +337,7 @@ module _ {form : Form} {tries : ℕ} {most : Option ℕ} {count : ℕ} {wrote : 
       };
     }
 
-    -- ---- a record was handed out, and its piece was asked for
+    -- ---- a record was returned, and its piece was requested
 
     module _ {row : Row} {last : Seen} (step : IsStep now next s' s'' (Ok (Some row)))
         (asked : last.calls ≤ s''.calls + most_after form tries) where
@@ -376,7 +376,7 @@ module _ {form : Form} {tries : ℕ} {most : Option ℕ} {count : ℕ} {wrote : 
                 | inr is ↦ omega (arith, piece, rw row_is at (there wanted step h first on).calls, rw (stepped wanted step h first on).0 at (for_next wanted step h first on is))
               ]
 
-          -- what was printed before it
+          -- the output before it
           abbrev before : HasFirstItems (IsTextOver s.store)
               (plan_here form most start walk end k) old new
           before = first_items form s.store most count start walk end k old new (there wanted step h (apart same).0 on).are_printed
@@ -386,7 +386,7 @@ module _ {form : Form} {tries : ℕ} {most : Option ℕ} {count : ℕ} {wrote : 
               ∷ row_items form (place_after row.next) (left_rows most (count + 1) walk k)
           at_item = rw row_is refl
 
-      -- a listing that stops at it
+      -- the listing stops at it
       stopped : (failure : Failure) (text : List ℕ) → (IsHonest s''
           → AsksAt (spots_because_of form row) tries s'' last (cause_of (Err failure)))
           → (IsHonest s → last.stores_added ≡ s.stores_added → (p : Plan)
@@ -424,7 +424,7 @@ module _ {form : Form} {tries : ℕ} {most : Option ℕ} {count : ℕ} {wrote : 
             → IsRowText s.store form row piece_text
         is_text h same = let found = finds (honest_step wanted step h).stays.honest in rw (store_is (λ h. (finds h).asks) h same) at (found.is (apart (λ h. (finds h).asks) h same).1)
 
-        -- the piece was written in part
+        -- a part of the piece was written
         pub listing_cut : (text : List ℕ) → 0 < length piece_text → TakesPart new text piece_text
             → Lists form tries most begun next (change s last old text) (Err Failure.WriteFault)
         listing_cut text some part = stopped Failure.WriteFault text (λ h. asks_as (finds h).asks (finds h).asks.ends.counts tt) (λ h same p first place later at.
@@ -460,11 +460,11 @@ module _ {form : Form} {tries : ℕ} {most : Option ℕ} {count : ℕ} {wrote : 
               };
         }
 
--- ---- a cursor of its own
+-- ---- a new cursor
 
 module _ {command : CommandState} {form : Form} {from : Option ℕ} {begun : CursorState}
     (fresh : IsFresh command form from begun) where
-  -- it holds no reservation, and has handed out none
+  -- it holds no reservation, and has returned no record
   pub holds_none : (s : Seen) → CursorHoldsCurrent begun s
   holds_none s = record { held = λ n held. let h = sym (ap (λ (x : CursorState). x.reservation) fresh.is) ∙ held in cc h }
 

@@ -1,4 +1,4 @@
--- Whether a record of a name was found, by whether anything was written.
+-- A record with the name was found if and only if something was written.
 use Rattle.std.proofs.Common.{◌≡◌, ℕ, ◌<◌, ◌==◌, ◌||◌, not, Bool, true, false, Option, Result, Ok, Err, List, [], ◌∷◌, ◌++◌, length, refl, ap, ◌∙◌, append-nil, arith, length-append}
 use Rattle.ipmi_commands.specs.Below.{Place, Reading, Row, SdrFault, SdrView, sdr_view_of, Store, Done, place_after}
 use Rattle.ipmi_commands.specs.Prelude.{AreTexts, end_of, ending_of, Form, IfChosen, IsBlockIn, IsBlockOfName, IsTextOver, Printed, reading_for, row_items, rows_end, some_has_name, view_has_name, Wording}
@@ -16,7 +16,7 @@ wrote_more wrote old new more (b ∷ text) has is = grind (arith, ap length is �
 
 -- ---- texts of records with a name
 
--- a block is not empty, as it begins with the word Record, nor is an object, as it ends with a line feed
+-- a block is not empty, as it begins with the word Record; an object is not empty, as it ends with a line feed
 block_some : (wording : Wording) (id : ℕ) (view : SdrView) (reading : Option Reading) (text : List ℕ)
     → IsBlockIn wording id view reading text → Wrote true [] text
 block_some Wording.Codes id view reading text is = grind (arith, length-append, is)
@@ -40,7 +40,7 @@ module _ (wording : Wording) (name : List ℕ) (store : Store) where
   row_wrote id (Ok view) text is = chosen_wrote _ id view text is
   row_wrote id (Err fault) text is = is
 
-  -- something is printed where a row has the name
+  -- something is printed if a row has the name
   name_wrote : (start : Place) (rows : List Row) (text : List ℕ)
       → AreTexts (IsTextOver store) (row_items (Form.Block wording name) start rows) text
       → Wrote (some_has_name name rows) [] text
@@ -49,7 +49,7 @@ module _ (wording : Wording) (name : List ℕ) (store : Store) where
       rw are.joined (wrote_both _ _ are.first are.rest (row_wrote row.id (sdr_view_of row.bytes) are.first are.is_first)
       (name_wrote (place_after row.next) rows are.rest are.is_rest))
 
--- what was written tells how the listing of the rows ends
+-- whether something was written decides the end of the listing
 pub end_of-wrote : (form : Form) (wrote : Bool) (count : ℕ) (store : Store) (start : Place)
     (rows : List Row) (old new : List ℕ)
     → Printed (IsTextOver store) (row_items form start rows) old new → Wrote wrote old new

@@ -8,9 +8,9 @@ use Rattle.ipmi_commands.proofs.CountLemmas.{ends_here}
 use Rattle.ipmi_commands.proofs.ItemLemmas.{no_items, none_printed}
 use Rattle.ipmi_commands.proofs.ListingLemmas.{fresh_along, fresh_ends}
 
--- ---- nothing is asked for
+-- ---- a page that makes no call
 
--- a page of no record
+-- a page of size 0
 pub page_of_none : (form : Form) (place : Place) (tries : ℕ) (s : Seen) (text : List ℕ) → IsHonest s
     → IsPage form place tries (Some 0) (change s s text text) (end_of form false place)
 page_of_none form place tries s text honest =
@@ -25,12 +25,12 @@ page_of_none form place tries s text honest =
       };
     }
 
--- no walk goes from where no row is
+-- from a place without a row the walk is empty
 pub no_walk : (rows : List Row) (start : Place) (walk : List Row) → row_at start rows ≡ None
     → IsWalk rows start walk → walk ≡ []
 no_walk rows start walk none w = grind arith
 
--- a page for whose cursor no memory was left
+-- a page whose cursor is out of memory
 pub page_without_memory : (form : Form) (place : Place) (tries : ℕ) (most : Option ℕ) (s : Seen)
     (text : List ℕ) → IsHonest s
     → IsPage form place tries most (change s s text text) (Err Failure.OutOfMemory)
@@ -40,9 +40,9 @@ page_without_memory form place tries most s text honest = record {
   along = λ same walk end w ends. record { leaves = no_items (IsTextOver s.store) (listing_plan (listing form place most) walk end) text text refl; calls = omega arith; goes_on = tt };
 }
 
--- ---- a page by a cursor
+-- ---- a page with a cursor
 
--- where the next page begins
+-- the place where the next page begins, or why the page failed
 abbrev pub page_result : Place → Result ℕ Failure → Result Place Failure
 page_result next (Ok count) = Ok next
 page_result next (Err failure) = Err failure
@@ -73,7 +73,7 @@ page_by_cursor (Err failure) fresh some lists = record {
 
 -- ---- pages, one after another
 
--- what the pages that are left do is what all of them do
+-- the result of the remaining pages leads to the result of all pages
 abbrev pub LeadsTo : Form → ℕ → List ℕ → List ℕ → Place → Place → Seen → Seen → List ℕ → List ℕ
     → Type 0
 LeadsTo form tries all left start now s s' old text =
@@ -97,7 +97,7 @@ module _ (form : Form) (tries : ℕ) (all : List ℕ) (k : ℕ) (start now : Pla
       → ArePages form tries start all (change s s'' old text') (Err failure)
   last_leads failure page = leads_here s'' text' (Err failure) (inl (failure, refl, page))
 
--- the calls of a page, none where it wants no record, and of those after it
+-- the calls of a page, none if its size is 0, and of the pages after it
 pub calls_of_page : (size : ℕ) (sizes : List ℕ) (more most : ℕ) (s s' : Seen)
     → s'.calls ≤ s.calls + more + most → (Some size ≡ Some 0 → s' ≡ s)
     → s'.calls + pages_made sizes * most ≤ s.calls + more + pages_made (size ∷ sizes) * most

@@ -1,4 +1,4 @@
--- A task of one text, and all inventories: a text and then a listing.
+-- Tasks that print one text, and the task of all inventories: one text, then a listing.
 use Rattle.std.proofs.Common.{◌≡◌, ℕ, ◌+◌, ◌≤◌, IsTrue, Option, None, Some, Result, Ok, Err, Vec, Global, List, [], ◌∷◌, ◌++◌, option_map, refl, arith}
 use Rattle.ipmi_commands.specs.Below.{fru_call_bound, Shelf, Place, First, Seen, IsHonest, Row, Store, info_of, inventory_of, WalkEnd, Ending, Failure}
 use Rattle.ipmi_commands.specs.Run.{EndsInfo, EndsInventory}
@@ -6,9 +6,9 @@ use Rattle.ipmi_commands.specs.Prelude.{LacksInventory, LacksValue, AtEnd, AtRec
 use Rattle.ipmi_commands.proofs.CountLemmas.{between, ends_as, ends_since}
 use Rattle.ipmi_commands.proofs.ItemLemmas.{cut_after, leaves_joined, leaves_longer, no_items, one_printed, stops_after}
 
--- ---- a text that is found and written
+-- ---- writing a text
 
--- by how writing it ended
+-- the output, by the result of writing
 pub text_leaves : (IsText : Subject → List ℕ → Type 0) (subject : Subject) (spots : List Spot)
     (old new text : List ℕ) (ending : Ending) → IsText subject text
     → WritesText text old new ending → IsAllowed IsText (text_plan subject spots) old new ending
@@ -17,13 +17,13 @@ text_leaves IsText subject spots old new text (Err Failure.WriteFault) is writes
     let p = text_plan subject spots in cut_after IsText p old old new (Err Failure.WriteFault) (no_items IsText p old old refl) _ [] text refl is writes.0 writes.1
 text_leaves IsText subject spots old new text (Err _) is writes = absurd writes
 
--- that it was written, or not, is why it ended so
+-- the reason for the ending is the result of writing
 text_ends : (tries : ℕ) (IsPlain : Type 0) (s s' : Seen) (text old new : List ℕ) (ending : Ending)
     → EndsFor tries IsPlain s s' AtEnd → WritesText text old new ending
     → EndsFor tries IsPlain s s' (cause_of ending)
 text_ends tries IsPlain s s' text old new ending ends writes = grind (arith, ends_as)
 
--- what was not found is given up or refused before anything is printed, or memory is wanted
+-- if the text was not found: given up or refused before anything is printed, or out of memory
 none_leaves : (IsText : Subject → List ℕ → Type 0) (p : Plan) (text : List ℕ) (ending : Ending)
     → IsStopAmong (next_spots p.items p.end_spots) (cause_of ending) → IsAllowed IsText p text text ending
 none_leaves IsText p text ending may = stops_after IsText p text text ending (cause_of ending) (no_items IsText p text text refl) may
@@ -46,7 +46,7 @@ value_ends : (seen : Seen) (unread : Unread) → LacksValue unread seen
     → EndsInfo seen (Err (failure_of unread))
 value_ends seen unread says = grind arith
 
--- what is said of all that an info may come to
+-- the contract for each result of an info
 module _ (wording : Wording) (shelf : Shelf) (tries : ℕ) (s s' : Seen) (calls : s'.calls ≤ s.calls + (tries + 1)) where
   abbrev FoundInfo : Result (Option (Vec ℕ Global)) Unread → Type 0
   FoundInfo result = IsHonest s → Finds (λ store found. IsInfoText wording shelf (info_of shelf store) (option_map (λ text. text.items) found)) (AtRecord 0 ∷ []) tries s s' result
@@ -107,7 +107,7 @@ module _ (wording : Wording) (id : ℕ) (name : Option (List ℕ)) (tries : ℕ)
 
 -- ---- all inventories
 
--- it did not come to the end of that of device 0
+-- the inventory of device 0 was not finished
 first_leaves : (wording : Wording) (name : Option (List ℕ)) (store : Store) (walk : List Row) (end : WalkEnd) (old new : List ℕ)
     (failure : Failure) → IsAllowed (IsTextOver store) (inventory_plan wording 0 name) old new (Err failure)
     → IsAllowed (IsTextOver store) (inventories_plan wording name walk end) old new (Err failure)
@@ -134,7 +134,7 @@ first_run wording name tries s s' old new failure runs = record {
     of_device (Failure.Inventory id ended) ends = (wording, (refl, ends))
     of_device failure ends = grind arith
 
--- that of device 0, and then what a listing of the locators leaves
+-- the inventory of device 0, then the output of a listing of the locators
 pub inventories_run : (wording : Wording) (name : Option (List ℕ)) (tries : ℕ) (s s' s'' : Seen) (old text new : List ℕ)
     (next : Result Place Failure) → s''.calls ≤ s'.calls + most_on_walk (Form.Device wording) tries
     → EndsListing (Form.Device wording) s'' (ending_of next)

@@ -1,4 +1,4 @@
--- A run over an image, and an image written again.
+-- A run over an image, and rewriting an image.
 use Rattle.std.proofs.Common.{◌≡◌, ◌⊎◌, inl, inr, ℕ, ◌+◌, arith, Bool, true, false, IsTrue, Result, Ok, Err, List, [], refl, subst, sym}
 use Rattle.ipmi_commands.specs.Below.{Count, Failure, failure_of_image, ImageFault, Store, Seen, IsHonest, image_text_of, Ending}
 use Rattle.ipmi_commands.specs.Prelude.{after_names, AnswersJob, bytes_of_rows, change, Form, IsAllowed, is_rewrite, IsRewriting, IsTextOver, Job, Named, OfImage, OnNamed, OnPlan, Plan, rewrite_plan, Runs, RunsOver, walk_call_bound, Wording, WritesText}
@@ -6,7 +6,7 @@ use Rattle.ipmi_commands.proofs.NamedLemmas.{named_all}
 use Rattle.ipmi_commands.proofs.ItemLemmas.{no_items}
 use Rattle.ipmi_commands.proofs.PerformLemmas.{text_leaves}
 
--- what holds of the plan, whatever the tries
+-- a fact about the plan that does not depend on the tries
 named_kept : (Holds : Plan → Type 0) (wording : Wording) (records : List (List ℕ)) (named : Named) (tries : ℕ)
     (store : Store) (More : Plan → ℕ → Type 0)
     → ((plan : Plan) (calls : ℕ) → More plan calls → Holds plan)
@@ -41,7 +41,7 @@ over_image job tries store s s' old new ending runs_ honest plain is runs =
       ends.plain plain,
     )
 
--- an image written again
+-- rewriting an image
 pub rewritten : (store : Store) (old new : List ℕ) (ending : Ending)
     → WritesText (image_text_of store) old new ending → IsRewriting store old new ending
 rewritten store old new ending writes = record { allowed = text_leaves (IsTextOver store) OfImage [] old new (image_text_of store) ending refl writes; unwritten = λ out. grind arith }
@@ -57,7 +57,7 @@ plan_all Holds (Job.Named wording named) store holds = λ records end w ends.
 plan_all Holds (Job.AllInventories wording name) store holds = λ walk end w ends. holds _
 plan_all Holds _ store holds = holds _
 
--- whatever it is, memory may be wanted
+-- each job may be out of memory
 without_memory : (rewrites : Bool) (job : Job) (store : Store) (text : List ℕ)
     → RunsOver rewrites job store text text (Err Failure.OutOfMemory)
 without_memory true job store text = record { allowed = no_items (IsTextOver store) rewrite_plan text text refl; unwritten = λ out. refl }

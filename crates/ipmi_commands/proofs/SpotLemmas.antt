@@ -3,24 +3,24 @@ use Rattle.std.proofs.Common.{◌≡◌, ◌≢◌, inl, inr, ℕ, zero, suc, �
 use Rattle.ipmi_commands.specs.Below.{Place, First, Id, End, Row, WalkEnd, EndsBy, place_after, place_after_rows, last_next, MayFail, asked_at}
 use Rattle.ipmi_commands.specs.Prelude.{AtRecord, first_rows, spots_at_walk_end, spots_because_of, spots_of_rows, Form, IsAmong, Item, row_items, Spot, next_spots}
 
--- after a row a walk does not stand at the start
+-- the place after a row is not the start
 pub not_first : (n : ℕ) (rows : List Row) → place_after_rows (place_after n) rows ≢ First
 not_first n [] at = (elim (n == 0xFFFF) as (λ b. cond b End (Id n) ≡ First → ⊥) [ true ↦ λ e. cc e | false ↦ λ e. cc e ]) at
 not_first n (row ∷ rows) at = not_first row.next rows at
 
--- the id that is asked for after rows whose last has a next one
+-- the id requested after rows whose last row has a next id
 asked_at-next : (n : ℕ) (rows : List Row) → last_next n rows ≢ 0xFFFF
     → asked_at (place_after_rows (place_after n) rows) ≡ last_next n rows
 asked_at-next n [] more = ap asked_at (ap (λ (b : Bool). cond b End (Id n)) (ne_eqb n 0xFFFF more))
 asked_at-next n (row ∷ rows) more = asked_at-next row.next rows more
 
--- what is asked for at the end of a walk is a spot of its end
+-- the id requested at the end of a walk is a spot of its end
 pub end_spot : (rows : List Row) (start : Place) (walk : List Row) (end : WalkEnd)
     → EndsBy rows start walk end → MayFail end (place_after_rows start walk)
     → IsAmong (spots_at_walk_end start walk end) (AtRecord (asked_at (place_after_rows start walk)))
 end_spot rows start walk end ends may = grind (arith, not_first, asked_at-next)
 
--- the end of more rows is that of the last of them
+-- the end after more rows is that of the last rows
 pub spots_at_walk_end-joined : (start : Place) (done rest : List Row) (end : WalkEnd)
     → spots_at_walk_end (place_after_rows start done) rest end ≡ spots_at_walk_end start (done ++ rest) end
 spots_at_walk_end-joined start [] rest end = refl
@@ -31,14 +31,14 @@ pub among_after : (spots ends : List Spot) (spot : Spot) → IsAmong ends spot
 among_after [] ends spot among = among
 among_after (first ∷ spots) ends spot among = inr (among_after spots ends spot among)
 
--- the id that is asked for first is a spot of what comes first
+-- the id requested first is a spot of the first item
 pub asked_first : (form : Form) (place : Place) (rows : List Row) (ends : List Spot)
     → (rows ≡ [] → IsAmong ends (AtRecord (asked_at place)))
     → IsAmong (next_spots (row_items form place rows) ends) (AtRecord (asked_at place))
 asked_first form place [] ends at_end = at_end refl
 asked_first form place (row ∷ rows) ends at_end = inl refl
 
--- ---- a walk in a form for which nothing is asked but the records
+-- ---- a walk in a form that requests only records
 
 pub spots_of_rows-split : (k : ℕ) (start : Place) (rows : List Row) (ends : List Spot)
     → spots_of_rows start rows ++ ends ≡ spots_of_rows start (take k rows)
@@ -48,7 +48,7 @@ spots_of_rows-split (suc k) start [] ends = refl
 spots_of_rows-split (suc k) start (row ∷ rows) ends = rw (spots_of_rows-split k (place_after row.next) rows ends) refl
 
 module _ (form : Form) (quiet : (row : Row) → spots_because_of form row ≡ []) where
-  -- the spots of what comes next, or after the rows, are spots of theirs
+  -- the spots of the next item, or after the rows, are spots of the rows
   quiet_spot : (rows : List Row) (start : Place) (done rest : List Item) (ends more : List Spot)
       (spot : Spot)
       → row_items form start rows ≡ done ++ rest → (IsAmong ends spot → IsAmong more spot)

@@ -11,6 +11,6 @@ invariant-records g l =
     × AsksAtMost l.cmd.part (g.C.Controller.seen l.fn.ctl) (g.C.Controller.seen l.ctl)
     × Listed l.form l.cmd.tries l.most l.count l.wrote l.fn.cursor l.cursor (change (g.C.Controller.seen l.fn.ctl) (g.C.Controller.seen l.ctl) (g.O.Sink.taken l.fn.out) (g.O.Sink.taken l.out))
 
--- the ids that the cursor can still hand out
+-- The number of ids that the cursor can still return.
 abbrev pub decreases-records : goal.decreases-records
 decreases-records g l = 65536 - set.len l.cursor.ids

@@ -4,7 +4,7 @@ use Rattle.ipmi_commands.specs.Prelude.{most_on_walk, IsPlace, pages_made}
 use Rattle.ipmi_commands.proofs.PageLemmas.{LeadsTo}
 use Rattle.ipmi_commands.proofs.pages.list_pages.Given as goal
 
--- whatever the pages that are left do, it is what all pages do together
+-- The result of the remaining pages is the result of all pages.
 abbrev pub invariant-pages : goal.invariant-pages
 invariant-pages g l =
     (g.O.Sink.faults l.out ≡ g.O.Sink.faults l.fn.out)
