@@ -1,9 +1,9 @@
--- Which rule an invalid image breaks, by how its beginning, its end or its faulty line looks.
+-- The rule that an invalid image breaks, from the appearance of its beginning, its end or its faulty line.
 use Rattle.std.specs.Prelude.{ℕ, List, [], codes}
 use Rattle.ipmi_image.specs.declared.image.ImageFault.{ImageFault}
 use Rattle.serdimko.specs.declared.looks.Looks.{Looks}
 
--- what is known of input that does not begin as an image
+-- the explanation for input that does not begin as an image
 abbrev pub header_words : Looks → List ℕ
 header_words Looks.Empty = codes " (it is empty)"
 header_words Looks.Compressed = codes " (compressed: unpack it first)"
@@ -43,13 +43,13 @@ id_words Looks.Inventory = codes " (no FRU device has the id FF)"
 id_words Looks.Reading = codes " (a LUN is 0 to 3)"
 id_words _ = codes " (no record has the id FFFF)"
 
--- what an earlier line has too
+-- what the line has in common with an earlier line
 abbrev pub twice_words : Looks → List ℕ
 twice_words Looks.Reading = codes " (an earlier line has this LUN and NUM)"
 twice_words Looks.Info = codes " (an earlier line has this info)"
 twice_words _ = codes " (an earlier line has this record id)"
 
--- how many bytes a line has to have
+-- the number of bytes that a line must have
 abbrev pub length_words : Looks → List ℕ
 length_words Looks.Event = codes " (sel takes 16 bytes)"
 length_words Looks.Reading = codes " (reading takes 4 bytes)"
@@ -62,7 +62,7 @@ end_words Looks.End = codes " (after 'end' a line feed is missing)"
 end_words Looks.Cut = codes " (it is cut off: its last line has no line feed)"
 end_words _ = codes " (its last line is not 'end')"
 
--- what a fault of an image means, given what the image looks like there
+-- the meaning of a fault of an image, given the appearance of the image there
 abbrev pub explanation : ImageFault → Looks → List ℕ
 explanation ImageFault.Header looks = header_words looks
 explanation (ImageFault.Line line) looks = line_words looks

@@ -17,17 +17,17 @@ use Rattle.serdimko.specs.Problem.{has_room, held_by, lines_seen, LiveState, liv
 use Rattle.serdimko.specs.declared.problem.Problem.{Problem}
 use Rattle.serdimko.specs.declared.watch.Watch.{Watch}
 
--- the text of a problem, which is UTF-8, so that nothing in it is replaced
+-- the text of a problem; it is UTF-8, so nothing in it is replaced
 abbrev pub message_of : List ℕ → Bool → Option Problem → Option (List ℕ)
 message_of name is_one None = None
 message_of name is_one (Some problem) = Some (utf8_lossy (problem_text name is_one problem))
 
--- the line says how the run ended, and how many objects it printed
+-- the line with the end of the run and the number of its objects
 abbrev pub IsEndLine : List Label → ℕ → List ℕ → Bool → Option Problem → List ℕ → Type 0
 IsEndLine labels count name is_one problem line =
     IsLineOf (end_members (status_of_problem problem) (message_of name is_one problem) count) labels line
 
--- what the output held, holds now, and has left to write: the whole line was written; or the output took only a part
+-- the contents of the output before and after, and the rest still to be written: the whole line was written, or only a part
 abbrev pub WritesEnd : List ℕ → List ℕ → List ℕ → List ℕ → Option Problem → Option Problem → Type 0
 WritesEnd line old new held problem last =
     ((new ≡ old ++ line) × (held ≡ []) × (last ≡ problem))

@@ -1,4 +1,4 @@
-//! The commands that this program has beside the specified ones, and the specified command lines that they stand for.
+//! The commands of this program that our `ipmitool` lacks, and the command lines of our `ipmitool` that they run.
 ghost use Rattle.std.specs.Prelude.{◌≡◌, ◌<◌, ◌++◌, ◌∷◌, ◌⊎◌, [], All, codes, drop, Err, IfOk, length, MatchResult, Ok, OnOk};
 ghost use Rattle.ipmi_command_line.specs.Command.{meaning_of};
 ghost use Rattle.ipmi_command_line.specs.declared.command.UsageFault.{UsageFault};
@@ -8,7 +8,7 @@ use crate::scan::Scan;
 use ipmi_command_line::{Command, UsageFault, Word, Words, command_of};
 use std::alloc::{AllocError, Global};
 
-/// Which words they are.
+/// The kind of a command line's words.
 #[derive(Clone, Copy)]
 enum Kind {
     /// `sel elist`, and perhaps a number.
@@ -19,11 +19,11 @@ enum Kind {
     Names,
     /// `fru list`.
     Devices,
-    /// Any others: those of the specified program, and those of no command.
+    /// Any others: those of our `ipmitool`, and those that are not a command.
     Others,
 }
 
-/// Specified command lines, and whether each is to print in words, if no objects are asked for.
+/// Command lines of our `ipmitool`, and whether they print in words, unless they print objects.
 #[derive(Drop)]
 pub(crate) struct Asked {
     pub(crate) lines: Vec<Words>,
@@ -60,7 +60,7 @@ fn kind_of_more(a: &str, b: &str) -> Kind
     }
 }
 
-/// Which words these are.
+/// The kind of these words.
 fn kind_of_words(words: &[Word]) -> Kind
     ensures { result ≡ kind_of_words words.now }
 {
@@ -92,7 +92,7 @@ fn push_all(line: &mut Words, words: &[Word]) -> Result<(), AllocError>
     Ok(())
 }
 
-/// The command line of these two words after those options, and more words.
+/// The command line of these options, these two words, and more words.
 fn line_of(
     alloc: Global,
     options: &Words,
@@ -124,7 +124,7 @@ fn lines_of_names(alloc: Global, options: &Words, names: &[Word]) -> Result<Vec<
     Ok(lines)
 }
 
-/// One command line, in words or not.
+/// One command line, in words or in codes.
 fn one_line(alloc: Global, line: Words, in_words: bool) -> Result<Asked, AllocError>
     ensures lines { IfOk result (λ asked. asked.lines.items ≡ line ∷ []) }
     ensures in_words { IfOk result (λ asked. asked.in_words ≡ in_words) }
@@ -134,8 +134,8 @@ fn one_line(alloc: Global, line: Words, in_words: bool) -> Result<Asked, AllocEr
     Ok(Asked { lines, in_words })
 }
 
-/// The specified command lines that are asked for. `line` is the whole one, without the options of this program; `options` are
-/// the program's name and the options in it, and `words` its words.
+/// The command lines of our `ipmitool` to run. `line` is the whole command line without the options of this program, `options`
+/// are the program's name and the options in it, and `words` are its words.
 pub(crate) fn asked_of(
     alloc: Global,
     line: &Words,
@@ -173,14 +173,14 @@ pub(crate) fn asked_of(
     }
 }
 
-/// Commands that are run one after another, each in words or not, if no objects are asked for.
+/// Commands to run one after another, in words or in codes, unless they print objects.
 #[derive(Drop)]
 pub(crate) struct Commands {
     pub(crate) all: Vec<Command>,
     pub(crate) in_words: bool,
 }
 
-/// The commands of the lines; the fault of the first one that is none. `Memory` may come in place of either.
+/// The commands of the lines, or the fault of the first invalid line. `Memory` is possible instead of either.
 fn commands_of_lines(alloc: Global, lines: &[Words]) -> Result<Vec<Command>, UsageFault>
     requires { All (λ line. 0 < length line) lines.now }
     ensures { MatchResult result (λ commands. commands_of_lines lines.now ≡ Ok commands.items)
@@ -194,8 +194,7 @@ fn commands_of_lines(alloc: Global, lines: &[Words]) -> Result<Vec<Command>, Usa
     Ok(commands)
 }
 
-/// The commands that the line asks for, of which the options of this program were taken out. `Memory` may come in place of
-/// either.
+/// The commands of a line without the options of this program, or its fault. `Memory` is possible instead of either.
 #[tactic(auto, using(crate::proofs::AskedLemmas::lines_have_words))]
 pub(crate) fn commands_of(
     alloc: Global,
@@ -213,7 +212,7 @@ pub(crate) fn commands_of(
     Ok(Commands { all, in_words })
 }
 
-/// The command with only the options, for `capture`.
+/// A command with only the options, for `capture`.
 #[tactic(auto, using(crate::proofs::AskedLemmas::its_line_has_words))]
 pub(crate) fn command_of_options(alloc: Global, scanned: &Scan<'_>) -> Result<Command, UsageFault>
     ensures { MatchResult result

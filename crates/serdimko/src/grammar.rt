@@ -1,4 +1,4 @@
-//! Which words may come after which.
+//! The words that may follow other words.
 
 /// The words that may come first.
 pub(crate) const COMMANDS: [&str; 7] = ["sdr", "sensor", "sel", "fru", "capture", "image", "help"];
@@ -20,13 +20,13 @@ pub(crate) const ENDS: &[&str] = &["first", "last"];
 /// A number among the words.
 #[derive(Clone, Copy)]
 pub(crate) struct Number {
-    /// What it is.
+    /// Its name in messages.
     pub(crate) name: &'static str,
-    /// From where to where.
+    /// Its range.
     pub(crate) range: &'static str,
-    /// The words after which the specified command line takes it.
+    /// The words after which our `ipmitool` takes it.
     pub(crate) after: &'static [&'static str],
-    /// Whether listings print it in hex without `0x`, and `--id` takes it so.
+    /// Whether listings print it in hex without `0x`, as `--id` takes it.
     pub(crate) is_id: bool,
 }
 
@@ -51,7 +51,7 @@ const DEVICE: Number = Number {
     is_id: false,
 };
 
-/// What may come next.
+/// The words that may come next.
 #[derive(Clone, Copy)]
 pub(crate) enum Next {
     /// One of these words.
@@ -60,13 +60,13 @@ pub(crate) enum Next {
     Number(Number),
     /// A number, or one of [`ENDS`].
     Count(Number),
-    /// A name, whatever it is.
+    /// Any name.
     Name,
     /// Nothing.
     Nothing,
 }
 
-/// What may come after these words.
+/// The words that may follow these words.
 pub(crate) fn next_of(words: &[&str]) -> Next {
     match words {
         [] | ["help"] => Next::Names(&COMMANDS),

@@ -1,11 +1,11 @@
-//! What `--help`, `help` and `--version` print.
+//! The output of `--help`, `help` and `--version`.
 
-/// The version of this program, as the file VERSION has it.
+/// The version of this program, as in the file VERSION.
 pub(crate) const VERSION: &str = "serdimko 0.3.0
 proved with Rattle, logic dac8208d650f15bf
 ";
 
-/// Said where there are no words and standard input is a terminal.
+/// The message if there are no words and standard input is a terminal.
 pub(crate) const SHORT: &str =
     "usage: serdimko [OPTIONS] COMMAND, for example: serdimko --image FILE sdr list
 Commands: sdr, sensor, sel, fru, capture, image, help. More: serdimko --help";
@@ -136,7 +136,7 @@ nothing; standard output gets what came, without the last line, 'end'.
 --part N and --tries N are those of the listings; --quiet shows no progress.
 ";
 
-/// The help on the command that comes first among the words, or after `help`; otherwise the general one.
+/// The help on the command in the first word, or after `help`; otherwise the general help.
 pub(crate) fn help_on(words: &[&str]) -> &'static str {
     match words {
         ["sdr", ..] | ["help", "sdr", ..] => SDR,

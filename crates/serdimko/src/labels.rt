@@ -5,10 +5,10 @@ use ipmi_json::Label;
 use ipmi_output::Part::{Name, Text};
 use std::alloc::{AllocError, Global};
 
-/// The key of the image's name, where there are several.
+/// The key of the image's name, if there are several images.
 const IMAGE: &str = "image";
 
-/// All keys of objects, and that of the image's name, which a label can't have.
+/// The keys that a label can't have: those of all objects, and that of the image's name.
 const KEYS: [&str; 68] = [
     "object",
     "record_id",
@@ -80,7 +80,7 @@ const KEYS: [&str; 68] = [
     "image",
 ];
 
-/// The label that the value of `--label` says; None if it says none.
+/// The label in the value of `--label`. None if it is malformed.
 fn label_of(value: &str) -> Option<Label<'_>> {
     let (key, value) = value.split_once('=')?;
     if key.is_empty() {
@@ -103,7 +103,7 @@ fn fault_of(value: &str, before: &[Label<'_>]) -> Option<&'static str> {
     None
 }
 
-/// The labels of all objects: the image's name, if it is one of several, and what `--label` says.
+/// The labels of all objects: the image's name if it is one of several, and those of `--label`.
 pub(crate) fn labels_of<'a>(
     alloc: Global,
     own: &'a Own,

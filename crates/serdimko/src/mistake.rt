@@ -1,4 +1,4 @@
-//! Why the words are no command line, and what would be right, as the parts of one line.
+//! Why parsing the command line failed, and how to correct it, as the parts of one line.
 use crate::grammar::{COMMANDS, ENDS, Next, Number, next_of};
 use crate::live::Live;
 use crate::own::{Own, id_word, is_option};
@@ -41,7 +41,7 @@ pub(crate) fn line<'a>(alloc: Global, parts: &[Part<'a>]) -> Result<Line<'a>, Al
 
 // ---- options
 
-/// What the value of an option has to be.
+/// The form that the value of an option must have.
 pub(crate) fn rule_of(option: &str) -> &'static str {
     match option {
         "--from" => "four hex digits from 0001 to FFFE",
@@ -54,7 +54,7 @@ pub(crate) fn rule_of(option: &str) -> &'static str {
     }
 }
 
-/// A line that this is no value of the option.
+/// A line that says that the option does not take this value.
 pub(crate) fn no_value_of<'a>(
     alloc: Global,
     option: &'a str,
@@ -80,7 +80,7 @@ pub(crate) fn no_value_of<'a>(
     Ok(parts)
 }
 
-/// Whether the specified command line takes this word after those.
+/// Whether the command line of our `ipmitool` takes this word after those.
 fn is_taken(alloc: Global, before: &[&str], word: &str) -> Result<bool, AllocError> {
     let mut words = Words::new(alloc);
     words.push("serdimko")?;
@@ -126,7 +126,7 @@ fn of_values<'a>(
     Ok(None)
 }
 
-/// `--from` beside a command that does not take it.
+/// `--from` with a command that does not take it.
 fn misplaced_from<'a>(alloc: Global, words: &[&'a str]) -> Result<Line<'a>, AllocError> {
     let mut parts = line(alloc, &[Text("--from does not go with '")])?;
     push_joined(&mut parts, words.get(..2).unwrap_or(words))?;
@@ -136,7 +136,7 @@ fn misplaced_from<'a>(alloc: Global, words: &[&'a str]) -> Result<Line<'a>, Allo
 
 // ---- words
 
-/// The first word that may not come where it is, or what is missing after all of them.
+/// The first word that is not allowed at its place, or what is missing after the last word.
 fn of_words<'a>(alloc: Global, own: &'a Own, scanned: &Scan<'a>) -> Result<Line<'a>, AllocError> {
     let words = scanned.words.as_slice();
     for (place, word) in words.iter().enumerate() {
@@ -147,7 +147,7 @@ fn of_words<'a>(alloc: Global, own: &'a Own, scanned: &Scan<'a>) -> Result<Line<
     missing(alloc, words)
 }
 
-/// Why the word may not be at this place.
+/// Why the word is not allowed at this place. None if it is allowed.
 fn of_word<'a>(
     alloc: Global,
     own: &'a Own,
@@ -162,7 +162,7 @@ fn of_word<'a>(
         Next::Number(number) | Next::Count(number) if is_number(alloc, number, word)? => {
             return Ok(None);
         }
-        // a number comes after it
+        // a number follows
         Next::Count(_) if place.saturating_add(1) < words.len() => ENDS,
         Next::Number(number) | Next::Count(number) => {
             return not_a_number(alloc, number, word).map(Some);
@@ -176,7 +176,7 @@ fn of_word<'a>(
     unknown(alloc, own, scanned, place, word, names).map(Some)
 }
 
-/// The word is none of those that may be at this place.
+/// The word is not one of those allowed at this place.
 fn unknown<'a>(
     alloc: Global,
     own: &'a Own,
@@ -212,7 +212,7 @@ fn unknown<'a>(
     Ok(parts)
 }
 
-/// A command that was read as the value of an option, and which option.
+/// A command that was read as the value of an option, and that option.
 fn taken_for_value<'a>(own: &'a Own, scanned: &Scan<'a>) -> Option<(&'static str, &'a str)> {
     let output = own.output.as_ref().map(|file| file.as_str());
     for (option, value) in [("--image", scanned.image), ("--output", output)] {
@@ -224,7 +224,7 @@ fn taken_for_value<'a>(own: &'a Own, scanned: &Scan<'a>) -> Option<(&'static str
     None
 }
 
-/// Adds a correction of the word, which is not one of the names.
+/// Adds a correction of the word, as it is not one of the names.
 fn push_advice<'a>(
     alloc: Global,
     scanned: &Scan<'a>,
@@ -245,7 +245,7 @@ fn push_advice<'a>(
         ];
         return push_all(parts, &advice);
     }
-    // a command of ipmitool that is not here, and no mistyped `get`
+    // a command of stock ipmitool that serdimko lacks, not a mistyped `get`
     let near = if word == "set" {
         None
     } else {
@@ -289,7 +289,7 @@ fn hint(scanned: &Scan<'_>, before: &[&str], word: &str) -> Option<&'static str>
     })
 }
 
-/// What is missing after words that are right.
+/// What is missing after correct words.
 fn missing<'a>(alloc: Global, words: &[&'a str]) -> Result<Line<'a>, AllocError> {
     let (what, name) = match next_of(words) {
         Next::Names(names) => ("the word ", names.first().copied().unwrap_or("")),
@@ -303,7 +303,7 @@ fn missing<'a>(alloc: Global, words: &[&'a str]) -> Result<Line<'a>, AllocError>
     Ok(parts)
 }
 
-/// The word at this place is one too many after those before it, or a part of a name that was not quoted.
+/// The word at this place is one too many, or is part of a name that was not quoted.
 pub(crate) fn too_many<'a>(
     alloc: Global,
     words: &[&'a str],
@@ -324,7 +324,7 @@ pub(crate) fn too_many<'a>(
     Ok(parts)
 }
 
-/// What is meant by a word after these, if it is known.
+/// The probable meaning of a word after these, if there is one.
 fn instead_after(words: &[&str]) -> &'static str {
     match words {
         ["sensor", "list"] => ": one sensor is 'sensor get NAME'",
@@ -334,7 +334,7 @@ fn instead_after(words: &[&str]) -> &'static str {
     }
 }
 
-/// A name of several words, or several names: those that have a space were quoted.
+/// A name of several words, or several names: words with a space were quoted.
 fn unquoted<'a>(alloc: Global, words: &[&'a str]) -> Result<Line<'a>, AllocError> {
     let mut parts = line(alloc, &[Text("'sdr get' takes one name")])?;
     let is_quoted = |word: &&str| word.contains(' ') || word.contains('\'');
@@ -354,7 +354,7 @@ fn is_number(alloc: Global, number: Number, word: &str) -> Result<bool, AllocErr
     is_taken(alloc, number.after, word)
 }
 
-/// Whether the word is this number in hex, but for `0x`. Plain digits count only for ids that listings print in hex.
+/// Whether the word is this number in hex without `0x`. Decimal digits count only for ids that listings print in hex.
 fn is_hex(alloc: Global, number: Number, word: &str) -> Result<bool, AllocError> {
     let is_decimal = word.bytes().all(|byte| byte.is_ascii_digit());
     if is_decimal && !number.is_id {
@@ -401,7 +401,7 @@ fn push_all<'a>(parts: &mut Line<'a>, more: &[Part<'a>]) -> Result<(), AllocErro
     Ok(())
 }
 
-/// Adds the words with a space between each two.
+/// Adds the words, separated by spaces.
 fn push_joined<'a>(parts: &mut Line<'a>, words: &[&'a str]) -> Result<(), AllocError> {
     let mut space = "";
     for word in words {
@@ -411,7 +411,7 @@ fn push_joined<'a>(parts: &mut Line<'a>, words: &[&'a str]) -> Result<(), AllocE
     Ok(())
 }
 
-/// Adds that one of the names is to be used.
+/// Adds an advice to use one of the names.
 fn push_choice<'a>(parts: &mut Line<'a>, names: &[&'static str]) -> Result<(), AllocError> {
     for (place, name) in names.iter().enumerate() {
         let before = match place {

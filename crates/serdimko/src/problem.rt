@@ -1,4 +1,4 @@
-//! Why nothing, or not all, was printed of an image: its line and its exit status.
+//! Why an image was not printed, or not completely: the message and the exit status.
 ghost use Rattle.std.specs.Prelude.{◌≡◌, Some, true};
 ghost use Rattle.ipmi_output.specs.Failure.{joined_parts, part_text};
 ghost use Rattle.serdimko.specs.Problem.{goes_on, has_room, lost_problem, named_text, problem_of, problem_text, status_of_problem, unread};
@@ -10,35 +10,35 @@ use ipmi_output::Part::{self, Name, Number, Text};
 use ipmi_output::{Failure, fault_line, fault_words};
 use ipmi_program::InputFault;
 
-/// The exit status where an image can't be read.
+/// The exit status if an image can't be read.
 const UNREADABLE: u8 = 3;
 
-/// The exit status where something is missing.
+/// The exit status if something is missing.
 const INCOMPLETE: u8 = 1;
 
-/// The exit status where the connection to the controller was lost.
+/// The exit status if the connection to the controller was lost.
 const LOST: u8 = 1;
 
-/// The exit status where what was printed has faults, with `--strict`.
+/// The exit status if the output has faults, with `--strict`.
 const FAULTY: u8 = 1;
 
-/// The exit status where the output was closed: what shells say of a program that SIGPIPE ends, as `cat` is.
+/// The exit status if the output was closed: the status that shells report for a program ended by SIGPIPE, such as `cat`.
 pub(crate) const CLOSED: u8 = 141;
 
-/// Why nothing, or not all, was printed of an image.
+/// Why an image was not printed, or not completely.
 #[derive(Drop)]
 pub(crate) enum Problem<'a> {
     /// It was not read.
     Unread(InputFault),
-    /// It is no image, and looks like this.
+    /// It is not an image, and looks like this.
     NoImage(ImageFault, Looks),
     /// The run did not finish.
     Failed(Failure<'a>),
-    /// The connection to the controller was lost, and the tool said this.
+    /// The connection to the controller was lost, with the last output of the tool.
     Lost(String),
-    /// What was printed has faults.
+    /// The output has faults.
     Faulty,
-    /// Whoever reads the output has closed it.
+    /// The reader of the output has closed it.
     Closed,
 }
 
@@ -85,7 +85,7 @@ impl<'a> Problem<'a> {
         }
     }
 
-    /// The problem of a run over a controller, given what the tool said where the connection to it was lost.
+    /// The problem of a run over a controller, given the tool's last output if the connection was lost.
     pub(crate) fn of_live(problem: Option<Problem<'a>>, said: Option<String>) -> Option<Problem<'a>>
         ensures { result ≡ lost_problem said problem.entry }
     {
@@ -103,7 +103,7 @@ impl<'a> Problem<'a> {
         }
     }
 
-    /// Whether the next command runs over the same input after this problem.
+    /// Whether the next command still runs over the same input after this problem.
     pub(crate) fn goes_on(problem: &Option<Problem<'_>>) -> bool
         ensures { result ≡ goes_on problem.now }
     {
@@ -124,8 +124,8 @@ impl<'a> Problem<'a> {
         )
     }
 
-    /// The parts of its line. With several inputs every one names its input, otherwise only what is said about the input
-    /// itself.
+    /// The parts of its message. With several inputs each message names its input, otherwise only a message about the input
+    /// itself does.
     pub(crate) fn parts(&'a self, name: &'a str, is_one: bool) -> [Part<'a>; 6]
         ensures { joined_parts result ≡ problem_text name.entry.now is_one self.entry.now }
     {
@@ -167,7 +167,7 @@ impl<'a> Problem<'a> {
     }
 }
 
-/// The parts of the line of input that is no image.
+/// The parts of the message for input that is not an image.
 fn of_image<'a>(fault: ImageFault, looks: Looks, name: &'a str) -> [Part<'a>; 6]
     ensures { joined_parts result ≡ problem_text name.entry.now true (Problem.NoImage fault looks) }
 {
@@ -179,7 +179,7 @@ fn of_image<'a>(fault: ImageFault, looks: Looks, name: &'a str) -> [Part<'a>; 6]
     }
 }
 
-/// The parts of the line of a failure. A write fault is one of the output, whatever the input.
+/// The parts of the message for a failure. A write fault is about the output, not the input.
 fn of_failure<'a>(failure: &'a Failure<'a>, name: &'a str, is_one: bool) -> [Part<'a>; 6]
     ensures { joined_parts result ≡ problem_text name.entry.now is_one (Problem.Failed failure.entry.now) }
 {
@@ -189,7 +189,7 @@ fn of_failure<'a>(failure: &'a Failure<'a>, name: &'a str, is_one: bool) -> [Par
     }
 }
 
-/// The parts of a line about a run, not about its input.
+/// The parts of a message about a run, not about its input.
 fn of_run<'a>(part: Part<'a>, name: &'a str, is_one: bool) -> [Part<'a>; 6]
     ensures { joined_parts result ≡ named_text is_one name.entry.now (part_text part.entry) }
 {

@@ -1,4 +1,4 @@
-//! The name that is nearest to a word.
+//! The name nearest to a word.
 use std::alloc::{AllocError, Global};
 use strsim::osa_distance;
 
