@@ -7,5 +7,6 @@ mod memory;
 mod names;
 mod parts;
 mod products;
+mod readings;
 mod times;
 mod units;

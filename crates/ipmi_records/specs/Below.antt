@@ -7,7 +7,7 @@ pub use Rattle.ipmi_text.specs.FieldText.{binary_text, sdr_text_of}
 pub use Rattle.ipmi_text.specs.Hex.{byte_h, hex_byte, hex_word, word_h}
 pub use Rattle.ipmi_text.specs.Laws.{DecimalExists, DecimalIsUnique, UtcTextExists, UtcTextIsUnique}
 pub use Rattle.ipmi_text.specs.Lines.{labelled}
-pub use Rattle.ipmi_text.specs.ReadingValue.{IsTwosComplement, reading_value, SensorFactors}
+pub use Rattle.ipmi_text.specs.ReadingValue.{is_available, IsTwosComplement, reading_value, SensorFactors}
 pub use Rattle.ipmi_text.specs.SdrHeader.{sdr_len}
 pub use Rattle.ipmi_text.specs.SensorTypes.{sensor_type_text_of}
 pub use Rattle.ipmi_text.specs.Times.{IsUtcTextOf}

@@ -1,7 +1,7 @@
 -- The reading column and the status of a line (the project's own). A reading is the answer of Get
 -- Sensor Reading (IPMI v2.0, section 35.14).
 use Rattle.std.specs.Prelude.{◌≡◌, ℕ, ◌+◌, ◌*◌, ◌%◌, ◌==◌, ◌&&◌, ◌||◌, not, Bool, if◌then◌else◌, ℤ, Option, Some, None, List, ◌++◌, codes, decimal}
-use Rattle.ipmi_records.specs.Below.{IsDecimalOf, byte_h, hex_byte, hex_word, reading_value, after_space, unit_text_of, Reading}
+use Rattle.ipmi_records.specs.Below.{IsDecimalOf, byte_h, hex_byte, hex_word, is_available, reading_value, after_space, unit_text_of, Reading}
 use Rattle.ipmi_records.specs.declared.column.Shown.{Shown}
 use Rattle.ipmi_records.specs.declared.sdr.SdrView.{SdrView}
 use Rattle.ipmi_records.specs.declared.sensor.Sensor.{Sensor}
@@ -10,10 +10,6 @@ use Rattle.ipmi_records.specs.Sdr.{fru_in, record_type}
 use Rattle.ipmi_records.specs.Sensor.{analog_format, factors_in, locator_in, sensor_in, units_in}
 
 -- ---- what is shown of a sensor
-
--- scanning is enabled (bit 6 of the flags), and the reading is not unavailable (bit 5)
-abbrev pub is_available : Reading → Bool
-is_available reading = has_bit 6 reading.flags && not (has_bit 5 reading.flags)
 
 abbrev pub shown_reading : Option Reading → Shown
 shown_reading None = Shown.NoReading

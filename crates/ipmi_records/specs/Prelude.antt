@@ -1,6 +1,6 @@
 -- Re-exports the definitions of this crate that its code and proofs use. Declares nothing.
 pub use Rattle.ipmi_records.specs.Bytes.{byte_at, has_bit, number_at, padded_to, signed}
-pub use Rattle.ipmi_records.specs.Columns.{fru_column, has_thresholds, is_available, IsNumberText, IsRawText, IsRawValue, IsReadingColumn, IsSensorColumn, IsValueText, raw_byte_text, sensor_status, shown_of, shown_reading, states_of, states_text, status_of, threshold_status, type_text, unit_text_in}
+pub use Rattle.ipmi_records.specs.Columns.{fru_column, has_thresholds, IsNumberText, IsRawText, IsRawValue, IsReadingColumn, IsSensorColumn, IsValueText, raw_byte_text, sensor_status, shown_of, shown_reading, states_of, states_text, status_of, threshold_status, type_text, unit_text_in}
 pub use Rattle.ipmi_records.specs.Info.{info_in, IsInfoBlock}
 pub use Rattle.ipmi_records.specs.Laws.{ExtendedLineIsUnique, ReadingColumnExists, ReadingColumnIsUnique, SdrBlockExists, SdrBlockIsUnique, SdrLineExists, SdrLineIsUnique, ThresholdTextExists, ThresholdTextIsUnique, SelBlockIsUnique, SelLineIsUnique}
 pub use Rattle.ipmi_records.specs.Sdr.{fru_in, fru_of, id_field_at, id_field_of, id_string_of, key_of, least_len, locator_of, name_of, reading_of, record_bytes, record_type, sdr_view_by_type, sdr_view_of, sensor_of, sharing_of}

@@ -1,9 +1,8 @@
 //! The reading column and the status of a record.
 ghost use Rattle.std.specs.Prelude.{◌≡◌, ◌+◌, ◌*◌, ◌%◌, ◌++◌, OnOk, option_map, string_bytes};
 ghost use Rattle.ipmi_records.specs.Below.{Appends};
-ghost use Rattle.ipmi_records.specs.Prelude.{IsRawText, IsRawValue, IsReadingColumn, IsSensorColumn, fru_column, has_thresholds, is_available, raw_byte_text, sensor_status, shown_of, shown_reading, states_of, states_text, status_of, threshold_status};
+ghost use Rattle.ipmi_records.specs.Prelude.{IsRawText, IsRawValue, IsReadingColumn, IsSensorColumn, fru_column, has_thresholds, raw_byte_text, sensor_status, shown_of, shown_reading, states_of, states_text, status_of, threshold_status};
 
-use crate::bits::has_bit;
 use crate::full::FullSensor;
 use crate::record_type::RecordType;
 use crate::sdr::SdrView::{Compact, Controller, EventOnly, Fru, Full, Generic, Other};
@@ -15,12 +14,6 @@ use ipmi_text::{
     push_units,
 };
 use std::alloc::AllocError;
-
-/// The bit of a reading's flags for "scanning is enabled".
-const SCANNING_ENABLED: u32 = 6;
-
-/// The bit for "the reading is unavailable".
-const READING_UNAVAILABLE: u32 = 5;
 
 /// Bits 6:0 of a reading's last byte: states 14:8 of a discrete sensor.
 const STATE_BITS: u8 = 0x7F;
@@ -36,13 +29,6 @@ pub enum Shown {
     Value(Reading),
 }
 
-/// Whether a reading is available: scanning is enabled, and the reading is not unavailable.
-fn is_available(reading: Reading) -> bool
-    ensures { result ≡ is_available reading }
-{
-    has_bit(reading.flags, SCANNING_ENABLED) && !has_bit(reading.flags, READING_UNAVAILABLE)
-}
-
 /// What is shown of a sensor that the controller itself owns.
 fn shown_reading(reading: Option<Reading>) -> Shown
     ensures { result ≡ shown_reading reading }
@@ -50,7 +36,7 @@ fn shown_reading(reading: Option<Reading>) -> Shown
     let Some(reading) = reading else {
         return Shown::NoReading;
     };
-    if is_available(reading) {
+    if reading.is_available() {
         Shown::Value(reading)
     } else {
         Shown::NoReading

@@ -1,5 +1,12 @@
--- The value of a raw reading by the linear formula (IPMI v2.0, section 36.3), in units of 10^-16.
-use Rattle.std.specs.Prelude.{ℕ, ◌≤◌, ◌^◌, ◌==◌, ◌||◌, nat_lt, not, if◌then◌else◌, ℤ, pos, ◌+ℤ◌, ◌-ℤ◌, ◌*ℤ◌, ◌≤ℤ◌, ◌<ℤ◌, neg_ℤ, unsigned_abs, Option, Some, None}
+-- Whether a reading is available (IPMI v2.0, section 35.14), and the value of a raw reading by the
+-- linear formula (section 36.3), in units of 10^-16.
+use Rattle.std.specs.Prelude.{ℕ, ◌≤◌, ◌/◌, ◌%◌, ◌^◌, ◌==◌, ◌&&◌, ◌||◌, nat_lt, not, Bool, if◌then◌else◌, ℤ, pos, ◌+ℤ◌, ◌-ℤ◌, ◌*ℤ◌, ◌≤ℤ◌, ◌<ℤ◌, neg_ℤ, unsigned_abs, Option, Some, None}
+use Rattle.ipmi_text.specs.declared.reading.Reading.{Reading}
+
+-- scanning is enabled (bit 6 of the flags), and the reading is not unavailable (bit 5)
+abbrev pub is_available : Reading → Bool
+is_available reading =
+    (reading.flags / 2 ^ 6 % 2 == 1) && not (reading.flags / 2 ^ 5 % 2 == 1)
 
 -- the factors of a sensor's formula
 pub record SensorFactors : Type 0 where

@@ -1,4 +1,12 @@
 //! The answer of a sensor.
+ghost use Rattle.std.specs.Prelude.{◌≡◌};
+ghost use Rattle.ipmi_text.specs.ReadingValue.{is_available};
+
+/// The bit of a reading's flags for "scanning is enabled".
+const SCANNING_ENABLED: u32 = 6;
+
+/// The bit for "the reading is unavailable".
+const READING_UNAVAILABLE: u32 = 5;
 
 /// The answer of Get Sensor Reading (IPMI v2.0, section 35.14), after its completion code.
 #[derive(Clone, Copy, Debug, PartialEq, Eq)]
@@ -11,4 +19,14 @@ pub struct Reading {
     pub status: u8,
     /// States 14:8 of a discrete sensor, in bits 6:0; 00h if the answer has no such byte.
     pub more: u8,
+}
+
+impl Reading {
+    /// Whether the reading is available: scanning is enabled, and the reading is not unavailable.
+    pub fn is_available(self) -> bool
+        ensures { result ≡ is_available self }
+    {
+        let is_unavailable = (self.flags >> READING_UNAVAILABLE) & 1 == 1;
+        (self.flags >> SCANNING_ENABLED) & 1 == 1 && !is_unavailable
+    }
 }
