@@ -7,6 +7,7 @@ mod LastLemmas
 mod ListingLemmas
 mod NameLemmas
 mod NamedLemmas
+mod NamedPages
 mod PageLemmas
 mod PagesLaw
 mod PerformLemmas

@@ -95,7 +95,7 @@ named_calls wording records (Named.Events (Count.First n) from) tries = omega ar
 named_calls wording records (Named.Events (Count.Last n) from) tries = omega arith
 named_calls wording records Named.Devices tries = omega arith
 
-entries_end : (wording : Wording) (entries : Entries) (count : Count) (from : Option ℕ) (seen : Seen) (ending : Ending)
+pub entries_end : (wording : Wording) (entries : Entries) (count : Count) (from : Option ℕ) (seen : Seen) (ending : Ending)
     → EndsListing (Form.EntryLine entries) seen ending → EndsNamed wording (Named.Events count from) seen ending
 entries_end wording entries count from seen ending ends = grind arith
 
@@ -162,7 +162,7 @@ module _ (store : Store) (records : List Row) (end : WalkEnd) (plan : Plan) (kep
       → cause_of (ending_of result) ≡ NoOutput → cause_of (Err failure) ≡ NoMemory
   cause_of-memory result failure is at = grind arith
 
-  stop_by : (result : Result Place Failure) (failure : Failure) → walk_of result ≡ Err failure
+  pub stop_by : (result : Result Place Failure) (failure : Failure) → walk_of result ≡ Err failure
       → (cause : Cause) → cause_of (ending_of result) ≡ cause
       → Leaves (IsTextOver store) (records_plan records end) [] kept (ending_of result) cause
       → IsAllowed (IsTextOver store) q text text (Err failure)
@@ -180,12 +180,12 @@ module _ (store : Store) (records : List Row) (end : WalkEnd) (plan : Plan) (kep
   stop_by result failure is Dishonest at leaves = absurd leaves
 
 -- a walk of which the end is known was at the end of its plan
-walked_at_end : (result : Result Place Failure) (walked : Walked) → walk_of result ≡ Ok walked
+pub walked_at_end : (result : Result Place Failure) (walked : Walked) → walk_of result ≡ Ok walked
     → cause_of (ending_of result) ≡ AtEnd
 walked_at_end result walked is = grind arith
 
 -- and ends so
-walked_end : (records : List Row) (end : WalkEnd) (result : Result Place Failure) (walked : Walked)
+pub walked_end : (records : List Row) (end : WalkEnd) (result : Result Place Failure) (walked : Walked)
     → walk_of result ≡ Ok walked → ending_of result ≡ rows_end Form.Bytes records end
     → end_after walked ≡ end_after_names end (Ok tt)
 walked_end records Done result walked is at = grind arith
@@ -195,13 +195,13 @@ walked_end records (MissingAt n) result walked is at = grind arith
 -- the run ends by this before anything is printed
 module _ (tries : ℕ) (s s' : Seen) (kept : List ℕ) (wording : Wording) (named : Named)
     (calls : s'.calls ≤ s.calls + most_on_walk Form.Bytes tries) where
-  failed_ends : (named : Named) (result : Result Place Failure) (failure : Failure)
+  pub failed_ends : (named : Named) (result : Result Place Failure) (failure : Failure)
       → walk_of result ≡ Err failure → EndsListing Form.Bytes s' (ending_of result)
       → EndsNamed wording named s' (Err failure)
   failed_ends (Named.Events count from) result failure is ends = grind arith
   failed_ends Named.Devices result failure is ends = grind arith
 
-  failed_for : (IsPlain : Type 0) (result : Result Place Failure) (failure : Failure)
+  pub failed_for : (IsPlain : Type 0) (result : Result Place Failure) (failure : Failure)
       → walk_of result ≡ Err failure → EndsFor tries IsPlain s s' (cause_of (ending_of result))
       → EndsFor tries IsPlain s s' (cause_of (Err failure))
   failed_for IsPlain result failure is ends = grind arith
@@ -229,15 +229,15 @@ abbrev pub ending_then : Ending → Walked → Ending
 ending_then (Ok done) walked = end_after walked
 ending_then (Err failure) walked = Err failure
 
-then_ends : (wording : Wording) (named : Named) (seen : Seen) (ending : Ending) (walked : Walked)
+pub then_ends : (wording : Wording) (named : Named) (seen : Seen) (ending : Ending) (walked : Walked)
     → EndsNamed wording named seen ending → EndsNamed wording named seen (ending_then ending walked)
 then_ends wording (Named.Events count from) seen ending walked ends = grind arith
 then_ends wording Named.Devices seen ending walked ends = grind arith
 
-then_for : (ending : Ending) (walked : Walked) → cause_of (ending_then ending walked) ≡ cause_of ending
+pub then_for : (ending : Ending) (walked : Walked) → cause_of (ending_then ending walked) ≡ cause_of ending
 then_for ending walked = grind arith
 
-then_allowed : (store : Store) (records : List Row) (end : WalkEnd) (plan : Plan) (old new : List ℕ)
+pub then_allowed : (store : Store) (records : List Row) (end : WalkEnd) (plan : Plan) (old new : List ℕ)
     (ending : Ending) (walked : Walked) → end_after walked ≡ end_after_names end (Ok tt)
     → IsAllowed (IsTextOver store) plan old new ending
     → IsAllowed (IsTextOver store) (after_names records end plan) old new (ending_then ending walked)

@@ -1,11 +1,11 @@
 -- Pages over a chain that does not end by a cycle are one listing.
-use Rattle.std.proofs.Common.{◌≡◌, inl, inr, ℕ, ◌+◌, ◌*◌, ◌≤◌, true, IsTrue, Option, None, Some, Err, List, [], ◌∷◌, ◌++◌, take, drop, refl, sym, ap, subst, ◌∙◌, arith, ne_eqb, take_all, take-append-drop}
+use Rattle.std.proofs.Common.{◌≡◌, inl, inr, ℕ, ◌+◌, ◌*◌, ◌≤◌, true, IsTrue, Option, None, Some, Err, List, [], ◌∷◌, ◌++◌, take, drop, refl, sym, subst, arith, ne_eqb, take_all, take-append-drop}
 use Rattle.std.proofs.lemmas.Bool.{or_parts}
 use Rattle.std.proofs.Math.Seq.{take-nil, drop-nil}
 use Rattle.std.proofs.lemmas.Bool.Decides.{nat_tests}
 use Rattle.std.proofs.lemmas.List.{drop_all}
-use Rattle.ipmi_commands.specs.Below.{Place, First, End, Row, IsShelf, Store, rows_of, store_shelf, IsWalk, TailIsWalk, WalkEnd, EndsBy, place_after, place_after_rows, Seen, IsHonest, step_call_bound, start_of, is_listing, CommandState, Ending, Failure}
-use Rattle.ipmi_commands.specs.Prelude.{ArePages, calls_for, cause_of, Change, change, EndsFor, EndsListing, Form, GoesOn, IsAllowed, IsOneListing, IsOpen, IsTextOver, Job, job_of_command, Listing, listing, listing_in, listing_plan, most_on_walk, OnWalk, pages_made, Plan, Printed, row_items, rows_end, RunsPaged, shelf_of}
+use Rattle.ipmi_commands.specs.Below.{Place, First, End, Row, IsShelf, Store, rows_of, store_shelf, IsWalk, TailIsWalk, WalkEnd, EndsBy, place_after, place_after_rows, Seen, IsHonest, step_call_bound, is_listing, CommandState, Ending, Failure}
+use Rattle.ipmi_commands.specs.Prelude.{ArePages, calls_for, cause_of, Change, change, EndsFor, EndsListing, Form, GoesOn, IsAllowed, IsOneListing, IsOpen, IsTextOver, Job, job_of_command_in, Listing, listing, listing_in, listing_plan, most_on_walk, OnWalk, pages_made, Plan, Printed, row_items, rows_end, RunsPagedIn, shelf_of, Wording}
 use Rattle.ipmi_commands.proofs.CallLemmas.{calls_split}
 use Rattle.ipmi_commands.proofs.ItemLemmas.{after_items, leaves_joined, leaves_longer, row_items-split}
 use Rattle.ipmi_commands.proofs.PageLemmas.{calls_of_page, no_walk}
@@ -133,7 +133,7 @@ module _ (walk_tail : TailIsWalk) where
             let there = rest_there form s.store (rows_of (shelf_of form) s.store) start more.next walk end size w (store_shelf (shelf_of form) s.store honest.store) ends open_ along.goes_on in
             let rest = (subst (λ (x : Store). OnWalk (shelf_of form) more.next x (λ walk end. IsOpen end
             → IsAllowed (IsTextOver x) (plan_from form more.next None walk end) more.text new ending
-            × (s'.calls ≤ more.seen.calls + calls_for form x tries walk + pages_made sizes * (step_call_bound tries 0 + 7)))) (page.ends.stays.store.stays first)
+            × (s'.calls ≤ more.seen.calls + 0 + calls_for form x tries walk + pages_made sizes * (step_call_bound tries 0 + 7)))) (page.ends.stays.store.stays first)
             (later.along (since same).1)) (drop size walk) end there.0 there.1 open_ in
             let made = calls_of_page size sizes (calls_for form s.store tries (take size walk)) (step_call_bound tries 0 + 7) s more.seen (omega (arith, along.calls)) page.none in (
               leaves_of_rest form s.store (rows_of (shelf_of form) s.store) start more.next walk end size w old more.text new ending none along.leaves.0 along.goes_on rest.0,
@@ -144,18 +144,14 @@ module _ (walk_tail : TailIsWalk) where
 -- ---- a command that can be done in pages
 
 -- it lists all records of a shelf, in a form that asks for no name; what the pages did
-pub paged : TailIsWalk → (command : CommandState) (sizes : List ℕ) (s s' : Seen) (old new : List ℕ)
-    (ending : Ending) (l : Listing) → is_listing command.task ≡ true
-    → listing_in (job_of_command command) ≡ Some l
+pub paged : TailIsWalk → (wording : Wording) (command : CommandState) (sizes : List ℕ) (s s' : Seen)
+    (old new : List ℕ) (ending : Ending) (l : Listing) → is_listing command.task ≡ true
+    → listing_in (job_of_command_in wording command) ≡ Some l
     → s'.calls ≤ s.calls + pages_made sizes * most_on_walk l.form command.tries
     → EndsListing l.form s' ending
     → (IsHonest s → ArePages l.form command.tries l.start sizes (change s s' old new) ending)
-    → RunsPaged command sizes (change s s' old new) ending
-paged tail command sizes s s' old new ending l lists is calls may pages =
-    let job : (job_of_command command ≡ Job.Records l) × (l ≡ listing l.form (start_of command.from) None) × NamesNone l.form = grind arith in
-    let one : IsHonest s → OneListing l.form l.start command.tries sizes (change s s' old new) ending = λ h. pages_are_one tail l.form command.tries l.start sizes s s' old new ending job.2 h (pages h) in
-    record {
-      form = l.form;
-      is = job.0 ∙ ap Job.Records job.1;
-      runs = rw (← ap (λ (x : Listing). x.start) job.1) (record { calls = calls; ends = may; why = λ h. (one h).ends; pages = pages; prints = λ h. (one h).along });
-    }
+    → RunsPagedIn wording command sizes (change s s' old new) ending
+paged tail wording command sizes s s' old new ending l lists is calls may pages =
+    let job : (job_of_command_in wording command ≡ Job.Records l) × NamesNone l.form = grind arith in
+    let one : IsHonest s → OneListing l.form l.start command.tries sizes (change s s' old new) ending = λ h. pages_are_one tail l.form command.tries l.start sizes s s' old new ending job.1 h (pages h) in
+    rw job.0 (record { calls = calls; ends = may; why = λ h. (one h).ends; pages = pages; prints = λ h. (one h).along })

@@ -1,8 +1,13 @@
--- How the walk that reads names ended: for the contracts of private functions.
-use Rattle.std.specs.Prelude.{Result, Ok, Err}
-use Rattle.ipmi_commands.specs.Below.{Ending, Failure, Place}
+-- The walk that reads names: for the contracts of private functions.
+use Rattle.std.specs.Prelude.{◌≡◌, ℕ, ◌+◌, ◌≤◌, None, Result, Ok, Err}
+use Rattle.ipmi_commands.specs.Below.{Ending, Failure, First, IsHonest, Place}
 use Rattle.ipmi_bus.specs.declared.step.Ended.{Ended}
+use Rattle.ipmi_commands.specs.declared.job.Form.{Form}
 use Rattle.ipmi_commands.specs.declared.named.Walked.{Walked}
+use Rattle.ipmi_commands.specs.Allowed.{Change, ending_of}
+use Rattle.ipmi_commands.specs.Calls.{most_on_walk}
+use Rattle.ipmi_commands.specs.Pages.{IsPage}
+use Rattle.ipmi_commands.specs.Run.{EndsListing}
 
 -- how the walk ended, from the result of listing the records into memory; a write fault means out
 -- of memory
@@ -18,3 +23,11 @@ abbrev pub end_after : Walked → Ending
 end_after Walked.Whole = Ok tt
 end_after (Walked.Cycle n) = Err (Failure.NamesCycle n)
 end_after (Walked.Missing n) = Err (Failure.NamesMissing n)
+
+-- the sensor data records were listed into memory: how their walk ended, or why it failed
+pub record ReadsRecords (tries : ℕ) (c : Change) (result : Result Walked Failure) : Type 0 where
+  pub listed : Result Place Failure
+  pub is : result ≡ walk_of listed
+  pub calls : c.seen'.calls ≤ c.seen.calls + most_on_walk Form.Bytes tries
+  pub ends : EndsListing Form.Bytes c.seen' (ending_of listed)
+  pub page : IsHonest c.seen → IsPage Form.Bytes First tries None c listed

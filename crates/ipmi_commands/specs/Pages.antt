@@ -6,7 +6,7 @@ use Rattle.ipmi_commands.specs.declared.job.Form.{Form}
 use Rattle.ipmi_commands.specs.Allowed.{IsAllowed, ending_of, EndsFor, cause_of, Change, change}
 use Rattle.ipmi_commands.specs.Calls.{calls_for, walk_call_bound}
 use Rattle.ipmi_commands.specs.Job.{shelf_of, listing}
-use Rattle.ipmi_commands.specs.Plan.{OnWalk, first_rows, listing_plan}
+use Rattle.ipmi_commands.specs.Plan.{OnWalk, Plan, first_rows, listing_plan}
 use Rattle.ipmi_commands.specs.Texts.{IsTextOver}
 
 -- the initial cursor of a listing, at the id `from` or at the first record, with the command's part
@@ -93,11 +93,17 @@ IsOpen (CycleAt n) = ⊥
 IsOpen _ = Unit {0}
 
 -- along a walk that does not end with a cycle, the pages have an output that is possible for one
--- listing; they take no more calls than for the rows, and for each page that may make calls
+-- listing, with this plan after what came before it; they take no more calls than those before, for
+-- the rows, and for each page that may make calls
+abbrev pub IsOneListingAfter : (Plan → Plan) → ℕ → Form → Place → ℕ → List ℕ → Change → Ending → Type 0
+IsOneListingAfter after before form start tries sizes c ending =
+    OnWalk (shelf_of form) start c.seen.store (λ walk end. IsOpen end
+    → IsAllowed (IsTextOver c.seen.store) (after (listing_plan (listing form start None) walk end))
+    c.old c.new ending
+    × (c.seen'.calls ≤ c.seen.calls + before + calls_for form c.seen.store tries walk
+    + pages_made sizes * (step_call_bound tries 0 + 7)))
+
+-- the pages alone
 abbrev pub IsOneListing : Form → Place → ℕ → List ℕ → Change → Ending → Type 0
 IsOneListing form start tries sizes c ending =
-    OnWalk (shelf_of form) start c.seen.store (λ walk end. IsOpen end
-    → IsAllowed (IsTextOver c.seen.store) (listing_plan (listing form start None) walk end)
-    c.old c.new ending
-    × (c.seen'.calls ≤ c.seen.calls + calls_for form c.seen.store tries walk
-    + pages_made sizes * (step_call_bound tries 0 + 7)))
+    IsOneListingAfter (λ plan. plan) 0 form start tries sizes c ending

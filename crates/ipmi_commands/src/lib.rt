@@ -15,5 +15,5 @@ mod runs;
 mod unread;
 
 pub use job::Wording;
-pub use perform::{execute, execute_in, execute_pages};
+pub use perform::{execute, execute_in, execute_pages, execute_pages_in};
 pub use runs::{answer, execute_image, execute_image_in, report, run, run_pages};

@@ -1,12 +1,12 @@
 //! Lists events and FRU devices with names from the sensor data records.
 ghost use Rattle.std.specs.Prelude.{◌≡◌, ◌+◌};
 ghost use Rattle.ipmi_commands.specs.Below.{AsksAtMost, records_in, write_faults};
-ghost use Rattle.ipmi_commands.specs.Named.{end_after, walk_of};
+ghost use Rattle.ipmi_commands.specs.Named.{end_after, ReadsRecords, walk_of};
 ghost use Rattle.ipmi_commands.specs.declared.job.Job.{Job};
-ghost use Rattle.ipmi_commands.specs.Prelude.{change, IsNamed, job_with, Runs};
+ghost use Rattle.ipmi_commands.specs.Prelude.{change, IsFrom, IsNamed, job_with, Runs, RunsNamedInPages};
 
-use crate::job::{Entries, Form, Named, Wording};
-use crate::pages::list_page;
+use crate::job::{Entries, Form, Listing, Named, Wording};
+use crate::pages::{list_page, list_pages};
 use crate::perform::{list_entries, print_inventories};
 use ipmi_bus::{Controller, Ended, Place};
 use ipmi_command_line::Command;
@@ -81,6 +81,21 @@ fn list_with<'a, C: Controller, O: Sink>(
     }
 }
 
+/// Writes the bytes of all sensor data records to `records`. Returns how their walk ended.
+fn read_records<'a, C: Controller, O: Sink>(
+    alloc: Global,
+    ctl: &mut C,
+    cmd: &Command,
+    records: &mut O,
+) -> Result<Walked, Failure<'a>>
+    ensures asked { AsksAtMost cmd.now.part (C.seen ctl.old) (C.seen ctl.new) }
+    ensures reads { ReadsRecords cmd.now.tries
+        (change (C.seen ctl.old) (C.seen ctl.new) (O.taken records.old) (O.taken records.new)) result }
+{
+    let listed = list_page(alloc, ctl, cmd, &Form::Bytes, Place::First, None, records);
+    walk_of(listed)
+}
+
 /// Reads all sensor data records into memory, then lists with the names in them, in this wording.
 pub(crate) fn list_named<'a, C: Controller, O: Sink>(
     alloc: Global,
@@ -99,16 +114,34 @@ pub(crate) fn list_named<'a, C: Controller, O: Sink>(
     ipmi_bus::laws::what_is_found_is_a_row();
     ipmi_events::laws::records_are_found_again();
     let mut records = Written::new(Vec::new(alloc));
-    let listed = list_page(
-        alloc,
-        ctl,
-        cmd,
-        &Form::Bytes,
-        Place::First,
-        None,
-        &mut records,
-    );
-    let walked = walk_of(listed)?;
+    let walked = read_records(alloc, ctl, cmd, &mut records)?;
     list_with(alloc, ctl, cmd, wording, records.into_inner(), named, out)?;
+    walked.end()
+}
+
+/// Like [`list_named`], for all entries, in pages of these sizes and then in a page without a limit.
+pub(crate) fn list_named_pages<'a, C: Controller, O: Sink>(
+    alloc: Global,
+    ctl: &mut C,
+    cmd: &Command,
+    wording: Wording<'a>,
+    from: Option<u16>,
+    sizes: &[u32],
+    out: &mut O,
+) -> Result<(), Failure<'a>>
+    requires { IsFrom from }
+    ensures faults { O.faults out.new ≡ O.faults out.old + write_faults result }
+    ensures asked { AsksAtMost cmd.now.part (C.seen ctl.old) (C.seen ctl.new) }
+    ensures runs { RunsNamedInPages wording.entry from cmd.now.tries sizes.now
+        (change (C.seen ctl.old) (C.seen ctl.new) (O.taken out.old) (O.taken out.new)) result }
+{
+    ipmi_bus::laws::the_tail_is_a_walk();
+    ipmi_bus::laws::what_is_found_is_a_row();
+    ipmi_events::laws::records_are_found_again();
+    let mut records = Written::new(Vec::new(alloc));
+    let walked = read_records(alloc, ctl, cmd, &mut records)?;
+    let entries = Entries::of(wording, Sensors::of(alloc, records.into_inner())?);
+    let listing = Listing::new(Form::EntryLine(entries), from, None);
+    list_pages(alloc, ctl, cmd, &listing.form, listing.start, sizes, out)?;
     walked.end()
 }

@@ -3,13 +3,13 @@ ghost use Rattle.std.specs.Prelude.{◌≡◌, ◌+◌, true, option_map};
 ghost use Rattle.ipmi_commands.specs.Below.{AsksAtMost, IsCount, is_listing, write_faults};
 ghost use Rattle.ipmi_commands.specs.declared.job.Job.{Job};
 ghost use Rattle.ipmi_commands.specs.declared.job.Listing.{Listing};
-ghost use Rattle.ipmi_commands.specs.Prelude.{change, entries_job, IsFrom, IsPlace, job_of_command, job_of_command_in, Runs, RunsPaged, WritesText};
+ghost use Rattle.ipmi_commands.specs.Prelude.{change, entries_job, IsFrom, IsPlace, job_of_command, job_of_command_in, Runs, RunsPaged, RunsPagedIn, WritesText};
 
 use crate::info::info_text;
 use crate::inventory::inventory_in;
-use crate::job::{Entries, Form, Job, Listing, Wording};
+use crate::job::{Entries, Form, Job, Listing, Named, Wording};
 use crate::last::list_last;
-use crate::named::list_named;
+use crate::named::{list_named, list_named_pages};
 use crate::pages::{list_page, list_pages};
 use ipmi_bus::{Controller, Place, Shelf};
 use ipmi_command_line::{Command, Count};
@@ -210,7 +210,32 @@ pub fn execute_pages<'a, C: Controller, O: Sink>(
     ensures runs { RunsPaged cmd.now pages.now
         (change (C.seen ctl.old) (C.seen ctl.new) (O.taken out.old) (O.taken out.new)) result }
 {
+    execute_pages_in(alloc, ctl, cmd, Wording::Codes, out, pages)
+}
+
+/// Like [`execute_pages`], in this wording. The names of sensors are read once, before the first page.
+pub fn execute_pages_in<'a, C: Controller, O: Sink>(
+    alloc: Global,
+    ctl: &mut C,
+    cmd: &'a Command,
+    wording: Wording<'a>,
+    out: &mut O,
+    pages: &[u32],
+) -> Result<(), Failure<'a>>
+    requires { is_listing cmd.now.task ≡ true }
+    ensures faults { O.faults out.new ≡ O.faults out.old + write_faults result }
+    ensures asked { AsksAtMost cmd.now.part (C.seen ctl.old) (C.seen ctl.new) }
+    ensures runs { RunsPagedIn wording.entry cmd.now pages.now
+        (change (C.seen ctl.old) (C.seen ctl.new) (O.taken out.old) (O.taken out.new)) result }
+{
     ipmi_bus::laws::the_tail_is_a_walk();
-    let listing = Job::of(cmd, Wording::Codes).listing().unwrap();
-    list_pages(alloc, ctl, cmd, &listing.form, listing.start, pages, out)
+    match Job::of(cmd, wording) {
+        Job::Named(wording, Named::Events(_, from)) => {
+            list_named_pages(alloc, ctl, cmd, wording, from, pages, out)
+        }
+        job => {
+            let listing = job.listing().unwrap();
+            list_pages(alloc, ctl, cmd, &listing.form, listing.start, pages, out)
+        }
+    }
 }

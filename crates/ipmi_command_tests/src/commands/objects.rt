@@ -1,12 +1,20 @@
 //! Commands that print objects, over a saved image: their output and the number of their calls.
+ghost use Rattle.std.specs.Prelude.{◌≡◌, true};
+ghost use Rattle.ipmi_command_line.specs.Task.{is_listing};
+
 use super::in_words::outcome_in;
-use super::outcome::assert_outcome;
-use super::over_images::scripted;
+use super::outcome::{Outcome, assert_outcome};
+use super::over_images::{over, scripted};
+use super::pages::sizes;
 use super::saved::image_in;
 use crate::cases::{Case, case_of};
 use crate::command_line::lines::command_of_case;
-use ipmi_commands::Wording;
+use crate::controllers::Counting;
+use ipmi_bus::Controller;
+use ipmi_command_line::Command;
+use ipmi_commands::{Wording, execute_pages_in, report};
 use ipmi_json::Label;
+use ipmi_output::Written;
 use std::alloc::Global;
 use std::process::Abort;
 
@@ -149,4 +157,64 @@ info not present
 #[test]
 fn devices_and_infos_have_an_object(rt: HostRuntime) {
     assert_objects(&rt, rt.alloc(), DEVICES);
+}
+
+/// The outcome of a listing over the controller in pages of these sizes, with no label.
+fn outcome_in_pages<C: Controller + Drop>(
+    alloc: Global,
+    ctl: Counting<C>,
+    command: &Command,
+    pages: &[u32],
+) -> Outcome
+    requires { is_listing command.now.task ≡ true }
+{
+    let mut ctl = ctl;
+    let mut out = Written::new(Vec::new(alloc));
+    let mut err = Vec::new(alloc);
+    let json = Wording::Json(&[]);
+    let ending = execute_pages_in(alloc, &mut ctl, command, json, &mut out, pages);
+    let status = report(ending, &mut err);
+    let calls = ctl.calls;
+    drop(ctl);
+    Outcome {
+        out: out.into_inner(),
+        err,
+        status,
+        calls,
+    }
+}
+
+/// Asserts the outcome of a case in pages of its sizes.
+fn assert_objects_in_pages(rt: &impl Abort, alloc: Global, case: &str) {
+    let case = case_of(rt, case);
+    let ctl = over(rt, alloc, image_in(rt, IMAGES, case.image));
+    let command = command_of_case(rt, alloc, case.words);
+    if !command.is_listing() {
+        panic!(rt; "{}: no listing", case.line);
+    }
+    let outcome = outcome_in_pages(alloc, ctl, &command, &sizes(rt, alloc, case.more));
+    drop(command);
+    assert_outcome(rt, alloc, outcome, case.wanted, case.line);
+}
+
+/// `words|image|size of each page`, then the outcome.
+const IN_PAGES: &str = r#"sel list|all|1
+0 9
+--
+{"object":"sel_entry","record_id":1,"record_type":2,"kind":"event","timestamp":"1987-01-05T18:48:33Z","timestamp_raw":536870913,"generator_id":32,"event_revision":4,"sensor_type":1,"sensor_type_name":"Temperature","sensor_number":1,"sensor_name":"CPU Temp","event_type":1,"event":"Upper Critical going high","event_words":"Upper Critical going high","direction":"asserted","event_data":"595f5a","event_details":"Reading 95 degrees C > threshold 90","raw":"01000201000020200004010101595f5a"}
+{"object":"sel_entry","record_id":2,"record_type":192,"kind":"oem_timestamped","timestamp":null,"timestamp_raw":4294967295,"manufacturer_id":4951,"oem_data":"010203040506","raw":"0200c0ffffffff571300010203040506"}
+====
+sdr hex|all|1 0
+0 6
+--
+{"object":"sdr_raw","record_id":1,"next_record_id":2,"raw":"010051013320000103017f680101000000003838000100000100000000000000000000005f5a550000000202000000c84350552054656d70"}
+{"object":"sdr_raw","record_id":2,"next_record_id":65535,"raw":"0200510100"}
+"#;
+
+// The second page has a reservation of its own, and the names are read once.
+#[test]
+fn objects_are_listed_in_pages(rt: HostRuntime) {
+    for case in IN_PAGES.split("====\n") {
+        assert_objects_in_pages(&rt, rt.alloc(), case);
+    }
 }

@@ -45,7 +45,7 @@ fn push_size(rt: &impl Abort, pages: &mut Vec<u32>, size: &str) {
 }
 
 /// The sizes of pages in a text, split at spaces.
-fn sizes(rt: &impl Abort, alloc: Global, text: &str) -> Vec<u32> {
+pub(super) fn sizes(rt: &impl Abort, alloc: Global, text: &str) -> Vec<u32> {
     let mut pages = Vec::new(alloc);
     for size in text.split_whitespace() {
         push_size(rt, &mut pages, size);
