@@ -5,7 +5,7 @@ use Rattle.std.proofs.lemmas.Bool.Decides.{nat_tests}
 use Rattle.ipmi_text.specs.SdrHeader.{sdr_len}
 use Rattle.std.proofs.lemmas.List.Elements.{All-cons, All-nil}
 use Rattle.ipmi_commands.specs.Below.{AllOf, Count, CycleAt, Done, Ending, Failure, First, FoundIsRow, IsHonest, IsShelf, IsStore, is_whole_record, MissingAt, Place, place_after, records_in, Row, Sdr, Seen, Store, WalkEnd}
-use Rattle.ipmi_commands.specs.Named.{end_after, walk_of}
+use Rattle.ipmi_commands.specs.Named.{end_after, ending_then, walk_of}
 use Rattle.ipmi_commands.specs.declared.named.Walked.{Walked}
 use Rattle.ipmi_commands.specs.Prelude.{after_names, AreTexts, AtEnd, bytes_of_rows, Cause, cause_of, Change, change, Dishonest, end_after_names, ending_of, end_spots_of_last, EndsNamed, EndsFor, EndsListing, Entries, entries_in, Form, GaveUp, HasFirstItems, IsAllowed, IsAmong, IsPage, IsTextOver, Item, Job, job_with, Leaves, listing, listing_plan, MayEnd, most_calls, most_named, most_on_walk, Named, next_spots, NoMemory, NoOutput, OnNamed, OnPlan, Plan, Printed, Refused, row_items, rows_end, Runs, Spot, spots_at_walk_end, spots_before, spots_of_walk, with_first_spots, Wording}
 use Rattle.ipmi_commands.proofs.CountLemmas.{between, ends_here, ends_since}
@@ -223,11 +223,6 @@ module _ (tries : ℕ) (s s' : Seen) (kept : List ℕ) (wording : Wording) (name
   }
 
 -- ---- what follows the walk
-
--- how it ends, by how the listing with names did
-abbrev pub ending_then : Ending → Walked → Ending
-ending_then (Ok done) walked = end_after walked
-ending_then (Err failure) walked = Err failure
 
 pub then_ends : (wording : Wording) (named : Named) (seen : Seen) (ending : Ending) (walked : Walked)
     → EndsNamed wording named seen ending → EndsNamed wording named seen (ending_then ending walked)

@@ -152,6 +152,6 @@ pub paged : TailIsWalk → (wording : Wording) (command : CommandState) (sizes :
     → (IsHonest s → ArePages l.form command.tries l.start sizes (change s s' old new) ending)
     → RunsPagedIn wording command sizes (change s s' old new) ending
 paged tail wording command sizes s s' old new ending l lists is calls may pages =
-    let job : (job_of_command_in wording command ≡ Job.Records l) × NamesNone l.form = grind arith in
+    let job : (job_of_command_in wording command ≡ Job.Records l) × NamesNone l.form × (l.most ≡ None) = grind arith in
     let one : IsHonest s → OneListing l.form l.start command.tries sizes (change s s' old new) ending = λ h. pages_are_one tail l.form command.tries l.start sizes s s' old new ending job.1 h (pages h) in
-    rw job.0 (record { calls = calls; ends = may; why = λ h. (one h).ends; pages = pages; prints = λ h. (one h).along })
+    rw job.0 (job.2, record { calls = calls; ends = may; why = λ h. (one h).ends; pages = pages; prints = λ h. (one h).along })

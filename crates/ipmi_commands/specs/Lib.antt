@@ -6,6 +6,7 @@ pub mod Job
 pub mod Laws
 pub mod Listing
 pub mod Named
+pub mod PagedRun
 pub mod Pages
 pub mod Plan
 pub mod Prelude

@@ -1,4 +1,4 @@
--- The walk that reads names: for the contracts of private functions.
+-- The walk of the sensor data records that reads names.
 use Rattle.std.specs.Prelude.{◌≡◌, ℕ, ◌+◌, ◌≤◌, None, Result, Ok, Err}
 use Rattle.ipmi_commands.specs.Below.{Ending, Failure, First, IsHonest, Place}
 use Rattle.ipmi_bus.specs.declared.step.Ended.{Ended}
@@ -31,3 +31,8 @@ pub record ReadsRecords (tries : ℕ) (c : Change) (result : Result Walked Failu
   pub calls : c.seen'.calls ≤ c.seen.calls + most_on_walk Form.Bytes tries
   pub ends : EndsListing Form.Bytes c.seen' (ending_of listed)
   pub page : IsHonest c.seen → IsPage Form.Bytes First tries None c listed
+
+-- the end of a listing with names, by the end of the listing itself and of the walk before it
+abbrev pub ending_then : Ending → Walked → Ending
+ending_then (Ok done) walked = end_after walked
+ending_then (Err failure) walked = Err failure

@@ -11,7 +11,7 @@ use Rattle.ipmi_commands.specs.declared.unread.Unread.{Unread}
 use Rattle.ipmi_commands.specs.Allowed.{NoMemory, cause_of, EndsFor, IsAllowed, IsFine, Change}
 use Rattle.ipmi_commands.specs.Calls.{calls_for_spot, walk_call_bound, most_on_walk}
 use Rattle.ipmi_commands.specs.Job.{entries_in, shelf_of, is_rewrite, job_in, job_of, listing}
-use Rattle.ipmi_commands.specs.Pages.{ArePages, IsOneListing, IsOneListingAfter, pages_made}
+use Rattle.ipmi_commands.specs.Pages.{ArePages, IsOneListing, pages_made}
 use Rattle.ipmi_commands.specs.Plan.{OnWalk, AtInventory, Plan, after_names, bytes_of_rows, first_rows, last_rows, listing_plan, last_plan, inventory_plan, inventories_plan, info_plan, rewrite_plan, no_plan}
 use Rattle.ipmi_commands.specs.Texts.{IsTextOver}
 
@@ -203,37 +203,6 @@ pub record RunsInPages (form : Form) (start : Place) (tries : ℕ) (sizes : List
   pub pages : IsHonest c.seen → ArePages form tries start sizes c ending
   pub prints : IsHonest c.seen → c.seen'.stores_added ≡ c.seen.stores_added
       → IsOneListing form start tries sizes c ending
-
--- Like `RunsInPages`, for all entries of the log, after the walk that reads the names of their
--- sensors.
-pub record RunsNamedInPages (wording : Wording) (from : Option ℕ) (tries : ℕ) (sizes : List ℕ)
-    (c : Change) (ending : Ending) : Type 0 where
-  pub calls : c.seen'.calls ≤ c.seen.calls
-      + (most_on_walk Form.Bytes tries + pages_made sizes * most_on_walk Form.Passed tries)
-  pub ends : EndsNamed wording (Named.Events Count.All from) c.seen' ending
-  pub why : IsHonest c.seen → EndsFor tries (IsTrue c.seen.plain) c.seen c.seen' (cause_of ending)
-  pub prints : IsHonest c.seen → c.seen'.stores_added ≡ c.seen.stores_added
-      → OnWalk Sdr First c.seen.store (λ records end. IsOneListingAfter
-      (λ plan. after_names records end plan) (walk_call_bound Form.Bytes c.seen.store tries records)
-      (Form.EntryLine (entries_in wording (bytes_of_rows records))) (start_of from) tries sizes c
-      ending)
-
--- the job of listing all records of a shelf, in pages
-abbrev pub RunsJobInPages : Job → ℕ → List ℕ → Change → Ending → Type 0
-RunsJobInPages (Job.Records l) tries sizes c ending =
-    RunsInPages l.form l.start tries sizes c ending
-RunsJobInPages (Job.Named wording (Named.Events count from)) tries sizes c ending =
-    RunsNamedInPages wording from tries sizes c ending
-RunsJobInPages _ tries sizes c ending = ⊥
-
--- a run in pages of a command that lists all records of a shelf, in codes and in a wording
-abbrev pub RunsPaged : CommandState → List ℕ → Change → Ending → Type 0
-RunsPaged command sizes c ending =
-    RunsJobInPages (job_of_command command) command.tries sizes c ending
-
-abbrev pub RunsPagedIn : Wording → CommandState → List ℕ → Change → Ending → Type 0
-RunsPagedIn wording command sizes c ending =
-    RunsJobInPages (job_of_command_in wording command) command.tries sizes c ending
 
 -- the result of writing a text
 abbrev pub WritesText : List ℕ → List ℕ → List ℕ → Ending → Type 0

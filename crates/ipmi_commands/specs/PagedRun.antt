@@ -1,0 +1,68 @@
+-- The contract of a run in pages of a command that lists all records of a shelf.
+use Rattle.std.specs.Prelude.{◌≡◌, ℕ, ◌+◌, ◌*◌, ◌≤◌, IsTrue, Option, None, Result, Ok, Err, List, []}
+use Rattle.ipmi_commands.specs.Below.{CommandState, Count, Ending, Failure, First, IsHonest, records_in, Sdr, Seen, start_of}
+use Rattle.ipmi_commands.specs.declared.job.Form.{Form}
+use Rattle.ipmi_commands.specs.declared.job.Job.{Job}
+use Rattle.ipmi_commands.specs.declared.job.Named.{Named}
+use Rattle.ipmi_commands.specs.declared.job.Wording.{Wording}
+use Rattle.ipmi_commands.specs.declared.named.Walked.{Walked}
+use Rattle.ipmi_commands.specs.Allowed.{cause_of, Change, change, EndsFor}
+use Rattle.ipmi_commands.specs.Calls.{most_on_walk, walk_call_bound}
+use Rattle.ipmi_commands.specs.Job.{entries_in}
+use Rattle.ipmi_commands.specs.Named.{ending_then, ReadsRecords}
+use Rattle.ipmi_commands.specs.Pages.{ArePages, IsOneListingAfter, pages_made}
+use Rattle.ipmi_commands.specs.Plan.{after_names, bytes_of_rows, OnWalk}
+use Rattle.ipmi_commands.specs.Run.{EndsNamed, job_of_command, job_of_command_in, RunsInPages}
+
+-- the lines of entries in a wording, with the names in these sensor data records
+abbrev pub entries_with : Wording → List (List ℕ) → Form
+entries_with wording records = Form.EntryLine (entries_in wording records)
+
+-- after the walk that reads names: the pages, or nothing if that walk failed
+abbrev pub PagesAfter : Result Walked Failure → Seen → Form → Option ℕ → ℕ → List ℕ → Change → Ending
+    → Type 0
+PagesAfter (Ok walked) now form from tries sizes c ending =
+    (listed : Ending) × (ending ≡ ending_then listed walked)
+    × ArePages form tries (start_of from) sizes (change now c.seen' c.old c.new) listed
+PagesAfter (Err failure) now form from tries sizes c ending =
+    (ending ≡ Err failure) × (c.seen' ≡ now) × (c.new ≡ c.old)
+
+-- the sensor data records are read into memory, and then come the pages with their names
+pub record ReadsThenPages (wording : Wording) (from : Option ℕ) (tries : ℕ) (sizes : List ℕ)
+    (c : Change) (ending : Ending) : Type 0 where
+  pub now : Seen
+  pub kept : List ℕ
+  pub walked : Result Walked Failure
+  pub reads : ReadsRecords tries (change c.seen now [] kept) walked
+  pub pages : PagesAfter walked now (entries_with wording (records_in kept)) from tries sizes c ending
+
+-- Like `RunsInPages`, for all entries of the log, after the walk that reads the names of their
+-- sensors.
+pub record RunsNamedInPages (wording : Wording) (from : Option ℕ) (tries : ℕ) (sizes : List ℕ)
+    (c : Change) (ending : Ending) : Type 0 where
+  pub calls : c.seen'.calls ≤ c.seen.calls
+      + (most_on_walk Form.Bytes tries + pages_made sizes * most_on_walk Form.Passed tries)
+  pub ends : EndsNamed wording (Named.Events Count.All from) c.seen' ending
+  pub why : IsHonest c.seen → EndsFor tries (IsTrue c.seen.plain) c.seen c.seen' (cause_of ending)
+  pub pages : IsHonest c.seen → ReadsThenPages wording from tries sizes c ending
+  pub prints : IsHonest c.seen → c.seen'.stores_added ≡ c.seen.stores_added
+      → OnWalk Sdr First c.seen.store (λ records end. IsOneListingAfter
+      (λ plan. after_names records end plan) (walk_call_bound Form.Bytes c.seen.store tries records)
+      (entries_with wording (bytes_of_rows records)) (start_of from) tries sizes c ending)
+
+-- the job of listing all records of a shelf, in pages
+abbrev pub RunsJobInPages : Job → ℕ → List ℕ → Change → Ending → Type 0
+RunsJobInPages (Job.Records l) tries sizes c ending =
+    (l.most ≡ None) × RunsInPages l.form l.start tries sizes c ending
+RunsJobInPages (Job.Named wording (Named.Events Count.All from)) tries sizes c ending =
+    RunsNamedInPages wording from tries sizes c ending
+RunsJobInPages _ tries sizes c ending = ⊥
+
+-- such a command, in codes and in a wording
+abbrev pub RunsPaged : CommandState → List ℕ → Change → Ending → Type 0
+RunsPaged command sizes c ending =
+    RunsJobInPages (job_of_command command) command.tries sizes c ending
+
+abbrev pub RunsPagedIn : Wording → CommandState → List ℕ → Change → Ending → Type 0
+RunsPagedIn wording command sizes c ending =
+    RunsJobInPages (job_of_command_in wording command) command.tries sizes c ending
