@@ -93,8 +93,8 @@ IsOpen (CycleAt n) = ⊥
 IsOpen _ = Unit {0}
 
 -- along a walk that does not end with a cycle, the pages have an output that is possible for one
--- listing, with this plan after what came before it; they take no more calls than those before, for
--- the rows, and for each page that may make calls
+-- listing: `after` gives the plan of the whole run; they take no more calls than `before`, for the
+-- rows, and for each page that may make calls
 abbrev pub IsOneListingAfter : (Plan → Plan) → ℕ → Form → Place → ℕ → List ℕ → Change → Ending → Type 0
 IsOneListingAfter after before form start tries sizes c ending =
     OnWalk (shelf_of form) start c.seen.store (λ walk end. IsOpen end

@@ -1,7 +1,7 @@
 //! An example program with its own controller. The controller has two records, the reading of the first one and an
 //! inventory, all in memory and without an image. It returns at most eight bytes per call, and is busy at every third
-//! call. The program uses the libraries to list the records and to read the serial number of the board. Another
-//! example of a controller is `RawController` of ipmi_raw.
+//! call. The program uses the libraries to list the records, and to read one sensor as a number and the serial number of
+//! the board. Another example of a controller is `RawController` of ipmi_raw.
 #![tactic(auto)]
 
 ghost use Rattle.std.specs.Prelude.{◌≡◌, ◌≤◌, MatchOption, length, drop};
@@ -9,13 +9,15 @@ ghost use Rattle.ipmi_bus.specs.Seen.{IsCall, failing_code};
 ghost use Rattle.ipmi_bus.specs.Unclaimed.{calls_only};
 
 use ipmi_bus::{
-    Code, Controller, Ended, Event, FruEnded, FruSize, NO_NEXT_ID, Part, Shelf, Tally, read_fru,
+    Code, Controller, Cursor, Ended, Event, FruEnded, FruSize, NO_NEXT_ID, Part, Shelf, Tally,
+    read_fru, read_reading,
 };
 use ipmi_command_line::{Command, DEFAULT_PART, DEFAULT_TRIES, Kind, Task};
 use ipmi_commands::execute;
 use ipmi_fru::{AreaFault, FruFault, FruView};
 use ipmi_output::{Failure, Written};
-use ipmi_text::{Reading, fru_text};
+use ipmi_records::SdrView;
+use ipmi_text::{Factors, Fixed, Reading, convert, fru_text};
 use std::alloc::{AllocError, Global};
 use std::io;
 use thiserror::Error;
@@ -30,6 +32,9 @@ const LOCATOR: &[u8] = b"\x02\0\x51\x11\x10\x20\0\x80\0\0\x10\0\x07\x01\0\xc5Boa
 /// An inventory: a header, and a board area with manufacturer, product and serial number.
 const INVENTORY: &[u8] =
     b"\x01\0\0\x01\0\0\0\xfe\x01\x04\0\0\0\0\xc4ACME\xc2B1\xc7SN-0042\xc0\xc0\xc1\0\0\0\0\0\0\x50";
+
+/// 40 degrees, in units of 10^-16.
+const HOT: Fixed = Fixed(400_000_000_000_000_000);
 
 /// The largest number of bytes in one answer.
 const MOST: usize = 8;
@@ -137,6 +142,83 @@ impl Controller for Board {
     }
 }
 
+/// Why reading a sensor failed.
+#[derive(Clone, Copy, Debug, Error)]
+enum SensorError {
+    /// A record or the reading was not read.
+    #[error("{0}")]
+    Unread(#[from] Ended),
+    /// No full sensor record has this name.
+    #[error("no sensor has this name")]
+    Unknown,
+    /// The sensor has no reading now, or its record defines no value.
+    #[error("the sensor has no value")]
+    NoValue,
+    /// Out of memory.
+    #[error("memory ran out")]
+    Memory(#[from] AllocError),
+}
+
+/// How to read a sensor: its LUN and number, and what converts its raw reading to a value.
+#[derive(Clone, Copy)]
+struct Conversion {
+    lun: u8,
+    number: u8,
+    factors: Factors,
+}
+
+/// How to read the sensor of a full record with this name. None if the bytes are another record.
+fn conversion_of(
+    alloc: Global,
+    bytes: &[u8],
+    name: &str,
+) -> Result<Option<Conversion>, AllocError> {
+    let Ok(view) = SdrView::read(bytes) else {
+        return Ok(None);
+    };
+    if view.name(alloc)?.as_deref() != Some(name) {
+        return Ok(None);
+    }
+    match (&view, view.reading_of()) {
+        (SdrView::Full(full), Some((lun, number))) => Ok(Some(Conversion {
+            lun,
+            number,
+            factors: full.factors(),
+        })),
+        _ => Ok(None),
+    }
+}
+
+/// The value of the sensor with this name.
+fn value_named<C: Controller>(
+    alloc: Global,
+    ctl: &mut C,
+    name: &str,
+) -> Result<Fixed, SensorError> {
+    let mut cursor = Cursor::start(alloc, Shelf::Sdr, None, DEFAULT_PART, DEFAULT_TRIES)?;
+    // a walk has at most as many records as there are ids
+    for _ in 0..=u16::MAX {
+        let Some(record) = cursor.step(ctl)? else {
+            break;
+        };
+        if let Some(found) = conversion_of(alloc, record.bytes, name)? {
+            let reading = read_reading(ctl, record.id, found.lun, found.number, DEFAULT_TRIES)?;
+            return value(reading, &found.factors);
+        }
+    }
+    Err(SensorError::Unknown)
+}
+
+/// The value of an available reading.
+fn value(reading: Option<Reading>, factors: &Factors) -> Result<Fixed, SensorError> {
+    match reading {
+        Some(reading) if reading.is_available() => {
+            convert(factors, reading.raw).ok_or(SensorError::NoValue)
+        }
+        _ => Err(SensorError::NoValue),
+    }
+}
+
 /// Why reading the serial number failed.
 #[derive(Clone, Copy, Debug, Error)]
 enum SerialError {
@@ -179,7 +261,7 @@ fn explain<R: Print>(rt: &R, failure: &Failure<'_>) -> io::Result<()> {
     }
 }
 
-/// Lists all records, and then prints the serial number.
+/// Lists all records, and then prints whether the board is hot, and the serial number.
 fn program(rt: &HostRuntime) -> io::Result<()> {
     let mut ctl = Board {
         tally: Tally::new(),
@@ -195,6 +277,11 @@ fn program(rt: &HostRuntime) -> io::Result<()> {
     let mut out = Written::new(io::writer(rt));
     if let Err(failure) = execute(rt.alloc(), &mut ctl, &command, &mut out) {
         explain(rt, &failure)?;
+    }
+    match value_named(rt.alloc(), &mut ctl, "Temp") {
+        Ok(value) if HOT.0 < value.0 => println!(rt; "Temp is above 40 degrees C")?,
+        Ok(_) => println!(rt; "Temp is at most 40 degrees C")?,
+        Err(error) => println!(rt; "No value of Temp: {error}")?,
     }
     match board_serial(rt.alloc(), &mut ctl) {
         Ok(serial) => println!(rt; "Board serial: {serial}"),
