@@ -1,4 +1,4 @@
-use Rattle.std.proofs.Common.{◌∙◌, ℕ, List, Bor, ap, arith, map}
+use Rattle.std.proofs.Common.{◌∙◌, ℕ, List, Bor, ap, map}
 use Rattle.ipmi_text.specs.TwoDigits.{two_digits}
 use Rattle.ipmi_text.proofs.TableLemmas.{text_at}
 use Rattle.ipmi_text.proofs.two_digits.two_digits.Goals as goal
