@@ -7,5 +7,5 @@ pub returns : goal.returns
 returns c =
     c.text_at.ensures
     ∙ text_at hex_byte _ 256 c.from.result (ap (map (λ (entry : Bor (List ℕ)). entry.now)) c.as_slice.ensures)
-      (omega (arith, c.from.ensures, c.ranges.byte))
+    (omega (arith, c.from.ensures, c.ranges.byte))
     ∙ ap hex_byte c.from.ensures
