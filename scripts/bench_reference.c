@@ -8,6 +8,9 @@
  * With `--expert` it does the same, but keeps no records: a table has the place of each id's line in the input, and lines
  * are written as they stand there.
  *
+ * With `--events` it does the work of `sel list` in that way. It accepts only `sel` lines of threshold events with a time
+ * of the clock and a sensor type that has a name.
+ *
  * With `--memory IMAGE PROGRAM [WORD...]` it runs a program over an image, and prints its peak resident memory in KiB. */
 #include <fcntl.h>
 #include <spawn.h>
@@ -274,7 +277,7 @@ static int list(struct image image)
 
 /* The expert's way: only the place of each line. */
 
-enum { ID = 4, NEXT = 9, HEX = 14 };
+enum { ID = 4, NEXT = 9, HEX = 14, ENTRY_BYTES = 16 };
 
 struct place {
     uint32_t start;
@@ -309,18 +312,26 @@ static bool are_digits(unsigned char *digits, size_t count)
     return bad < 16;
 }
 
-/* Notes the place of the line `sdr ID NEXT HEX` that begins at an offset. Returns its id. */
-static uint16_t note_line(struct place *places, unsigned char *text, size_t start, size_t len, bool is_first)
+/* The byte at an offset of a line's record, all of whose characters are digits. */
+static unsigned byte_at(const unsigned char *line, unsigned offset)
+{
+    const unsigned char *digits = line + HEX + 2 * offset;
+    return (digit_plus_1[digits[0]] - 1u) << 4 | (digit_plus_1[digits[1]] - 1u);
+}
+
+/* Notes the place of the line `sdr ID NEXT HEX`, or of a `sel` line, that begins at an offset. Returns its id. */
+static uint16_t note_line(struct place *places, bool is_log, unsigned char *text, size_t start, size_t len, bool is_first)
 {
     unsigned char *line = text + start;
     size_t bytes = (len - HEX) / 2;
-    if (len < HEX + 2 * HEADER_BYTES || memcmp(line, "sdr ", ID) != 0 || line[NEXT - 1] != ' ' || line[HEX - 1] != ' ')
+    if (len < HEX + 2 * HEADER_BYTES || memcmp(line, is_log ? "sel " : "sdr ", ID) != 0 || line[NEXT - 1] != ' ' ||
+        line[HEX - 1] != ' ')
         refuse();
     uint32_t id = number_at(line + ID, 4), next = number_at(line + NEXT, 4);
     if (id >= NO_ID || next > NO_ID || len % 2 != 0 || bytes > MOST_BYTES || !are_digits(line + HEX, len - HEX) ||
-        bytes != HEADER_BYTES + (size_t)number_at(line + HEX + 8, 2))
+        bytes != (is_log ? ENTRY_BYTES : HEADER_BYTES + byte_at(line, 4)))
         refuse();
-    if (is_first ? id != (number_at(line + HEX, 2) | number_at(line + HEX + 2, 2) << 8) : id == 0)
+    if (is_first ? id != (byte_at(line, 0) | byte_at(line, 1) << 8) : id == 0)
         refuse();
     if (places[id].len != 0)
         refuse();
@@ -328,7 +339,67 @@ static uint16_t note_line(struct place *places, unsigned char *text, size_t star
     return (uint16_t)id;
 }
 
-static int list_by_places(struct text text)
+/* The names of sensor types, from 01h on, and the words of threshold events. */
+static const char *const sensor_types[] = {
+    "Temperature", "Voltage", "Current", "Fan", "Physical Security", "Platform Security", "Processor", "Power Supply",
+    "Power Unit", "Cooling Device", "Other Units-based Sensor", "Memory", "Drive Slot", "POST Memory Resize",
+    "System Firmware Progress", "Event Logging Disabled", "Watchdog 1", "System Event", "Critical Interrupt", "Button",
+    "Module", "Microcontroller", "Add-in Card", "Chassis", "Chip Set", "Other FRU", "Cable", "Terminator",
+    "System Boot Initiated", "Boot Error", "OS Boot", "OS Stop", "Slot", "System ACPI Power State", "Watchdog 2",
+    "Platform Alert", "Entity Presence", "Monitor ASIC", "LAN", "Management Subsystem Health", "Battery",
+    "Session Audit", "Version Change", "FRU State"};
+static const char *const threshold_events[] = {
+    "Lower Non-critical going low", "Lower Non-critical going high", "Lower Critical going low",
+    "Lower Critical going high", "Lower Non-recoverable going low", "Lower Non-recoverable going high",
+    "Upper Non-critical going low", "Upper Non-critical going high", "Upper Critical going low",
+    "Upper Critical going high", "Upper Non-recoverable going low", "Upper Non-recoverable going high"};
+
+/* Writes a number below 100. */
+static char *put_two(char *to, unsigned number)
+{
+    *to++ = (char)('0' + number / 10);
+    *to++ = (char)('0' + number % 10);
+    return to;
+}
+
+/* Writes the date of a day, counted from 1970-01-01. Years begin in March here, so that a leap day comes last. */
+static char *put_date(char *to, unsigned day)
+{
+    unsigned count = day + 719468, of_era = count % 146097;
+    unsigned year = (of_era - of_era / 1460 + of_era / 36524 - of_era / 146096) / 365;
+    unsigned of_year = of_era - (365 * year + year / 4 - year / 100), month = (5 * of_year + 2) / 153;
+    year += count / 146097 * 400 + (month > 9);
+    to = stpcpy(put_two(put_two(to, year / 100), year % 100), "-");
+    to = stpcpy(put_two(to, month > 9 ? month - 9 : month + 3), "-");
+    return put_two(to, of_year - (153 * month + 2) / 5 + 1);
+}
+
+static char *put_time(char *to, uint32_t seconds)
+{
+    to = stpcpy(put_date(to, seconds / 86400), " ");
+    to = stpcpy(put_two(to, seconds / 3600 % 24), ":");
+    return put_two(stpcpy(put_two(to, seconds / 60 % 60), ":"), seconds % 60);
+}
+
+/* Writes what `sel list` prints of the event on a line. */
+static void write_event(const unsigned char *line)
+{
+    char entry[128], *to = entry;
+    uint32_t seconds = byte_at(line, 3) | byte_at(line, 4) << 8 | byte_at(line, 5) << 16 | byte_at(line, 6) << 24;
+    unsigned type = byte_at(line, 10) - 1, event = byte_at(line, 12), offset = byte_at(line, 13) & 15;
+    if (byte_at(line, 2) != 2 || seconds <= 0x20000000 || seconds == UINT32_MAX || (event & 127) != 1 ||
+        type >= sizeof sensor_types / sizeof *sensor_types || offset >= sizeof threshold_events / sizeof *threshold_events)
+        refuse();
+    memcpy(to, line + ID, 4);
+    to = put_time(stpcpy(to + 4, " | "), seconds);
+    to = stpcpy(stpcpy(stpcpy(to, " | "), sensor_types[type]), " #0x");
+    memcpy(to, line + HEX + 2 * 11, 2);
+    to = stpcpy(stpcpy(to + 2, " | "), threshold_events[offset]);
+    to = stpcpy(to, event > 127 ? " | Deasserted\n" : " | Asserted\n");
+    fwrite(entry, 1, (size_t)(to - entry), stdout);
+}
+
+static int list_by_places(struct text text, bool is_log)
 {
     static struct place places[0x10000];
     static const char head[] = "ipmi-image 1\n";
@@ -345,7 +416,7 @@ static int list_by_places(struct text text)
         size_t len = (size_t)(end - bytes) - at;
         if (len == 3 && memcmp(bytes + at, "end", 3) == 0)
             break;
-        id = note_line(places, bytes, at, len, is_first);
+        id = note_line(places, is_log, bytes, at, len, is_first);
         if (is_first)
             first = id;
         at += len + 1;
@@ -356,7 +427,10 @@ static int list_by_places(struct text text)
         return 0;
     is_listed_again(first);
     for (id = first;;) {
-        fwrite(bytes + places[id].start, 1, places[id].len, stdout);
+        if (is_log)
+            write_event(bytes + places[id].start);
+        else
+            fwrite(bytes + places[id].start, 1, places[id].len, stdout);
         uint16_t next = places[id].next;
         if (next == NO_ID)
             return 0;
@@ -396,11 +470,13 @@ int main(int argc, char **argv)
     if (argc == 1)
         status = list(read_image(read_input()));
     else if (argc == 2 && strcmp(argv[1], "--expert") == 0)
-        status = list_by_places(read_input());
+        status = list_by_places(read_input(), false);
+    else if (argc == 2 && strcmp(argv[1], "--events") == 0)
+        status = list_by_places(read_input(), true);
     else if (argc >= 4 && strcmp(argv[1], "--memory") == 0)
         measure(argv[2], argv + 3);
     else
-        stop(2, "usage: bench_reference [--expert | --memory IMAGE PROGRAM [WORD...]]");
+        stop(2, "usage: bench_reference [--expert | --events | --memory IMAGE PROGRAM [WORD...]]");
     if (fflush(stdout) != 0 || ferror(stdout))
         stop(4, "write fault");
     return status;

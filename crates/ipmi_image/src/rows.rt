@@ -19,12 +19,13 @@ pub(crate) struct StoredRow<'a> {
 }
 
 /// A record of a shelf, with the offset and the number of its bytes in the buffer of the shelf.
+// The order of the fields leaves no gaps: an image has many of these.
 #[derive(Clone, Copy)]
 pub(crate) struct RowHead {
-    id: u16,
-    next: Option<u16>,
     start: u32,
     len: u16,
+    id: u16,
+    next: Option<u16>,
 }
 
 impl TableItem for RowHead {

@@ -1,19 +1,8 @@
--- The two digits of a number, and texts of points in time.
-use Rattle.std.proofs.Common.{◌≡◌, ◌∙◌, ℕ, List, ◌<◌, ◌≤◌, sym, ◌/◌, ◌%◌, ◌+◌, false, [], ◌∷◌, refl, arith, inl, inr}
-use Rattle.std.specs.Fmt.{digit_glyph}
+-- Texts of points in time.
+use Rattle.std.proofs.Common.{◌≡◌, ◌∙◌, ℕ, List, ◌≤◌, sym, arith, inl, inr}
 use Rattle.std.proofs.lemmas.Bool.{cases_lt}
-use Rattle.std.proofs.lemmas.Bool.Decides.{nat_tests}
 use Rattle.jiff.proofs.Family.{epoch_day_injective}
 use Rattle.ipmi_text.specs.Times.{IsMinutesTextOf, IsMoment, IsUtcTextOf}
-use Rattle.ipmi_text.specs.TwoDigits.{two_digits}
-
--- the two glyphs of a number below 100
-pub digit_glyph_two : (n : ℕ) → n < 100
-    → digit_glyph false (n / 10) ∷ digit_glyph false (n % 10) ∷ [] ≡ two_digits n
-digit_glyph_two n small = rw (decimal_glyph (n / 10) (omega arith), decimal_glyph (n % 10) (omega arith)) refl
-  where
-    decimal_glyph : (d : ℕ) → d < 10 → digit_glyph false d ≡ 48 + d
-    decimal_glyph d h = grind (arith, nat_tests)
 
 -- a day number and a time of day have one text
 one_moment : (day : ℕ) (time text other : List ℕ) → IsMoment day time text → IsMoment day time other

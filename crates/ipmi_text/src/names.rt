@@ -1,5 +1,5 @@
 //! Names from tables, and what is printed for a code without a name.
-ghost use Rattle.std.specs.Prelude.{◌≡◌, map, option_map, slice_get};
+ghost use Rattle.std.specs.Prelude.{◌≡◌, ◌<◌, length, map, option_map, slice_get, slice_index_or, []};
 ghost use Rattle.ipmi_text.specs.Names.{name_from_one};
 
 use crate::hex_digits::HexByte;
@@ -10,6 +10,14 @@ pub(crate) fn name_at(table: &[&'static str], at: usize) -> Option<&'static str>
     ensures { option_map (λ s. s.now) result ≡ slice_get (map (λ s. s.now) table.now) at }
 {
     table.get(at).copied()
+}
+
+/// The text of a number, from a table that begins with number 0.
+pub(crate) fn text_at(table: &[&'static str], number: usize) -> &'static str
+    requires { number < length table.now }
+    ensures { result.now ≡ slice_index_or (map (λ s. s.now) table.now) number [] }
+{
+    table[number]
 }
 
 /// The name of a code, from a table that begins with code 1.
