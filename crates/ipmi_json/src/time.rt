@@ -1,18 +1,39 @@
 //! Points in time as ISO 8601 has them.
-ghost use Rattle.std.specs.Prelude.{◌≡◌, ◌+◌, ◌<◌, ◌≤◌, ◌++◌, IfOk, codes, drop, length, option_map, slice_index, string_bytes, take};
+ghost use Rattle.std.specs.Prelude.{◌≡◌, ◌+◌, ◌<◌, ◌≤◌, ◌++◌, ◌∷◌, [], IfOk, OnOk, codes, drop, length, option_map, slice_index, string_bytes, take};
+ghost use Rattle.ipmi_json.specs.Object.{Adds, integer, text_or_null};
 ghost use Rattle.ipmi_json.specs.Time.{IsIsoMinuteOf, IsIsoTimeOf};
 
+use crate::object::{Value, text_or_null, write_member};
 use ipmi_text::{minutes_text, utc_text};
+use json::Writer;
 use std::alloc::{AllocError, Global};
 
 /// The last time stamp that counts from the start of the controller's clock.
 const LAST_SINCE_START: u32 = 0x2000_0000;
+
+/// The capacity for a date and a time of day.
+const CAPACITY: usize = 24;
 
 /// How many bytes the space and the time of day after it have, to the second.
 const TO_THE_SECOND: usize = 9;
 
 /// How many they have to the minute.
 const TO_THE_MINUTE: usize = 6;
+
+/// Writes a point in time under a key, and the time stamp that it is from under another.
+pub(crate) fn write_time(
+    out: &mut Writer,
+    key: &'static str,
+    raw_key: &'static str,
+    time: Option<&str>,
+    stamp: u32,
+) -> Result<(), AllocError>
+    ensures { OnOk result (Adds 1 ((key.entry.now, text_or_null (option_map (λ s. s.now) time.entry))
+        ∷ (raw_key.entry.now, integer stamp) ∷ []) out.old out.new) }
+{
+    write_member(out, key, text_or_null(time))?;
+    write_member(out, raw_key, Value::Integer(u64::from(stamp)))
+}
 
 /// A date and a time of day, with a space at a place between them, as ISO 8601 has them. `end` follows them.
 fn iso_text(alloc: Global, text: &str, space: usize, end: &str) -> Result<String, AllocError>
@@ -23,7 +44,9 @@ fn iso_text(alloc: Global, text: &str, space: usize, end: &str) -> Result<String
 {
     let date = &text[..space];
     let time = &text[space + 1..];
-    format!(in alloc; "{date}T{time}{end}")
+    let mut iso = String::with_capacity(alloc, CAPACITY)?;
+    write!(iso, "{date}T{time}{end}")?;
+    Ok(iso)
 }
 
 /// The point in time that a time stamp is, as ISO 8601 has it; None where it is none.
