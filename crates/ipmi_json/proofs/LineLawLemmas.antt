@@ -93,7 +93,8 @@ module _ (one_utc_text : UtcTextIsUnique) where
       → AreBytes bytes → AreEventMembers bytes view ms → AreEventMembers bytes view more → ms ≡ more
   one_event one_text bytes view ms more are h k =
       let time = one_stamp bytes h.time k.time are h.is_time k.is_time in
-      let details = one_text bytes (full_of view) h.details k.details h.are_details k.are_details in
+      let text = one_text bytes (full_of view) h.are_details.0 k.are_details.0 h.are_details.1.0 k.are_details.1.0 in
+      let details = h.are_details.1.1 ∙ rw text (sym k.are_details.1.1) in
       h.are ∙ rw (time, details) (sym k.are)
 
   one_timed : (bytes : List ℕ) (ms more : List Pair) → AreBytes bytes → AreTimedMembers bytes ms

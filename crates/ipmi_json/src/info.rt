@@ -10,6 +10,9 @@ use crate::time::{time_text, write_time};
 use ipmi_records::Info;
 use std::alloc::{AllocError, Global};
 
+/// The capacity for a point in time.
+const TIME_CAPACITY: usize = 24;
+
 /// The line of an info.
 fn info_line(
     alloc: Global,
@@ -20,8 +23,9 @@ fn info_line(
     ensures { IfOk result (λ line. IsInfoLine name.entry.now bytes.now labels.now line.items) }
 {
     let info = Info::read(bytes);
-    let addition = time_text(alloc, info.last_addition)?;
-    let erase = time_text(alloc, info.last_erase)?;
+    let mut text = String::with_capacity(alloc, TIME_CAPACITY)?;
+    let addition = time_text(alloc, &mut text, info.last_addition)?;
+    let erase = time_text(alloc, &mut text, info.last_erase)?;
     let mut out = begin(alloc)?;
     write_member(&mut out, "object", Value::Text(name))?;
     write_members(

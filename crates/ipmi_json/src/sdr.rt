@@ -17,7 +17,7 @@ use ipmi_records::{
     CompactSensor, FruLocator, FullSensor, Locator, SdrFault, SdrView, Sensor, Shown, Threshold,
     has_thresholds, shown_of, states_in, status_of,
 };
-use ipmi_text::{Fixed, Reading, SensorType, Units, convert};
+use ipmi_text::{Fixed, Reading, SensorType, Units, convert, push_sdr_text};
 use json::Writer;
 use std::alloc::{AllocError, Global};
 
@@ -42,12 +42,21 @@ fn kind_word(view: &SdrView) -> &'static str
     }
 }
 
-/// Writes the name of a record, if it has one.
-fn write_name(alloc: Global, out: &mut Writer, view: &SdrView) -> Result<(), AllocError>
+/// Writes the name of a record, if it has one. `text` is used for it.
+fn write_name(
+    alloc: Global,
+    out: &mut Writer,
+    text: &mut String,
+    view: &SdrView,
+) -> Result<(), AllocError>
     ensures { OnOk result (Adds 1 (name_members (name_of view.now)) out.old out.new) }
 {
-    match view.name(alloc)? {
-        Some(name) => write_member(out, "name", Value::Text(name.as_str())),
+    match view.id_string() {
+        Some(id) => {
+            text.clear();
+            push_sdr_text(alloc, text, id.type_length, id.rest)?;
+            write_member(out, "name", Value::Text(text.as_str()))
+        }
         None => write_members(out, &[]),
     }
 }
@@ -338,7 +347,7 @@ pub fn sdr_record_line(
         view.record_type(),
         kind_word(view),
     )?;
-    write_name(alloc, &mut out, view)?;
+    write_name(alloc, &mut out, &mut text, view)?;
     write_told(alloc, &mut out, &mut text, view, reading)?;
     write_raw(alloc, &mut out, view.bytes())?;
     finish(out, labels)

@@ -1,12 +1,11 @@
 //! The objects of the event log's entries.
 ghost use Rattle.std.specs.Prelude.{◌≡◌, ◌∷◌, [], IfOk, OnOk, codes, option_map, string_bytes};
-ghost use Rattle.ipmi_text.specs.Events.{event_text_of};
+ghost use Rattle.json.specs.Json.{string};
 ghost use Rattle.ipmi_records.specs.Prelude.{event_type, is_deasserted, sensor_type, words_of_event};
-ghost use Rattle.ipmi_events.specs.Details.{IsDetails};
 ghost use Rattle.ipmi_events.specs.EventLines.{event_offset, full_of};
 ghost use Rattle.ipmi_events.specs.Words.{event_words};
 ghost use Rattle.ipmi_json.specs.Object.{Adds, AddsSome};
-ghost use Rattle.ipmi_json.specs.Sel.{AreEventMembers, AreTimedMembers, AreTold, IsSelLine, data_members, direction_word, kind_word, meaning_members, name_by, sensor_record, source_members};
+ghost use Rattle.ipmi_json.specs.Sel.{AreDetailsMembers, AreEventMembers, AreTimedMembers, AreTold, IsSelLine, data_members, direction_word, kind_word, meaning_members, name_by, sensor_record, source_members};
 
 use crate::object::{
     Label, Value, begin, finish, text_or_null, text_unless_empty, write_member, write_printed,
@@ -16,15 +15,12 @@ use crate::time::{time_text, write_time};
 use ipmi_events::{Sensors, event_words, push_details, push_sensor_name, record_for};
 use ipmi_records::SelView::{Event, OemPlain, OemTimed, Other};
 use ipmi_records::{EventEntry, FullSensor, OemTimestampedEntry, SdrView, SelView};
-use ipmi_text::{EventWords, SensorType};
+use ipmi_text::{EventWords, SensorType, event_name};
 use json::Writer;
 use std::alloc::{AllocError, Global};
 
-/// The capacity for most texts but details.
+/// The capacity for most texts.
 const TEXT_CAPACITY: usize = 64;
-
-/// The capacity for most details.
-const DETAILS_CAPACITY: usize = 64;
 
 /// Bits 3:0 of an event's first data byte: its offset.
 const OFFSET_BITS: u8 = 0x0F;
@@ -117,13 +113,20 @@ fn write_source(
     write_name(alloc, out, text, event, view)
 }
 
-/// The specified words of an event.
-fn specified_words(event: &EventEntry) -> EventWords
-    ensures { event_text_of result.event result.data1 ≡ words_of_event event.now }
+/// Writes the specified words of an event. `text` is used for them where they have codes.
+fn write_specified(
+    out: &mut Writer,
+    text: &mut String,
+    event: &EventEntry,
+) -> Result<(), AllocError>
+    ensures { OnOk result (Adds 1 ((codes "event", string (words_of_event event.now)) ∷ [])
+        out.old out.new) }
 {
-    EventWords {
-        event: event.event_type(),
-        data1: event.data_bytes()[0],
+    let data1 = event.data_bytes()[0];
+    let event = event.event_type();
+    match event_name(event, data1 & OFFSET_BITS) {
+        Some(words) => write_member(out, "event", Value::Text(words)),
+        None => write_printed(out, text, "event", EventWords { event, data1 }),
     }
 }
 
@@ -150,38 +153,37 @@ fn direction_word(event: &EventEntry) -> &'static str
     }
 }
 
-/// The details of an event, by the record of its sensor.
-fn details_of(
-    alloc: Global,
-    event: &EventEntry,
-    view: Option<&SdrView>,
-) -> Result<String, AllocError>
-    ensures { IfOk result (λ text. IsDetails event.now (full_of (option_map (λ v. v.now) view.entry))
-        (string_bytes text)) }
-{
-    let mut details = String::with_capacity(alloc, DETAILS_CAPACITY)?;
-    push_details(&mut details, event, full_of(view))?;
-    Ok(details)
-}
-
-/// Writes what an event says, with its details. `text` is used for its specified words.
+/// Writes what an event says. `text` is used for its specified words.
 fn write_meaning(
     alloc: Global,
     out: &mut Writer,
     text: &mut String,
     event: &EventEntry,
-    details: &str,
 ) -> Result<(), AllocError>
-    ensures { OnOk result (Adds 1 (meaning_members details.now event.now) out.old out.new) }
+    ensures { OnOk result (Adds 1 (meaning_members event.now) out.old out.new) }
 {
     let event_type = u64::from(event.event_type());
     let content = hex::encode(alloc, event.data_bytes())?;
     write_member(out, "event_type", Value::Integer(event_type))?;
-    write_printed(out, text, "event", specified_words(event))?;
+    write_specified(out, text, event)?;
     write_member(out, "event_words", text_or_null(words_of(event)))?;
     write_member(out, "direction", Value::Text(direction_word(event)))?;
-    write_member(out, "event_data", Value::Text(content.as_str()))?;
-    write_member(out, "event_details", text_unless_empty(details))
+    write_member(out, "event_data", Value::Text(content.as_str()))
+}
+
+/// Writes the details of an event, by the record of its sensor. `text` is used for them.
+fn write_details(
+    out: &mut Writer,
+    text: &mut String,
+    event: &EventEntry,
+    view: Option<&SdrView>,
+) -> Result<(), AllocError>
+    ensures { OnOk result
+        (AddsSome 1 (AreDetailsMembers event.now (option_map (λ v. v.now) view.entry)) out.old out.new) }
+{
+    text.clear();
+    push_details(text, event, full_of(view))?;
+    write_member(out, "event_details", text_unless_empty(text.as_str()))
 }
 
 /// Writes what an event tells, by the record of its sensor.
@@ -194,18 +196,13 @@ fn write_event(
     ensures { OnOk result (AddsSome 1 (AreEventMembers event.now (option_map (λ v. v.now) view.entry))
         out.old out.new) }
 {
-    let time = time_text(alloc, event.time_stamp())?;
-    let details = details_of(alloc, event, view)?;
     let mut text = String::with_capacity(alloc, TEXT_CAPACITY)?;
-    write_time(
-        out,
-        "timestamp",
-        "timestamp_raw",
-        time.as_deref(),
-        event.time_stamp(),
-    )?;
+    let time = time_text(alloc, &mut text, event.time_stamp())?;
+    let stamp = event.time_stamp();
+    write_time(out, "timestamp", "timestamp_raw", time.as_deref(), stamp)?;
     write_source(alloc, out, &mut text, event, view)?;
-    write_meaning(alloc, out, &mut text, event, details.as_str())
+    write_meaning(alloc, out, &mut text, event)?;
+    write_details(out, &mut text, event, view)
 }
 
 /// Writes what an OEM timestamped record tells.
@@ -216,7 +213,8 @@ fn write_timed(
 ) -> Result<(), AllocError>
     ensures { OnOk result (AddsSome 1 (AreTimedMembers entry.now) out.old out.new) }
 {
-    let time = time_text(alloc, entry.time_stamp())?;
+    let mut text = String::with_capacity(alloc, TEXT_CAPACITY)?;
+    let time = time_text(alloc, &mut text, entry.time_stamp())?;
     let manufacturer = u64::from(entry.manufacturer_id());
     write_time(
         out,

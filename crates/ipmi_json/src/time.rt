@@ -1,10 +1,11 @@
 //! Points in time as ISO 8601 has them.
 ghost use Rattle.std.specs.Prelude.{◌≡◌, ◌+◌, ◌<◌, ◌≤◌, ◌++◌, ◌∷◌, [], IfOk, OnOk, codes, drop, length, option_map, slice_index, string_bytes, take};
+ghost use Rattle.ipmi_text.specs.Times.{IsUtcTextOf};
 ghost use Rattle.ipmi_json.specs.Object.{Adds, integer, text_or_null};
 ghost use Rattle.ipmi_json.specs.Time.{IsIsoMinuteOf, IsIsoTimeOf};
 
 use crate::object::{Value, text_or_null, write_member};
-use ipmi_text::{minutes_text, utc_text};
+use ipmi_text::{UtcTime, minutes_text};
 use json::Writer;
 use std::alloc::{AllocError, Global};
 
@@ -45,20 +46,35 @@ fn iso_text(alloc: Global, text: &str, space: usize, end: &str) -> Result<String
     let date = &text[..space];
     let time = &text[space + 1..];
     let mut iso = String::with_capacity(alloc, CAPACITY)?;
-    write!(iso, "{date}T{time}{end}")?;
+    iso.push_str(date)?;
+    iso.push_str("T")?;
+    iso.push_str(time)?;
+    iso.push_str(end)?;
     Ok(iso)
 }
 
-/// The point in time that a time stamp is, as ISO 8601 has it; None where it is none.
-pub(crate) fn time_text(alloc: Global, seconds: u32) -> Result<Option<String>, AllocError>
+/// Replaces a text with that of a time stamp.
+fn set_utc(text: &mut String, seconds: u32) -> Result<(), AllocError>
+    ensures { OnOk result (IsUtcTextOf seconds (string_bytes text.new)) }
+{
+    text.clear();
+    text.write(UtcTime::of(seconds))
+}
+
+/// The point in time that a time stamp is, as ISO 8601 has it; None where it is none. `text` is used for it.
+pub(crate) fn time_text(
+    alloc: Global,
+    text: &mut String,
+    seconds: u32,
+) -> Result<Option<String>, AllocError>
     ensures { IfOk result (λ time. IsIsoTimeOf seconds (option_map (λ s. string_bytes s) time)) }
 {
     if seconds <= LAST_SINCE_START || seconds == u32::MAX {
         return Ok(None);
     }
-    let text = utc_text(alloc, seconds)?;
+    set_utc(text, seconds)?;
     let space = text.as_bytes().len() - TO_THE_SECOND;
-    Ok(Some(iso_text(alloc, &text, space, "Z")?))
+    Ok(Some(iso_text(alloc, text.as_str(), space, "Z")?))
 }
 
 /// The point in time that so many minutes after 1996-01-01 00:00 are, as ISO 8601 has it; None for 0, which is none.
