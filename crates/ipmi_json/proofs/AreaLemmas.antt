@@ -1,7 +1,7 @@
 -- The members written for an area.
-use Rattle.std.proofs.Common.{◌≡◌, ◌∙◌, ◌≤◌, ℕ, List, [], ◌∷◌, ◌++◌, ap, append-nil, arith, codes, drop, refl, sym}
-use Rattle.json.specs.Token.{Token, key}
-use Rattle.json.specs.Tree.{depth, json_tokens}
+use Rattle.std.proofs.Common.{◌≡◌, ◌∙◌, ◌≤◌, ℕ, List, [], ◌∷◌, ◌++◌, arith, codes, drop, refl}
+use Rattle.json.specs.Token.{Token}
+use Rattle.json.specs.Tree.{depth}
 use Rattle.ipmi_fru.specs.Prelude.{AreaField}
 use Rattle.ipmi_json.specs.Areas.{extra_texts, field_members, first_value}
 use Rattle.ipmi_json.specs.Object.{AreWithin, texts, tokens_in}
@@ -20,13 +20,13 @@ within_fields language (name ∷ keys) fields =
     let rest = within_fields language keys (drop 1 fields) in
     omega (arith, one, rest)
 
--- with the last member all fields are written
+-- the last member ends them all
 pub fields_written : (language language_is_of : ℕ) (keys : List (List ℕ)) (first fields left : List AreaField)
     (list : List (List ℕ)) (old now new : List Token)
     → list ≡ extra_texts language left
     → now ++ tokens_in (field_members language [] left) ≡ old ++ tokens_in (field_members language keys first)
     → language ≡ language_is_of → first ≡ fields
-    → new ≡ now ++ (key (codes "extra") ∷ json_tokens (texts list))
+    → new ≡ now ++ tokens_in ((codes "extra", texts list) ∷ [])
     → new ≡ old ++ tokens_in (field_members language_is_of keys fields)
 fields_written language language_is_of keys first fields left list old now new list_is so_far language_is first_is last =
-    last ∙ rw list_is (ap (λ l. now ++ (key (codes "extra") ∷ l)) (sym (append-nil (json_tokens (texts (extra_texts language left)))))) ∙ so_far ∙ rw (language_is, first_is) refl
+    last ∙ rw list_is refl ∙ so_far ∙ rw (language_is, first_is) refl

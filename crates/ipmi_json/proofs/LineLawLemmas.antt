@@ -12,13 +12,11 @@ use Rattle.ipmi_text.specs.declared.units.Units.{Units}
 use Rattle.ipmi_events.specs.EventLines.{full_of}
 use Rattle.ipmi_events.specs.Laws.{DetailsAreUnique}
 use Rattle.ipmi_records.specs.Prelude.{entry_bytes, number_at, time_stamp}
-use Rattle.ipmi_records.specs.declared.column.Shown.{Shown}
 use Rattle.ipmi_records.specs.declared.sdr.SdrView.{SdrView}
 use Rattle.ipmi_records.specs.declared.sel.SelView.{SelView}
-use Rattle.ipmi_records.specs.declared.sensor.Sensor.{Sensor}
 use Rattle.ipmi_json.specs.Laws.{EntryLineIsUnique, InfoLineIsUnique, NoObjectLineIsEmpty, ObjectLineIsUnique, RecordLineIsUnique}
 use Rattle.ipmi_json.specs.Object.{IsDecimalOrNull, IsLineOfJson, Pair}
-use Rattle.ipmi_json.specs.Sdr.{AreCompactMembers, AreFullMembers, AreReadingMembers, AreThresholdMembers, AreTold}
+use Rattle.ipmi_json.specs.Sdr.{AreCompactMembers, AreFullMembers, AreThresholdMembers, AreTold, AreValueMembers}
 use Rattle.ipmi_json.specs.Sel.{AreEventMembers, AreTimedMembers, sensor_record}
 use Rattle.ipmi_json.specs.Sel as sel
 use Rattle.ipmi_json.specs.Time.{IfIso, IsIsoMoment, IsIsoTimeOf}
@@ -95,7 +93,8 @@ module _ (one_utc_text : UtcTextIsUnique) where
       → AreBytes bytes → AreEventMembers bytes view ms → AreEventMembers bytes view more → ms ≡ more
   one_event one_text bytes view ms more are h k =
       let time = one_stamp bytes h.time k.time are h.is_time k.is_time in
-      let details = one_text bytes (full_of view) h.details k.details h.are_details k.are_details in
+      let text = one_text bytes (full_of view) h.are_details.0 k.are_details.0 h.are_details.1.0 k.are_details.1.0 in
+      let details = h.are_details.1.1 ∙ rw text (sym k.are_details.1.1) in
       h.are ∙ rw (time, details) (sym k.are)
 
   one_timed : (bytes : List ℕ) (ms more : List Pair) → AreBytes bytes → AreTimedMembers bytes ms
@@ -127,10 +126,9 @@ module _ (one_utc_text : UtcTextIsUnique) where
 -- ---- records
 
 module _ (one : DecimalIsUnique) where
-  one_reading : (sensor : Sensor) (value : Option ℤ) (units : Units) (shown : Shown)
-      (status : List ℕ) (ms more : List Pair) → AreReadingMembers sensor value units shown status ms
-      → AreReadingMembers sensor value units shown status more → ms ≡ more
-  one_reading sensor value units shown status ms more h k =
+  one_value : (value : Option ℤ) (units : Units) (ms more : List Pair) → AreValueMembers value units ms
+      → AreValueMembers value units more → ms ≡ more
+  one_value value units ms more h k =
       h.are ∙ rw (one_number one value h.number k.number h.is_number k.is_number) (sym k.are)
 
   one_thresholds : (bytes : List ℕ) (ms more : List Pair) → AreThresholdMembers bytes ms
@@ -148,13 +146,13 @@ module _ (one : DecimalIsUnique) where
       → AreFullMembers bytes reading status ms → AreFullMembers bytes reading status more
       → ms ≡ more
   one_full bytes reading status ms more h k =
-      h.are ∙ rw (one_reading _ _ _ _ _ h.shown k.shown h.are_shown k.are_shown, one_thresholds bytes h.thresholds k.thresholds h.are_thresholds k.are_thresholds) (sym k.are)
+      h.are ∙ rw (one_value _ _ h.value k.value h.are_value k.are_value, one_thresholds bytes h.thresholds k.thresholds h.are_thresholds k.are_thresholds) (sym k.are)
 
   one_compact : (bytes : List ℕ) (reading : Option Reading) (status : List ℕ) (ms more : List Pair)
       → AreCompactMembers bytes reading status ms → AreCompactMembers bytes reading status more
       → ms ≡ more
   one_compact bytes reading status ms more h k =
-      h.are ∙ rw (one_reading _ _ _ _ _ h.shown k.shown h.are_shown k.are_shown) (sym k.are)
+      h.are ∙ rw (one_value _ _ h.value k.value h.are_value k.are_value) (sym k.are)
 
   one_told : (view : SdrView) (reading : Option Reading) (ms more : List Pair)
       → AreTold view reading ms → AreTold view reading more → ms ≡ more

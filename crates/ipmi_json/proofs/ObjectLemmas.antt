@@ -1,14 +1,15 @@
 -- What the code writes for members, and the object that this is.
-use Rattle.std.proofs.Common.{◌≡◌, ◌≤◌, ◌+◌, ℕ, Option, None, Some, List, [], ◌∷◌, ◌++◌, refl, sym, ap, ◌∙◌, append_assoc, append-nil, option_and_then, arith, map, rules, string_bytes}
+use Rattle.std.proofs.Common.{◌≡◌, ◌≤◌, ◌+◌, ℕ, ℤ, Some, List, [], ◌∷◌, ◌++◌, refl, sym, ap, ◌∙◌, append_assoc, append-nil, option_and_then, arith, map, rules, string_bytes}
 use Rattle.std.specs.Borrow.{Bor}
 use Rattle.json.proofs.Printed.Trees.{value-json_tokens}
-use Rattle.json.specs.Json.{Json, document, if_last, max_depth, null, string, value}
+use Rattle.json.specs.Json.{Json, document, if_last, max_depth, null, number, string, value}
 use Rattle.json.specs.Lex.{tokens}
 use Rattle.json.specs.Print.{print}
 use Rattle.json.specs.Token.{Token, begin_object, end_object, key}
 use Rattle.json.specs.Tree.{depth, items_depth, json_tokens, members_tokens}
 use Rattle.json.specs.Written.{Written}
-use Rattle.ipmi_json.specs.Object.{Adds, AddsValue, AreWithin, IsOpen, Pair, json_of, items_in, labels_of, members_in, object_in, pairs_of, text_or_null, tokens_in}
+use Rattle.ipmi_text.specs.Decimal.{IsDecimalOf}
+use Rattle.ipmi_json.specs.Object.{Adds, AddsDecimal, AddsValue, AreWithin, IsOpen, Pair, json_of, items_in, labels_of, members_in, object_in, pairs_of, tokens_in}
 use Rattle.ipmi_json.specs.declared.object.Value.{Value}
 use Rattle.ipmi_json.specs.declared.object.Label.{Label}
 
@@ -22,11 +23,9 @@ depth-json_of : (v : Value) → depth (json_of v) ≤ 1
 depth-json_of Value.Null = omega arith
 depth-json_of (Value.Bool b) = omega arith
 depth-json_of (Value.Integer n) = omega arith
-depth-json_of (Value.Word text) = omega arith
-depth-json_of (Value.Decimal text) = omega arith
 depth-json_of (Value.Text text) = omega arith
 depth-json_of (Value.Texts list) =
-    let flat = depth-texts (map (λ text. string_bytes text) list.items) in
+    let flat = depth-texts (map (λ text. string_bytes text) list.now) in
     omega (arith, flat)
 
 pub within_pairs : (ms : List (Bor (List ℕ) × Value)) → AreWithin 1 (pairs_of ms)
@@ -74,6 +73,38 @@ adds_both deep ms more old mid new one two = record {
   within = within_joined deep deep deep ms more one.within two.within (omega arith) (omega arith);
 }
 
+-- the same, one after another
+pub joined : {deep : ℕ} {ms more : List Pair} {old mid new : Written} → Adds deep ms old mid
+    → Adds deep more mid new → Adds deep (ms ++ more) old new
+joined one two = adds_both _ _ _ _ _ _ one two
+
+-- a key and its value
+pub member_added : (name : List ℕ) (v : Value) (old named new : Written)
+    → (named.tokens ≡ old.tokens ++ key name ∷ []) × (named.before ≡ old.before)
+    → (new.tokens ≡ named.tokens ++ json_tokens (json_of v)) × (new.before ≡ named.before)
+    → Adds 1 ((name, json_of v) ∷ []) old new
+member_added name v old named new first second = record {
+  before = second.1 ∙ first.1;
+  tokens = second.0 ∙ rw first.0 (simp (append_assoc, append-nil));
+  within = let one = depth-json_of v in omega (arith, one);
+}
+
+-- the decimal of a value
+pub decimal_added : (name : List ℕ) (value : ℤ) (text : List ℕ) (old named new : Written)
+    → IsDecimalOf value text
+    → (named.tokens ≡ old.tokens ++ key name ∷ []) × (named.before ≡ old.before)
+    → (new.tokens ≡ named.tokens ++ json_tokens (number text)) × (new.before ≡ named.before)
+    → AddsDecimal name (Some value) old new
+decimal_added name value text old named new is first second = record {
+  decimal = number text;
+  is = (text, (is, refl));
+  adds = record {
+    before = second.1 ∙ first.1;
+    tokens = second.0 ∙ rw first.0 (simp append_assoc);
+    within = omega arith;
+  };
+}
+
 pub members_end : (ms : List Pair) → members_tokens (members_in ms) ≡ tokens_in ms ++ end_object ∷ []
 members_end [] = refl
 members_end (m ∷ ms) =
@@ -103,13 +134,12 @@ object_added deep ms Is old begun filled new is first adds last = record {
 pub value_and_member : (name other : List ℕ) (Is : Json → Type 0) (last : Json) (old named valued new : Written)
     → (named.tokens ≡ old.tokens ++ key name ∷ []) × (named.before ≡ old.before)
     → (v : AddsValue 2 Is named valued)
-    → (new.tokens ≡ valued.tokens ++ (key other ∷ json_tokens last)) × (new.before ≡ valued.before)
-    → depth last ≤ 2
+    → Adds 1 ((other, last) ∷ []) valued new
     → Adds 2 ((name, v.value) ∷ (other, last) ∷ []) old new
-value_and_member name other Is last old named valued new first v second flat = record {
-  before = second.1 ∙ v.before ∙ first.1;
-  tokens = second.0 ∙ rw (v.tokens, first.0) (simp (append_assoc, append-nil));
-  within = let inner : depth v.value ≤ 2 = v.within in omega (arith, inner, flat);
+value_and_member name other Is last old named valued new first v adds = record {
+  before = adds.before ∙ v.before ∙ first.1;
+  tokens = adds.tokens ∙ rw (v.tokens, first.0) (simp append_assoc);
+  within = let inner : depth v.value ≤ 2 = v.within in omega (arith, inner, adds.within);
 }
 
 pub null_added : (Is : Json → Type 0) (old new : Written) → Is null
@@ -122,10 +152,6 @@ null_added Is old new is added = record {
   tokens = added.0;
   within = omega arith;
 }
-
-pub depth-text_or_null : (text : Option (List ℕ)) → depth (text_or_null text) ≤ 2
-depth-text_or_null None = omega arith
-depth-text_or_null (Some text) = omega arith
 
 -- ---- reading back
 

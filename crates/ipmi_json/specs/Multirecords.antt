@@ -50,6 +50,13 @@ abbrev pub high_key : DcKind → List ℕ
 high_key DcKind.Output = codes "positive_deviation_volts"
 high_key DcKind.Load = codes "maximum_volts"
 
+abbrev pub current_members : DcFields → List Pair
+current_members fields =
+    (codes "ripple_millivolts", integer fields.ripple)
+    ∷ (codes "minimum_milliamperes", integer fields.least_current)
+    ∷ (codes "maximum_milliamperes", integer fields.greatest_current)
+    ∷ []
+
 -- the voltages and the currents
 pub record AreRangeMembers (kind : DcKind) (fields : DcFields) (ms : List Pair) : Type 0 where
   pub nominal : List ℕ
@@ -62,10 +69,7 @@ pub record AreRangeMembers (kind : DcKind) (fields : DcFields) (ms : List Pair) 
       (codes "nominal_volts", number nominal)
       ∷ (low_key kind, number low)
       ∷ (high_key kind, number high)
-      ∷ (codes "ripple_millivolts", integer fields.ripple)
-      ∷ (codes "minimum_milliamperes", integer fields.least_current)
-      ∷ (codes "maximum_milliamperes", integer fields.greatest_current)
-      ∷ []
+      ∷ current_members fields
 
 pub record AreDcMembers (kind : DcKind) (r : MultiRecord) (ms : List Pair) : Type 0 where
   pub ranges : List Pair

@@ -68,10 +68,8 @@ abbrev pub json_of : Value → Json
 json_of Value.Null = null
 json_of (Value.Bool b) = boolean b
 json_of (Value.Integer n) = integer n
-json_of (Value.Word text) = string text.now
-json_of (Value.Decimal number_text) = number (string_bytes number_text.text)
-json_of (Value.Text text) = string (string_bytes text)
-json_of (Value.Texts list) = texts (map (λ text. string_bytes text) list.items)
+json_of (Value.Text text) = string text.now
+json_of (Value.Texts list) = texts (map (λ text. string_bytes text) list.now)
 
 -- a member as it is seen
 abbrev pub pair_of : Bor (List ℕ) × Value → Pair
@@ -113,6 +111,12 @@ pub record AddsSome (deep : ℕ) (Are : List Pair → Type 0) (old new : Written
   pub ms : List Pair
   pub are : Are ms
   pub adds : Adds deep ms old new
+
+-- the exact decimal of a value, or null, was written under a key
+pub record AddsDecimal (name : List ℕ) (value : Option ℤ) (old new : Written) : Type 0 where
+  pub decimal : Json
+  pub is : IsDecimalOrNull value decimal
+  pub adds : Adds 1 ((name, decimal) ∷ []) old new
 
 -- a value of which this holds was written
 pub record AddsValue (deep : ℕ) (Is : Json → Type 0) (old new : Written) : Type 0 where

@@ -80,19 +80,24 @@ abbrev pub value_shown : List ℕ → Shown → Option ℤ
 value_shown bytes (Shown.Value reading) = reading_value (factors_in bytes) reading.raw
 value_shown bytes _ = None
 
-pub record AreReadingMembers (sensor : Sensor) (value : Option ℤ) (units : Units) (shown : Shown)
-    (status : List ℕ) (ms : List Pair) : Type 0 where
+-- a value and its unit
+pub record AreValueMembers (value : Option ℤ) (units : Units) (ms : List Pair) : Type 0 where
   pub number : Json
   pub is_number : IsDecimalOrNull value number
   pub are : ms ≡
       (codes "reading", number)
       ∷ (codes "unit", string (unit_text_of units.units1 units.base units.modifier))
-      ∷ (codes "reading_raw", integer_or_null (raw_shown shown))
-      ∷ (codes "states", integer_or_null (states_shown shown))
-      ∷ (codes "state_words", state_words_shown sensor shown)
-      ∷ (codes "status", string status)
-      ∷ (codes "status_words", string (status_in_words sensor shown))
       ∷ []
+
+-- what else a sensor shows
+abbrev pub shown_members : Sensor → Shown → List ℕ → List Pair
+shown_members sensor shown status =
+    (codes "reading_raw", integer_or_null (raw_shown shown))
+    ∷ (codes "states", integer_or_null (states_shown shown))
+    ∷ (codes "state_words", state_words_shown sensor shown)
+    ∷ (codes "status", string status)
+    ∷ (codes "status_words", string (status_in_words sensor shown))
+    ∷ []
 
 -- ---- thresholds
 
@@ -148,21 +153,20 @@ fru_members bytes =
 -- a full record: its sensor, its reading with the status, and its thresholds
 pub record AreFullMembers (bytes : List ℕ) (reading : Option Reading) (status : List ℕ)
     (ms : List Pair) : Type 0 where
-  pub shown : List Pair
+  pub value : List Pair
   pub thresholds : List Pair
-  pub are_shown : AreReadingMembers (sensor_in bytes)
-      (value_shown bytes (shown_of (sensor_in bytes) reading)) (units_in bytes)
-      (shown_of (sensor_in bytes) reading) status shown
+  pub are_value : AreValueMembers (value_shown bytes (shown_of (sensor_in bytes) reading)) (units_in bytes) value
   pub are_thresholds : AreThresholdMembers bytes thresholds
-  pub are : ms ≡ (sensor_members (sensor_in bytes) ++ shown) ++ thresholds
+  pub are : ms ≡ ((sensor_members (sensor_in bytes) ++ value)
+      ++ shown_members (sensor_in bytes) (shown_of (sensor_in bytes) reading) status) ++ thresholds
 
 -- a compact record, which tells no way to make a reading a value
 pub record AreCompactMembers (bytes : List ℕ) (reading : Option Reading) (status : List ℕ)
     (ms : List Pair) : Type 0 where
-  pub shown : List Pair
-  pub are_shown : AreReadingMembers (sensor_in bytes) None (units_in bytes)
-      (shown_of (sensor_in bytes) reading) status shown
-  pub are : ms ≡ sensor_members (sensor_in bytes) ++ shown
+  pub value : List Pair
+  pub are_value : AreValueMembers None (units_in bytes) value
+  pub are : ms ≡ (sensor_members (sensor_in bytes) ++ value)
+      ++ shown_members (sensor_in bytes) (shown_of (sensor_in bytes) reading) status
 
 -- by the kind of the record; only a full and a compact one have a reading
 abbrev pub AreTold : SdrView → Option Reading → List Pair → Type 0

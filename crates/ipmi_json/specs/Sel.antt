@@ -56,25 +56,30 @@ source_members view bytes =
 abbrev pub direction_word : Bool → List ℕ
 direction_word deasserted = if deasserted then codes "deasserted" else codes "asserted"
 
--- the meaning of the event, with the details in its second and third byte of data
-abbrev pub meaning_members : List ℕ → List ℕ → List Pair
-meaning_members details bytes =
+-- the meaning of the event
+abbrev pub meaning_members : List ℕ → List Pair
+meaning_members bytes =
     (codes "event_type", integer (event_type bytes))
     ∷ (codes "event", string (words_of_event bytes))
     ∷ (codes "event_words", text_or_null (event_words (event_type bytes) (sensor_type bytes) (event_offset bytes)))
     ∷ (codes "direction", string (direction_word (is_deasserted bytes)))
     ∷ (codes "event_data", string (binary_text (event_data bytes)))
-    ∷ (codes "event_details", text_unless_empty details)
     ∷ []
 
--- the full record of the sensor, if there is one, converts raw bytes to values
+-- the details in its second and third byte of data; the full record of its sensor, if there is one, converts raw bytes to
+-- values
+abbrev pub AreDetailsMembers : List ℕ → Option SdrView → List Pair → Type 0
+AreDetailsMembers bytes view ms =
+    (details : List ℕ) × (IsDetails bytes (full_of view) details
+    × (ms ≡ (codes "event_details", text_unless_empty details) ∷ []))
+
 pub record AreEventMembers (bytes : List ℕ) (view : Option SdrView) (ms : List Pair) : Type 0 where
   pub time : Option (List ℕ)
-  pub details : List ℕ
+  pub details : List Pair
   pub is_time : IsIsoTimeOf (time_stamp bytes) time
-  pub are_details : IsDetails bytes (full_of view) details
-  pub are : ms ≡ (time_members time (time_stamp bytes) ++ source_members view bytes)
-      ++ meaning_members details bytes
+  pub are_details : AreDetailsMembers bytes view details
+  pub are : ms ≡ ((time_members time (time_stamp bytes) ++ source_members view bytes)
+      ++ meaning_members bytes) ++ details
 
 -- ---- entries
 

@@ -1,12 +1,10 @@
 //! The objects of areas.
-ghost use Rattle.std.specs.Prelude.{◌≡◌, IfOk, OnOk, Some, drop, map, option_map, string_bytes};
+ghost use Rattle.std.specs.Prelude.{◌≡◌, ◌∷◌, [], IfOk, OnOk, Some, drop, map, option_map, string_bytes};
 ghost use Rattle.ipmi_fru.specs.Prelude.{language_of};
 ghost use Rattle.ipmi_json.specs.Areas.{AreAreaMembers, AreLeadMembers, IsAreaObject, IsAreaValue, area_fault_word, extra_texts, fault_found, field_keys, field_members, first_value};
-ghost use Rattle.ipmi_json.specs.Object.{Adds, AddsSome, AddsValue, json_of};
+ghost use Rattle.ipmi_json.specs.Object.{Adds, AddsSome, AddsValue};
 
-use crate::object::{
-    Value, text_or_null, text_unless_empty, word_or_null, write_member, write_members,
-};
+use crate::object::{Value, text_or_null, text_unless_empty, write_member, write_members};
 use crate::time::minute_text;
 use ipmi_fru::{AreaFault, AreaKind, AreaView, Fields};
 use ipmi_text::{chassis_text, fru_text};
@@ -38,18 +36,23 @@ fn field_keys(kind: AreaKind) -> &'static [&'static str]
     }
 }
 
-/// Takes the first of the fields that are left, and gives its text; null where there is none.
-fn first_value(alloc: Global, language: u8, left: &mut Fields) -> Result<Value, AllocError>
-    ensures value { IfOk result (λ value. json_of value ≡ first_value language left.old) }
+/// Takes the first of the fields that are left, and writes its text under a key; null where there is none.
+fn write_first(
+    alloc: Global,
+    out: &mut Writer,
+    language: u8,
+    key: &'static str,
+    left: &mut Fields,
+) -> Result<(), AllocError>
+    ensures value { OnOk result
+        (Adds 1 ((key.entry.now, first_value language left.old) ∷ []) out.old out.new) }
     ensures left { left.new ≡ drop 1 left.old }
 {
-    match left.next() {
-        Some(field) => {
-            let text = fru_text(alloc, field.code, language, field.bytes)?;
-            Ok(text_unless_empty(text))
-        }
-        None => Ok(Value::Null),
-    }
+    let Some(field) = left.next() else {
+        return write_member(out, key, Value::Null);
+    };
+    let text = fru_text(alloc, field.code, language, field.bytes)?;
+    write_member(out, key, text_unless_empty(text.as_str()))
 }
 
 /// The texts of fields.
@@ -77,11 +80,10 @@ fn write_fields(
     let language = area.language();
     let mut left = area.fields();
     'keys: for key in keys {
-        let value = first_value(alloc, language, &mut left)?;
-        write_member(out, &(*key, value))?;
+        write_first(alloc, out, language, key, &mut left)?;
     }
     let extra = extra_texts(alloc, language, left)?;
-    write_member(out, &("extra", Value::Texts(extra)))
+    write_member(out, "extra", Value::Texts(extra.as_slice()))
 }
 
 /// Writes what comes before the fields: the type of a chassis, the language of others, the date of a board.
@@ -93,7 +95,8 @@ fn write_lead(alloc: Global, out: &mut Writer, area: &AreaView) -> Result<(), Al
         AreaKind::Chassis => {
             let name = chassis_text(alloc, area.chassis_type())?;
             let kind = Value::Integer(u64::from(area.chassis_type()));
-            write_members(out, &[("type", kind), ("type_name", Value::Text(name))])
+            let name = Value::Text(name.as_str());
+            write_members(out, &[("type", kind), ("type_name", name)])
         }
         AreaKind::Board => {
             let minutes = area.minutes();
@@ -102,7 +105,7 @@ fn write_lead(alloc: Global, out: &mut Writer, area: &AreaView) -> Result<(), Al
                 out,
                 &[
                     ("language", language),
-                    ("manufactured", text_or_null(time)),
+                    ("manufactured", text_or_null(time.as_deref())),
                     ("manufactured_raw", Value::Integer(u64::from(minutes))),
                 ],
             )
@@ -185,5 +188,5 @@ pub(crate) fn write_area(
 {
     out.key(key)?;
     write_value(alloc, out, found)?;
-    write_member(out, &(fault_key, word_or_null(fault_found(found))))
+    write_member(out, fault_key, text_or_null(fault_found(found)))
 }

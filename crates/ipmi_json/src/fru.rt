@@ -6,13 +6,13 @@ ghost use Rattle.ipmi_json.specs.Object.{Adds, AddsSome, integer_or_null, IsLine
 
 use crate::areas::write_area;
 use crate::multirecords::write_records;
-use crate::object::{Label, Value, begin, copy_or_null, finish, word_or_null, write_members};
+use crate::object::{Label, Value, begin, finish, text_or_null, write_members};
 use ipmi_fru::{FruFault, FruView};
 use json::Writer;
 use std::alloc::{AllocError, Global};
 
 /// The id of a device, or null.
-fn id_or_null(id: Option<u8>) -> Value
+fn id_or_null(id: Option<u8>) -> Value<'static>
     ensures { json_of result ≡ integer_or_null id }
 {
     match id {
@@ -23,7 +23,6 @@ fn id_or_null(id: Option<u8>) -> Value
 
 /// Writes what is known of a device.
 fn write_device(
-    alloc: Global,
     out: &mut Writer,
     id: Option<u8>,
     name: Option<&str>,
@@ -36,11 +35,11 @@ fn write_device(
     write_members(
         out,
         &[
-            ("object", Value::Word("fru")),
+            ("object", Value::Text("fru")),
             ("fru_device_id", id_or_null(id)),
-            ("name", copy_or_null(alloc, name)?),
-            ("state", Value::Word(state)),
-            ("fault", word_or_null(fault)),
+            ("name", text_or_null(name)),
+            ("state", Value::Text(state)),
+            ("fault", text_or_null(fault)),
         ],
     )
 }
@@ -86,7 +85,7 @@ fn write_bytes(alloc: Global, out: &mut Writer, bytes: Option<&[u8]>) -> Result<
                 out,
                 &[
                     ("size", Value::Integer(bytes.len() as u64)),
-                    ("raw", Value::Text(raw)),
+                    ("raw", Value::Text(raw.as_str())),
                 ],
             )
         }
@@ -110,7 +109,7 @@ fn bare_line(
         labels.now line.items) }
 {
     let mut out = begin(alloc)?;
-    write_device(alloc, &mut out, id, name, state, fault)?;
+    write_device(&mut out, id, name, state, fault)?;
     write_no_content(&mut out)?;
     write_bytes(alloc, &mut out, bytes)?;
     finish(out, labels)
@@ -130,7 +129,7 @@ fn read_line(
         bytes.now labels.now line.items) }
 {
     let mut out = begin(alloc)?;
-    write_device(alloc, &mut out, Some(id), name, "read", None)?;
+    write_device(&mut out, Some(id), name, "read", None)?;
     write_content(alloc, &mut out, inventory)?;
     write_bytes(alloc, &mut out, Some(bytes))?;
     finish(out, labels)

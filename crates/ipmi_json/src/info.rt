@@ -3,10 +3,15 @@ ghost use Rattle.std.specs.Prelude.{IfOk, codes, option_map};
 ghost use Rattle.ipmi_json.specs.Info.{IsInfoLine, end_members};
 ghost use Rattle.ipmi_json.specs.Object.{IsLineOf};
 
-use crate::object::{Label, Value, copy_or_null, object_line, text_or_null};
-use crate::time::time_text;
+use crate::object::{
+    Label, Value, begin, finish, object_line, text_or_null, write_member, write_members,
+};
+use crate::time::{time_text, write_time};
 use ipmi_records::Info;
 use std::alloc::{AllocError, Global};
+
+/// The capacity for a point in time.
+const TIME_CAPACITY: usize = 24;
 
 /// The line of an info.
 fn info_line(
@@ -18,27 +23,41 @@ fn info_line(
     ensures { IfOk result (λ line. IsInfoLine name.entry.now bytes.now labels.now line.items) }
 {
     let info = Info::read(bytes);
-    let addition = time_text(alloc, info.last_addition)?;
-    let erase = time_text(alloc, info.last_erase)?;
-    object_line(
-        alloc,
+    let mut text = String::with_capacity(alloc, TIME_CAPACITY)?;
+    let addition = time_text(alloc, &mut text, info.last_addition)?;
+    let erase = time_text(alloc, &mut text, info.last_erase)?;
+    let mut out = begin(alloc)?;
+    write_member(&mut out, "object", Value::Text(name))?;
+    write_members(
+        &mut out,
         &[
-            ("object", Value::Word(name)),
             ("version", Value::Integer(u64::from(info.version))),
             ("record_count", Value::Integer(u64::from(info.record_count))),
             ("free_space", Value::Integer(u64::from(info.free_space))),
-            ("last_addition", text_or_null(addition)),
-            (
-                "last_addition_raw",
-                Value::Integer(u64::from(info.last_addition)),
-            ),
-            ("last_erase", text_or_null(erase)),
-            ("last_erase_raw", Value::Integer(u64::from(info.last_erase))),
+        ],
+    )?;
+    write_time(
+        &mut out,
+        "last_addition",
+        "last_addition_raw",
+        addition.as_deref(),
+        info.last_addition,
+    )?;
+    write_time(
+        &mut out,
+        "last_erase",
+        "last_erase_raw",
+        erase.as_deref(),
+        info.last_erase,
+    )?;
+    write_members(
+        &mut out,
+        &[
             ("overflow", Value::Bool(info.overflow)),
             ("operation_support", Value::Integer(u64::from(info.support))),
         ],
-        labels,
-    )
+    )?;
+    finish(out, labels)
 }
 
 /// The line of the answer of Get SDR Repository Info (IPMI v2.0, section 33.9) after its completion code: its object.
@@ -79,9 +98,9 @@ pub fn end_line(
     object_line(
         alloc,
         &[
-            ("object", Value::Word("end")),
+            ("object", Value::Text("end")),
             ("status", Value::Integer(u64::from(status))),
-            ("message", copy_or_null(alloc, message)?),
+            ("message", text_or_null(message)),
             ("count", Value::Integer(count)),
         ],
         labels,

@@ -1,11 +1,11 @@
 //! The objects of multirecords.
 ghost use Rattle.std.specs.Prelude.{◌≡◌, ◌≤◌, IfOk, None, OnOk, length, option_map};
 ghost use Rattle.ipmi_fru.specs.Prelude.{form_of, items_left, record_of};
-ghost use Rattle.ipmi_json.specs.Multirecords.{AreFormMembers, AreObjects, AreRangeMembers, AreRecordMembers, IsRecordObject, access_members, dc_word, fault_among, high_key, low_key, number_members, record_fault_word, record_head, record_type_name, records_among};
+ghost use Rattle.ipmi_json.specs.Multirecords.{AreFormMembers, AreObjects, AreRangeMembers, AreRecordMembers, IsRecordObject, access_members, current_members, dc_word, fault_among, high_key, low_key, number_members, record_fault_word, record_head, record_type_name, records_among};
 ghost use Rattle.ipmi_json.specs.Object.{Adds, AddsItems, AddsSome, AddsValue};
 
-use crate::number::NumberText;
-use crate::object::{Value, word_or_null, write_members};
+use crate::number::write_decimal;
+use crate::object::{Value, text_or_null, write_members};
 use crate::record::write_raw;
 use ipmi_fru::{
     DcFields, DcKind, MultiFault, MultiView, RecordForm, Records, access_text, form_of,
@@ -22,6 +22,9 @@ const RECORD_TYPES: [&str; 6] = [
     "base_compatibility",
     "extended_compatibility",
 ];
+
+/// The capacity for most decimals.
+const DECIMAL_CAPACITY: usize = 32;
 
 /// The first of the types that are the manufacturer's.
 const FIRST_OEM_TYPE: u8 = 0xC0;
@@ -43,9 +46,9 @@ fn write_head(out: &mut Writer, kind: &'static str, view: &MultiView) -> Result<
     write_members(
         out,
         &[
-            ("kind", Value::Word(kind)),
+            ("kind", Value::Text(kind)),
             ("type", Value::Integer(u64::from(view.kind))),
-            ("type_name", word_or_null(record_type_name(view.kind))),
+            ("type_name", text_or_null(record_type_name(view.kind))),
         ],
     )
 }
@@ -91,6 +94,23 @@ fn high_key(kind: DcKind) -> &'static str
     }
 }
 
+/// Writes the currents of an output or a load.
+fn write_currents(out: &mut Writer, fields: &DcFields) -> Result<(), AllocError>
+    ensures { OnOk result (Adds 1 (current_members fields.now) out.old out.new) }
+{
+    let ripple = u64::from(fields.ripple);
+    let least = u64::from(fields.least_current);
+    let greatest = u64::from(fields.greatest_current);
+    write_members(
+        out,
+        &[
+            ("ripple_millivolts", Value::Integer(ripple)),
+            ("minimum_milliamperes", Value::Integer(least)),
+            ("maximum_milliamperes", Value::Integer(greatest)),
+        ],
+    )
+}
+
 /// Writes the voltages and the currents of an output or a load.
 fn write_ranges(
     alloc: Global,
@@ -100,29 +120,11 @@ fn write_ranges(
 ) -> Result<(), AllocError>
     ensures { OnOk result (AddsSome 1 (AreRangeMembers kind fields.now) out.old out.new) }
 {
-    let nominal = NumberText::of(alloc, fields.nominal)?;
-    let low = NumberText::of(alloc, fields.low)?;
-    let high = NumberText::of(alloc, fields.high)?;
-    write_members(
-        out,
-        &[
-            ("nominal_volts", Value::Decimal(nominal)),
-            (low_key(kind), Value::Decimal(low)),
-            (high_key(kind), Value::Decimal(high)),
-            (
-                "ripple_millivolts",
-                Value::Integer(u64::from(fields.ripple)),
-            ),
-            (
-                "minimum_milliamperes",
-                Value::Integer(u64::from(fields.least_current)),
-            ),
-            (
-                "maximum_milliamperes",
-                Value::Integer(u64::from(fields.greatest_current)),
-            ),
-        ],
-    )
+    let mut text = String::with_capacity(alloc, DECIMAL_CAPACITY)?;
+    write_decimal(out, &mut text, "nominal_volts", fields.nominal)?;
+    write_decimal(out, &mut text, low_key(kind), fields.low)?;
+    write_decimal(out, &mut text, high_key(kind), fields.high)?;
+    write_currents(out, fields)
 }
 
 /// Writes what a management access record says.
@@ -135,7 +137,7 @@ fn write_access(alloc: Global, out: &mut Writer, bytes: &[u8]) -> Result<(), All
         out,
         &[
             ("subtype", Value::Integer(u64::from(bytes[0]))),
-            ("value", Value::Text(value)),
+            ("value", Value::Text(value.as_str())),
         ],
     )
 }
@@ -228,5 +230,5 @@ pub(crate) fn write_records(
     out.begin_array()?;
     let end = write_objects(alloc, out, records)?;
     out.end_array()?;
-    write_members(out, &[("records_fault", word_or_null(end_word(end)))])
+    write_members(out, &[("records_fault", text_or_null(end_word(end)))])
 }

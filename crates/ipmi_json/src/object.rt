@@ -1,13 +1,12 @@
 //! A JSON object as a list of members, and the line that it is written as.
-ghost use Rattle.std.specs.Prelude.{◌≡◌, ◌++◌, ◌∷◌, [], List, IfOk, OnOk, map, option_map, string_bytes};
-ghost use Rattle.json.specs.Token.{key};
+ghost use Rattle.std.specs.Prelude.{◌≡◌, ◌++◌, ◌∷◌, [], List, IfOk, IfSome, OnOk, map, option_map, string_bytes};
+ghost use Rattle.json.specs.Json.{string};
 ghost use Rattle.json.specs.Tree.{json_tokens};
-ghost use Rattle.ipmi_json.specs.Object.{Adds, integer_or_null, IsDecimalOrNull, IsLineOf, IsOpen, json_of, labels_of, Pair, pairs_of, text_or_null, text_unless_empty, texts};
+ghost use Rattle.ipmi_json.specs.Object.{Adds, integer_or_null, IsLineOf, IsOpen, json_of, labels_of, Pair, pairs_of, text_or_null, text_unless_empty, texts};
 
-use crate::number::NumberText;
-use ipmi_text::Fixed;
 use json::Writer;
 use std::alloc::{AllocError, Global};
+use std::fmt::Display;
 
 /// The capacity for most lines.
 const LINE_CAPACITY: usize = 768;
@@ -21,25 +20,22 @@ pub struct Label<'a> {
     pub value: &'a str,
 }
 
-/// The value of a member.
-#[derive(Drop)]
-pub(crate) enum Value {
+/// The value of a member. Texts are lent.
+#[derive(Clone, Copy)]
+pub(crate) enum Value<'a> {
     Null,
     Bool(bool),
     Integer(u64),
-    /// A text of the program's own.
-    Word(&'static str),
-    Decimal(NumberText),
-    Text(String),
-    Texts(Vec<String>),
+    Text(&'a str),
+    Texts(&'a [String]),
 }
 
 /// A key and its value.
-pub(crate) type Member = (&'static str, Value);
+pub(crate) type Member<'a> = (&'static str, Value<'a>);
 
 /// A text, or null where there is none.
-pub(crate) fn text_or_null(text: Option<String>) -> Value
-    ensures { json_of result ≡ text_or_null (option_map (λ s. string_bytes s) text) }
+pub(crate) fn text_or_null(text: Option<&str>) -> Value<'_>
+    ensures { json_of result ≡ text_or_null (option_map (λ s. s.now) text.entry) }
 {
     match text {
         Some(text) => Value::Text(text),
@@ -48,8 +44,8 @@ pub(crate) fn text_or_null(text: Option<String>) -> Value
 }
 
 /// A text, or null where it is empty.
-pub(crate) fn text_unless_empty(text: String) -> Value
-    ensures { json_of result ≡ text_unless_empty (string_bytes text) }
+pub(crate) fn text_unless_empty(text: &str) -> Value<'_>
+    ensures { json_of result ≡ text_unless_empty text.entry.now }
 {
     if text.is_empty() {
         Value::Null
@@ -58,43 +54,12 @@ pub(crate) fn text_unless_empty(text: String) -> Value
     }
 }
 
-/// A copy of a text, or null where there is none.
-pub(crate) fn copy_or_null(alloc: Global, text: Option<&str>) -> Result<Value, AllocError>
-    ensures { IfOk result (λ value. json_of value ≡
-        text_or_null (option_map (λ text. text.now) text.entry)) }
-{
-    match text {
-        Some(text) => Ok(Value::Text(String::from_str(alloc, text)?)),
-        None => Ok(Value::Null),
-    }
-}
-
 /// A number, or null where there is none.
-pub(crate) fn integer_or_null(number: Option<u64>) -> Value
+pub(crate) fn integer_or_null(number: Option<u64>) -> Value<'static>
     ensures { json_of result ≡ integer_or_null number }
 {
     match number {
         Some(number) => Value::Integer(number),
-        None => Value::Null,
-    }
-}
-
-/// The exact decimal of a value, or null where there is none.
-pub(crate) fn decimal_or_null(alloc: Global, value: Option<Fixed>) -> Result<Value, AllocError>
-    ensures { IfOk result (λ field. IsDecimalOrNull (option_map (λ v. v.0) value) (json_of field)) }
-{
-    match value {
-        Some(value) => Ok(Value::Decimal(NumberText::of(alloc, value)?)),
-        None => Ok(Value::Null),
-    }
-}
-
-/// A text of the program's own, or null where there is none.
-pub(crate) fn word_or_null(word: Option<&'static str>) -> Value
-    ensures { json_of result ≡ text_or_null (option_map (λ s. s.now) word.entry) }
-{
-    match word {
-        Some(word) => Value::Word(word),
         None => Value::Null,
     }
 }
@@ -112,29 +77,46 @@ fn write_texts(out: &mut Writer, list: &[String]) -> Result<(), AllocError>
     out.end_array()
 }
 
-fn write_value(out: &mut Writer, value: &Value) -> Result<(), AllocError>
-    ensures ok { OnOk result (out.new.tokens ≡ out.old.tokens ++ json_tokens (json_of value.now)) }
+#[inline(always)]
+fn write_value(out: &mut Writer, value: Value) -> Result<(), AllocError>
+    ensures ok { OnOk result (out.new.tokens ≡ out.old.tokens ++ json_tokens (json_of value.entry)) }
     ensures before { out.new.before ≡ out.old.before }
 {
     match value {
         Value::Null => out.null(),
-        Value::Bool(truth) => out.boolean(*truth),
-        Value::Integer(number) => out.u64(*number),
-        Value::Word(text) => out.string(text),
-        Value::Decimal(number) => out.number(number.as_str()),
-        Value::Text(text) => out.string(text.as_str()),
+        Value::Bool(truth) => out.boolean(truth),
+        Value::Integer(number) => out.u64(number),
+        Value::Text(text) => out.string(text),
         Value::Texts(list) => write_texts(out, list),
     }
 }
 
 /// Writes a member.
-pub(crate) fn write_member(out: &mut Writer, member: &Member) -> Result<(), AllocError>
-    ensures ok { OnOk result (out.new.tokens ≡ out.old.tokens ++
-        (key member.now.0.now ∷ json_tokens (json_of member.now.1))) }
-    ensures before { out.new.before ≡ out.old.before }
+#[inline(always)]
+pub(crate) fn write_member(
+    out: &mut Writer,
+    key: &'static str,
+    value: Value,
+) -> Result<(), AllocError>
+    ensures { OnOk result (Adds 1 ((key.entry.now, json_of value.entry) ∷ []) out.old out.new) }
 {
-    out.key(member.0)?;
-    write_value(out, &member.1)
+    out.key(key)?;
+    write_value(out, value)
+}
+
+/// Writes what a value prints as the text under a key. `text` is used for it.
+pub(crate) fn write_printed<D: Display + Drop>(
+    out: &mut Writer,
+    text: &mut String,
+    key: &'static str,
+    value: D,
+) -> Result<(), AllocError>
+    ensures { OnOk result (IfSome (D.output value)
+        (λ printed. Adds 1 ((key.entry.now, string printed) ∷ []) out.old out.new)) }
+{
+    text.clear();
+    text.write(value)?;
+    write_member(out, key, Value::Text(text.as_str()))
 }
 
 /// Writes members, with no bracket before and after them.
@@ -142,7 +124,7 @@ pub(crate) fn write_members(out: &mut Writer, members: &[Member]) -> Result<(), 
     ensures { OnOk result (Adds 1 (pairs_of members.now) out.old out.new) }
 {
     for member in members {
-        write_member(out, member)?;
+        write_member(out, member.0, member.1)?;
     }
     Ok(())
 }

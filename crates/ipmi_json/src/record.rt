@@ -3,7 +3,7 @@ ghost use Rattle.std.specs.Prelude.{OnOk};
 ghost use Rattle.ipmi_json.specs.Object.{Adds};
 ghost use Rattle.ipmi_json.specs.Record.{head_members, raw_members};
 
-use crate::object::{Value, write_members};
+use crate::object::{Value, write_member};
 use json::Writer;
 use std::alloc::{AllocError, Global};
 
@@ -19,15 +19,10 @@ pub(crate) fn write_head(
     ensures { OnOk result
         (Adds 1 (head_members object.entry.now id record_type kind.entry.now) out.old out.new) }
 {
-    write_members(
-        out,
-        &[
-            ("object", Value::Word(object)),
-            ("record_id", Value::Integer(u64::from(id))),
-            ("record_type", Value::Integer(u64::from(record_type))),
-            ("kind", Value::Word(kind)),
-        ],
-    )
+    write_member(out, "object", Value::Text(object))?;
+    write_member(out, "record_id", Value::Integer(u64::from(id)))?;
+    write_member(out, "record_type", Value::Integer(u64::from(record_type)))?;
+    write_member(out, "kind", Value::Text(kind))
 }
 
 /// Writes the bytes, which each has last.
@@ -35,5 +30,5 @@ pub(crate) fn write_raw(alloc: Global, out: &mut Writer, bytes: &[u8]) -> Result
     ensures { OnOk result (Adds 1 (raw_members bytes.now) out.old out.new) }
 {
     let raw = hex::encode(alloc, bytes)?;
-    write_members(out, &[("raw", Value::Text(raw))])
+    write_member(out, "raw", Value::Text(raw.as_str()))
 }

@@ -1,24 +1,28 @@
 //! The objects of sensor data records.
-ghost use Rattle.std.specs.Prelude.{◌≡◌, ◌++◌, IfOk, OnOk, option_map, slice_get, string_bytes};
+ghost use Rattle.std.specs.Prelude.{◌≡◌, ◌++◌, IfOk, OnOk, option_map, slice_get};
 ghost use Rattle.ipmi_records.specs.Prelude.{locator_in, name_of, shown_of};
-ghost use Rattle.ipmi_events.specs.Entities.{entity_words};
-ghost use Rattle.ipmi_json.specs.Object.{Adds, AddsSome, integer_or_null, IsDecimalOrNull, IsLineOf, json_of};
-ghost use Rattle.ipmi_json.specs.Sdr.{AreCompactMembers, AreFullMembers, AreReadingMembers, AreThresholdMembers, AreTold, IsSdrLine, bytes_members, fault_members, fault_word, fru_members, kind_word, locator_members, name_members, raw_shown, sensor_members, states_shown, threshold_value, value_shown};
+ghost use Rattle.ipmi_json.specs.Object.{Adds, AddsDecimal, AddsSome, IsLineOf};
+ghost use Rattle.ipmi_json.specs.Sdr.{AreCompactMembers, AreFullMembers, AreThresholdMembers, AreTold, AreValueMembers, IsSdrLine, bytes_members, fault_members, fault_word, fru_members, kind_word, locator_members, name_members, raw_shown, sensor_members, shown_members, states_shown, threshold_value, value_shown};
 
+use crate::number::write_decimal_or_null;
 use crate::object::{
-    Label, Value, begin, decimal_or_null, finish, integer_or_null, object_line, write_members,
+    Label, Value, begin, finish, integer_or_null, object_line, write_member, write_members,
+    write_printed,
 };
 use crate::record::{write_head, write_raw};
-use crate::states::state_words_shown;
+use crate::states::write_state_words;
 use ipmi_events::{EntityWords, status_in_words};
 use ipmi_records::SdrView::{Compact, Controller, EventOnly, Fru, Full, Generic, Other};
 use ipmi_records::{
     CompactSensor, FruLocator, FullSensor, Locator, SdrFault, SdrView, Sensor, Shown, Threshold,
     has_thresholds, shown_of, states_in, status_of,
 };
-use ipmi_text::{Fixed, Reading, Units, convert, sensor_type_text, unit_text};
+use ipmi_text::{Fixed, Reading, SensorType, Units, convert, push_sdr_text};
 use json::Writer;
 use std::alloc::{AllocError, Global};
+
+/// The capacity for most texts.
+const TEXT_CAPACITY: usize = 64;
 
 /// Where a record has its type, counted from 0.
 const RECORD_TYPE: usize = 3;
@@ -38,46 +42,51 @@ fn kind_word(view: &SdrView) -> &'static str
     }
 }
 
-/// Writes the name of a record, if it has one.
-fn write_name(alloc: Global, out: &mut Writer, view: &SdrView) -> Result<(), AllocError>
+/// Writes the name of a record, if it has one. `text` is used for it.
+fn write_name(
+    alloc: Global,
+    out: &mut Writer,
+    text: &mut String,
+    view: &SdrView,
+) -> Result<(), AllocError>
     ensures { OnOk result (Adds 1 (name_members (name_of view.now)) out.old out.new) }
 {
-    match view.name(alloc)? {
-        Some(name) => write_members(out, &[("name", Value::Text(name))]),
+    match view.id_string() {
+        Some(id) => {
+            text.clear();
+            push_sdr_text(alloc, text, id.type_length, id.rest)?;
+            write_member(out, "name", Value::Text(text.as_str()))
+        }
         None => write_members(out, &[]),
     }
 }
 
-/// The name of an entity.
-fn entity_name(alloc: Global, id: u8) -> Result<String, AllocError>
-    ensures { IfOk result (λ text. string_bytes text ≡ entity_words id) }
-{
-    let entity = EntityWords(id);
-    format!(in alloc; "{entity}")
-}
-
-/// Writes what a record tells of its sensor.
-fn write_sensor(alloc: Global, out: &mut Writer, sensor: &Sensor) -> Result<(), AllocError>
+/// Writes what a record tells of its sensor. `text` is used for its texts.
+fn write_sensor(out: &mut Writer, text: &mut String, sensor: &Sensor) -> Result<(), AllocError>
     ensures { OnOk result (Adds 1 (sensor_members sensor.now) out.old out.new) }
 {
-    let entity = entity_name(alloc, sensor.entity.id)?;
-    let name = sensor_type_text(alloc, sensor.sensor_type)?;
-    write_members(
+    let instance = u64::from(sensor.entity.instance);
+    let kind = sensor.sensor_type;
+    write_member(out, "owner_id", Value::Integer(u64::from(sensor.owner)))?;
+    write_member(out, "owner_lun", Value::Integer(u64::from(sensor.lun)))?;
+    write_member(
         out,
-        &[
-            ("owner_id", Value::Integer(u64::from(sensor.owner))),
-            ("owner_lun", Value::Integer(u64::from(sensor.lun))),
-            ("sensor_number", Value::Integer(u64::from(sensor.number))),
-            ("entity_id", Value::Integer(u64::from(sensor.entity.id))),
-            ("entity_name", Value::Text(entity)),
-            (
-                "entity_instance",
-                Value::Integer(u64::from(sensor.entity.instance)),
-            ),
-            ("sensor_type", Value::Integer(u64::from(sensor.sensor_type))),
-            ("sensor_type_name", Value::Text(name)),
-            ("event_type", Value::Integer(u64::from(sensor.event_type))),
-        ],
+        "sensor_number",
+        Value::Integer(u64::from(sensor.number)),
+    )?;
+    write_member(
+        out,
+        "entity_id",
+        Value::Integer(u64::from(sensor.entity.id)),
+    )?;
+    write_printed(out, text, "entity_name", EntityWords(sensor.entity.id))?;
+    write_member(out, "entity_instance", Value::Integer(instance))?;
+    write_member(out, "sensor_type", Value::Integer(u64::from(kind)))?;
+    write_printed(out, text, "sensor_type_name", SensorType(kind))?;
+    write_member(
+        out,
+        "event_type",
+        Value::Integer(u64::from(sensor.event_type)),
     )
 }
 
@@ -111,38 +120,41 @@ fn value_shown(full: &FullSensor, shown: Shown) -> Option<Fixed>
     }
 }
 
-/// Writes what a sensor shows.
-fn write_reading(
+/// Writes the value of a sensor and its unit. `text` is used for their texts.
+fn write_value(
+    out: &mut Writer,
+    text: &mut String,
+    value: Option<Fixed>,
+    units: Units,
+) -> Result<(), AllocError>
+    ensures { OnOk result (AddsSome 1 (AreValueMembers (option_map (λ value. value.0) value) units)
+        out.old out.new) }
+{
+    write_decimal_or_null(out, text, "reading", value)?;
+    write_printed(out, text, "unit", units)
+}
+
+/// Writes what else a sensor shows.
+fn write_shown(
     alloc: Global,
     out: &mut Writer,
     sensor: &Sensor,
     reading: Option<Reading>,
-    value: Option<Fixed>,
-    units: Units,
     status: &'static str,
 ) -> Result<(), AllocError>
-    ensures { OnOk result (AddsSome 1 (AreReadingMembers sensor.now
-        (option_map (λ value. value.0) value) units (shown_of sensor.now reading) status.entry.now)
+    ensures { OnOk result
+        (Adds 1 (shown_members sensor.now (shown_of sensor.now reading) status.entry.now)
         out.old out.new) }
 {
     let shown = shown_of(sensor, reading);
-    let number = decimal_or_null(alloc, value)?;
-    let state_words = state_words_shown(alloc, sensor, shown)?;
-    let unit = unit_text(alloc, units.units1, units.base, units.modifier)?;
-    write_members(
+    write_member(out, "reading_raw", integer_or_null(raw_shown(shown)))?;
+    write_member(out, "states", integer_or_null(states_shown(shown)))?;
+    write_state_words(alloc, out, sensor, shown)?;
+    write_member(out, "status", Value::Text(status))?;
+    write_member(
         out,
-        &[
-            ("reading", number),
-            ("unit", Value::Text(unit)),
-            ("reading_raw", integer_or_null(raw_shown(shown))),
-            ("states", integer_or_null(states_shown(shown))),
-            ("state_words", state_words),
-            ("status", Value::Word(status)),
-            (
-                "status_words",
-                Value::Word(status_in_words(sensor, reading)),
-            ),
-        ],
+        "status_words",
+        Value::Text(status_in_words(sensor, reading)),
     )
 }
 
@@ -157,87 +169,110 @@ fn threshold_value(full: &FullSensor, threshold: Threshold) -> Option<Fixed>
     }
 }
 
-/// The exact decimal of a threshold, or null.
-fn threshold_decimal(
-    alloc: Global,
+/// Writes the exact decimal of a threshold under a key, or null. `text` is used for it.
+fn write_threshold(
+    out: &mut Writer,
+    text: &mut String,
+    key: &'static str,
     full: &FullSensor,
     threshold: Threshold,
-) -> Result<Value, AllocError>
-    ensures { IfOk result
-        (λ value. IsDecimalOrNull (threshold_value threshold full.now) (json_of value)) }
+) -> Result<(), AllocError>
+    ensures { OnOk result
+        (AddsDecimal key.entry.now (threshold_value threshold full.now) out.old out.new) }
 {
-    decimal_or_null(alloc, threshold_value(full, threshold))
+    write_decimal_or_null(out, text, key, threshold_value(full, threshold))
 }
 
-/// Writes the thresholds that a full record has.
-fn write_thresholds(alloc: Global, out: &mut Writer, full: &FullSensor) -> Result<(), AllocError>
+/// Writes the thresholds that a full record has. `text` is used for their texts.
+fn write_thresholds(
+    out: &mut Writer,
+    text: &mut String,
+    full: &FullSensor,
+) -> Result<(), AllocError>
     ensures { OnOk result (AddsSome 1 (AreThresholdMembers full.now) out.old out.new) }
 {
-    let upper_non_recoverable = threshold_decimal(alloc, full, Threshold::UpperNonRecoverable)?;
-    let upper_critical = threshold_decimal(alloc, full, Threshold::UpperCritical)?;
-    let upper_non_critical = threshold_decimal(alloc, full, Threshold::UpperNonCritical)?;
-    let lower_non_recoverable = threshold_decimal(alloc, full, Threshold::LowerNonRecoverable)?;
-    let lower_critical = threshold_decimal(alloc, full, Threshold::LowerCritical)?;
-    let lower_non_critical = threshold_decimal(alloc, full, Threshold::LowerNonCritical)?;
-    write_members(
+    write_threshold(
         out,
-        &[
-            ("upper_non_recoverable", upper_non_recoverable),
-            ("upper_critical", upper_critical),
-            ("upper_non_critical", upper_non_critical),
-            ("lower_non_recoverable", lower_non_recoverable),
-            ("lower_critical", lower_critical),
-            ("lower_non_critical", lower_non_critical),
-        ],
+        text,
+        "upper_non_recoverable",
+        full,
+        Threshold::UpperNonRecoverable,
+    )?;
+    write_threshold(out, text, "upper_critical", full, Threshold::UpperCritical)?;
+    write_threshold(
+        out,
+        text,
+        "upper_non_critical",
+        full,
+        Threshold::UpperNonCritical,
+    )?;
+    write_threshold(
+        out,
+        text,
+        "lower_non_recoverable",
+        full,
+        Threshold::LowerNonRecoverable,
+    )?;
+    write_threshold(out, text, "lower_critical", full, Threshold::LowerCritical)?;
+    write_threshold(
+        out,
+        text,
+        "lower_non_critical",
+        full,
+        Threshold::LowerNonCritical,
     )
 }
 
-/// Writes what a locator tells of its device.
-fn write_locator(alloc: Global, out: &mut Writer, locator: &Locator) -> Result<(), AllocError>
+/// Writes what a locator tells of its device. `text` is used for the entity.
+fn write_locator(out: &mut Writer, text: &mut String, locator: &Locator) -> Result<(), AllocError>
     ensures { OnOk result (Adds 1 (locator_members locator.now) out.old out.new) }
 {
-    let entity = entity_name(alloc, locator.entity.id)?;
-    write_members(
+    let instance = u64::from(locator.entity.instance);
+    write_member(
         out,
-        &[
-            ("device_address", Value::Integer(u64::from(locator.address))),
-            ("entity_id", Value::Integer(u64::from(locator.entity.id))),
-            ("entity_name", Value::Text(entity)),
-            (
-                "entity_instance",
-                Value::Integer(u64::from(locator.entity.instance)),
-            ),
-        ],
-    )
+        "device_address",
+        Value::Integer(u64::from(locator.address)),
+    )?;
+    write_member(
+        out,
+        "entity_id",
+        Value::Integer(u64::from(locator.entity.id)),
+    )?;
+    write_printed(out, text, "entity_name", EntityWords(locator.entity.id))?;
+    write_member(out, "entity_instance", Value::Integer(instance))
 }
 
 /// Writes how a FRU device is reached.
 fn write_fru(out: &mut Writer, fru: &FruLocator) -> Result<(), AllocError>
     ensures { OnOk result (Adds 1 (fru_members fru.now) out.old out.new) }
 {
-    write_members(
+    write_member(
         out,
-        &[
-            ("fru_device_id", Value::Integer(u64::from(fru.fru_id()))),
-            ("is_logical", Value::Bool(fru.is_logical())),
-            ("access_lun", Value::Integer(u64::from(fru.lun()))),
-        ],
-    )
+        "fru_device_id",
+        Value::Integer(u64::from(fru.fru_id())),
+    )?;
+    write_member(out, "is_logical", Value::Bool(fru.is_logical()))?;
+    write_member(out, "access_lun", Value::Integer(u64::from(fru.lun())))
 }
 
-/// Writes what a FRU locator tells.
-fn write_fru_locator(alloc: Global, out: &mut Writer, fru: &FruLocator) -> Result<(), AllocError>
+/// Writes what a FRU locator tells. `text` is used for the entity.
+fn write_fru_locator(
+    out: &mut Writer,
+    text: &mut String,
+    fru: &FruLocator,
+) -> Result<(), AllocError>
     ensures { OnOk result
         (Adds 1 (locator_members (locator_in fru.now) ++ fru_members fru.now) out.old out.new) }
 {
-    write_locator(alloc, out, &fru.locator())?;
+    write_locator(out, text, &fru.locator())?;
     write_fru(out, fru)
 }
 
-/// Writes what a full record tells.
+/// Writes what a full record tells. `text` is used for its texts.
 fn write_full(
     alloc: Global,
     out: &mut Writer,
+    text: &mut String,
     full: &FullSensor,
     reading: Option<Reading>,
     status: &'static str,
@@ -247,15 +282,17 @@ fn write_full(
 {
     let sensor = full.sensor();
     let value = value_shown(full, shown_of(&sensor, reading));
-    write_sensor(alloc, out, &sensor)?;
-    write_reading(alloc, out, &sensor, reading, value, full.units(), status)?;
-    write_thresholds(alloc, out, full)
+    write_sensor(out, text, &sensor)?;
+    write_value(out, text, value, full.units())?;
+    write_shown(alloc, out, &sensor, reading, status)?;
+    write_thresholds(out, text, full)
 }
 
-/// Writes what a compact record tells.
+/// Writes what a compact record tells. `text` is used for its texts.
 fn write_compact(
     alloc: Global,
     out: &mut Writer,
+    text: &mut String,
     compact: &CompactSensor,
     reading: Option<Reading>,
     status: &'static str,
@@ -264,14 +301,16 @@ fn write_compact(
         (AddsSome 1 (AreCompactMembers compact.now reading status.entry.now) out.old out.new) }
 {
     let sensor = compact.sensor();
-    write_sensor(alloc, out, &sensor)?;
-    write_reading(alloc, out, &sensor, reading, None, compact.units(), status)
+    write_sensor(out, text, &sensor)?;
+    write_value(out, text, None, compact.units())?;
+    write_shown(alloc, out, &sensor, reading, status)
 }
 
-/// Writes what the record tells by its kind.
+/// Writes what the record tells by its kind. `text` is used for its texts.
 fn write_told(
     alloc: Global,
     out: &mut Writer,
+    text: &mut String,
     view: &SdrView,
     reading: Option<Reading>,
 ) -> Result<(), AllocError>
@@ -279,12 +318,12 @@ fn write_told(
 {
     let status = status_of(view, reading);
     match view {
-        Full(full) => write_full(alloc, out, full, reading, status),
-        Compact(compact) => write_compact(alloc, out, compact, reading, status),
-        EventOnly(event_only) => write_sensor(alloc, out, &event_only.sensor()),
-        Generic(generic) => write_locator(alloc, out, &generic.locator()),
-        Fru(fru) => write_fru_locator(alloc, out, fru),
-        Controller(controller) => write_locator(alloc, out, &controller.locator()),
+        Full(full) => write_full(alloc, out, text, full, reading, status),
+        Compact(compact) => write_compact(alloc, out, text, compact, reading, status),
+        EventOnly(event_only) => write_sensor(out, text, &event_only.sensor()),
+        Generic(generic) => write_locator(out, text, &generic.locator()),
+        Fru(fru) => write_fru_locator(out, text, fru),
+        Controller(controller) => write_locator(out, text, &controller.locator()),
         Other(_) => write_members(out, &[]),
     }
 }
@@ -299,6 +338,7 @@ pub fn sdr_record_line(
 ) -> Result<Vec<u8>, AllocError>
     ensures { IfOk result (λ line. IsSdrLine id view.now reading labels.now line.items) }
 {
+    let mut text = String::with_capacity(alloc, TEXT_CAPACITY)?;
     let mut out = begin(alloc)?;
     write_head(
         &mut out,
@@ -307,8 +347,8 @@ pub fn sdr_record_line(
         view.record_type(),
         kind_word(view),
     )?;
-    write_name(alloc, &mut out, view)?;
-    write_told(alloc, &mut out, view, reading)?;
+    write_name(alloc, &mut out, &mut text, view)?;
+    write_told(alloc, &mut out, &mut text, view, reading)?;
     write_raw(alloc, &mut out, view.bytes())?;
     finish(out, labels)
 }
@@ -341,19 +381,19 @@ pub fn sdr_fault_line(
 ) -> Result<Vec<u8>, AllocError>
     ensures { IfOk result (λ line. IsLineOf (fault_members id fault bytes.now) labels.now line.items) }
 {
-    let raw = hex::encode(alloc, bytes)?;
-    object_line(
-        alloc,
+    let mut out = begin(alloc)?;
+    write_members(
+        &mut out,
         &[
-            ("object", Value::Word("sdr_record")),
+            ("object", Value::Text("sdr_record")),
             ("record_id", Value::Integer(u64::from(id))),
             ("record_type", integer_or_null(type_of(bytes))),
-            ("kind", Value::Word("faulty")),
-            ("fault", Value::Word(fault_word(fault))),
-            ("raw", Value::Text(raw)),
+            ("kind", Value::Text("faulty")),
         ],
-        labels,
-    )
+    )?;
+    write_member(&mut out, "fault", Value::Text(fault_word(fault)))?;
+    write_raw(alloc, &mut out, bytes)?;
+    finish(out, labels)
 }
 
 /// The line of a record as it is, with the id of the next one: the object of `sdr hex`.
@@ -370,10 +410,10 @@ pub fn sdr_raw_line(
     object_line(
         alloc,
         &[
-            ("object", Value::Word("sdr_raw")),
+            ("object", Value::Text("sdr_raw")),
             ("record_id", Value::Integer(u64::from(id))),
             ("next_record_id", Value::Integer(u64::from(next))),
-            ("raw", Value::Text(raw)),
+            ("raw", Value::Text(raw.as_str())),
         ],
         labels,
     )

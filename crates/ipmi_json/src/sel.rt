@@ -1,29 +1,26 @@
 //! The objects of the event log's entries.
-ghost use Rattle.std.specs.Prelude.{◌≡◌, IfOk, OnOk, option_map, string_bytes};
+ghost use Rattle.std.specs.Prelude.{◌≡◌, ◌∷◌, [], IfOk, OnOk, codes, option_map, string_bytes};
+ghost use Rattle.json.specs.Json.{string};
 ghost use Rattle.ipmi_records.specs.Prelude.{event_type, is_deasserted, sensor_type, words_of_event};
-ghost use Rattle.ipmi_events.specs.Details.{IsDetails};
 ghost use Rattle.ipmi_events.specs.EventLines.{event_offset, full_of};
 ghost use Rattle.ipmi_events.specs.Words.{event_words};
-ghost use Rattle.ipmi_json.specs.Object.{Adds, AddsSome, json_of};
-ghost use Rattle.ipmi_json.specs.Sel.{AreEventMembers, AreTimedMembers, AreTold, IsSelLine, data_members, direction_word, kind_word, meaning_members, name_by, sensor_record, source_members, time_members};
+ghost use Rattle.ipmi_json.specs.Object.{Adds, AddsSome};
+ghost use Rattle.ipmi_json.specs.Sel.{AreDetailsMembers, AreEventMembers, AreTimedMembers, AreTold, IsSelLine, data_members, direction_word, kind_word, meaning_members, name_by, sensor_record, source_members};
 
 use crate::object::{
-    Label, Value, begin, finish, text_or_null, text_unless_empty, word_or_null, write_members,
+    Label, Value, begin, finish, text_or_null, text_unless_empty, write_member, write_printed,
 };
 use crate::record::{write_head, write_raw};
-use crate::time::time_text;
+use crate::time::{time_text, write_time};
 use ipmi_events::{Sensors, event_words, push_details, push_sensor_name, record_for};
 use ipmi_records::SelView::{Event, OemPlain, OemTimed, Other};
 use ipmi_records::{EventEntry, FullSensor, OemTimestampedEntry, SdrView, SelView};
-use ipmi_text::{event_text, sensor_type_text};
+use ipmi_text::{EventWords, SensorType, event_name};
 use json::Writer;
 use std::alloc::{AllocError, Global};
 
-/// The capacity for most names.
-const NAME_CAPACITY: usize = 24;
-
-/// The capacity for most details.
-const DETAILS_CAPACITY: usize = 64;
+/// The capacity for most texts.
+const TEXT_CAPACITY: usize = 64;
 
 /// Bits 3:0 of an event's first data byte: its offset.
 const OFFSET_BITS: u8 = 0x0F;
@@ -40,26 +37,12 @@ fn kind_word(entry: &SelView) -> &'static str
     }
 }
 
-/// Writes a point in time and the time stamp that it is from.
-fn write_time(out: &mut Writer, time: Option<String>, stamp: u32) -> Result<(), AllocError>
-    ensures { OnOk result
-        (Adds 1 (time_members (option_map (λ s. string_bytes s) time) stamp) out.old out.new) }
-{
-    write_members(
-        out,
-        &[
-            ("timestamp", text_or_null(time)),
-            ("timestamp_raw", Value::Integer(u64::from(stamp))),
-        ],
-    )
-}
-
 /// Writes bytes that the standard gives no meaning.
 fn write_data(alloc: Global, out: &mut Writer, bytes: &[u8]) -> Result<(), AllocError>
     ensures { OnOk result (Adds 1 (data_members bytes.now) out.old out.new) }
 {
     let content = hex::encode(alloc, bytes)?;
-    write_members(out, &[("oem_data", Value::Text(content))])
+    write_member(out, "oem_data", Value::Text(content.as_str()))
 }
 
 /// The record of an event's sensor, by a table of sensors.
@@ -82,23 +65,31 @@ fn full_of<'a, 'b>(view: Option<&'b SdrView<'a>>) -> Option<&'b FullSensor<'a>>
     }
 }
 
-/// The name of an event's sensor, by the record of it.
-fn name_by(alloc: Global, event: &EventEntry, view: Option<&SdrView>) -> Result<Value, AllocError>
-    ensures { IfOk result
-        (λ value. json_of value ≡ name_by event.now (option_map (λ v. v.now) view.entry)) }
+/// Writes the name of an event's sensor, by the record of it. `text` is used for it.
+fn write_name(
+    alloc: Global,
+    out: &mut Writer,
+    text: &mut String,
+    event: &EventEntry,
+    view: Option<&SdrView>,
+) -> Result<(), AllocError>
+    ensures { OnOk result (Adds 1
+        ((codes "sensor_name", name_by event.now (option_map (λ v. v.now) view.entry)) ∷ [])
+        out.old out.new) }
 {
     let Some(view) = view else {
-        return Ok(Value::Null);
+        return write_member(out, "sensor_name", Value::Null);
     };
-    let mut name = String::with_capacity(alloc, NAME_CAPACITY)?;
-    push_sensor_name(alloc, &mut name, view, event.sensor_number())?;
-    Ok(text_unless_empty(name))
+    text.clear();
+    push_sensor_name(alloc, text, view, event.sensor_number())?;
+    write_member(out, "sensor_name", text_unless_empty(text.as_str()))
 }
 
-/// Writes what an event is from.
+/// Writes what an event is from. `text` is used for its texts.
 fn write_source(
     alloc: Global,
     out: &mut Writer,
+    text: &mut String,
     event: &EventEntry,
     view: Option<&SdrView>,
 ) -> Result<(), AllocError>
@@ -109,26 +100,34 @@ fn write_source(
     let revision = u64::from(event.revision());
     let sensor_type = u64::from(event.sensor_type());
     let number = u64::from(event.sensor_number());
-    let type_name = sensor_type_text(alloc, event.sensor_type())?;
-    let name = name_by(alloc, event, view)?;
-    write_members(
+    write_member(out, "generator_id", Value::Integer(generator))?;
+    write_member(out, "event_revision", Value::Integer(revision))?;
+    write_member(out, "sensor_type", Value::Integer(sensor_type))?;
+    write_printed(
         out,
-        &[
-            ("generator_id", Value::Integer(generator)),
-            ("event_revision", Value::Integer(revision)),
-            ("sensor_type", Value::Integer(sensor_type)),
-            ("sensor_type_name", Value::Text(type_name)),
-            ("sensor_number", Value::Integer(number)),
-            ("sensor_name", name),
-        ],
-    )
+        text,
+        "sensor_type_name",
+        SensorType(event.sensor_type()),
+    )?;
+    write_member(out, "sensor_number", Value::Integer(number))?;
+    write_name(alloc, out, text, event, view)
 }
 
-/// The specified text of an event.
-fn specified_text(alloc: Global, event: &EventEntry) -> Result<String, AllocError>
-    ensures { IfOk result (λ text. string_bytes text ≡ words_of_event event.now) }
+/// Writes the specified words of an event. `text` is used for them where they have codes.
+fn write_specified(
+    out: &mut Writer,
+    text: &mut String,
+    event: &EventEntry,
+) -> Result<(), AllocError>
+    ensures { OnOk result (Adds 1 ((codes "event", string (words_of_event event.now)) ∷ [])
+        out.old out.new) }
 {
-    event_text(alloc, event.event_type(), event.data_bytes()[0])
+    let data1 = event.data_bytes()[0];
+    let event = event.event_type();
+    match event_name(event, data1 & OFFSET_BITS) {
+        Some(words) => write_member(out, "event", Value::Text(words)),
+        None => write_printed(out, text, "event", EventWords { event, data1 }),
+    }
 }
 
 /// The words of an event by the standard's tables, if they have some.
@@ -154,44 +153,37 @@ fn direction_word(event: &EventEntry) -> &'static str
     }
 }
 
-/// The details of an event, by the record of its sensor.
-fn details_of(
-    alloc: Global,
-    event: &EventEntry,
-    view: Option<&SdrView>,
-) -> Result<String, AllocError>
-    ensures { IfOk result (λ text. IsDetails event.now (full_of (option_map (λ v. v.now) view.entry))
-        (string_bytes text)) }
-{
-    let mut details = String::with_capacity(alloc, DETAILS_CAPACITY)?;
-    push_details(&mut details, event, full_of(view))?;
-    Ok(details)
-}
-
-/// Writes what an event says, with its details.
+/// Writes what an event says. `text` is used for its specified words.
 fn write_meaning(
     alloc: Global,
     out: &mut Writer,
+    text: &mut String,
     event: &EventEntry,
-    details: String,
 ) -> Result<(), AllocError>
-    ensures { OnOk result
-        (Adds 1 (meaning_members (string_bytes details) event.now) out.old out.new) }
+    ensures { OnOk result (Adds 1 (meaning_members event.now) out.old out.new) }
 {
     let event_type = u64::from(event.event_type());
-    let specified = specified_text(alloc, event)?;
     let content = hex::encode(alloc, event.data_bytes())?;
-    write_members(
-        out,
-        &[
-            ("event_type", Value::Integer(event_type)),
-            ("event", Value::Text(specified)),
-            ("event_words", word_or_null(words_of(event))),
-            ("direction", Value::Word(direction_word(event))),
-            ("event_data", Value::Text(content)),
-            ("event_details", text_unless_empty(details)),
-        ],
-    )
+    write_member(out, "event_type", Value::Integer(event_type))?;
+    write_specified(out, text, event)?;
+    write_member(out, "event_words", text_or_null(words_of(event)))?;
+    write_member(out, "direction", Value::Text(direction_word(event)))?;
+    write_member(out, "event_data", Value::Text(content.as_str()))
+}
+
+/// Writes the details of an event, by the record of its sensor. `text` is used for them.
+fn write_details(
+    out: &mut Writer,
+    text: &mut String,
+    event: &EventEntry,
+    view: Option<&SdrView>,
+) -> Result<(), AllocError>
+    ensures { OnOk result
+        (AddsSome 1 (AreDetailsMembers event.now (option_map (λ v. v.now) view.entry)) out.old out.new) }
+{
+    text.clear();
+    push_details(text, event, full_of(view))?;
+    write_member(out, "event_details", text_unless_empty(text.as_str()))
 }
 
 /// Writes what an event tells, by the record of its sensor.
@@ -204,11 +196,13 @@ fn write_event(
     ensures { OnOk result (AddsSome 1 (AreEventMembers event.now (option_map (λ v. v.now) view.entry))
         out.old out.new) }
 {
-    let time = time_text(alloc, event.time_stamp())?;
-    let details = details_of(alloc, event, view)?;
-    write_time(out, time, event.time_stamp())?;
-    write_source(alloc, out, event, view)?;
-    write_meaning(alloc, out, event, details)
+    let mut text = String::with_capacity(alloc, TEXT_CAPACITY)?;
+    let time = time_text(alloc, &mut text, event.time_stamp())?;
+    let stamp = event.time_stamp();
+    write_time(out, "timestamp", "timestamp_raw", time.as_deref(), stamp)?;
+    write_source(alloc, out, &mut text, event, view)?;
+    write_meaning(alloc, out, &mut text, event)?;
+    write_details(out, &mut text, event, view)
 }
 
 /// Writes what an OEM timestamped record tells.
@@ -219,10 +213,17 @@ fn write_timed(
 ) -> Result<(), AllocError>
     ensures { OnOk result (AddsSome 1 (AreTimedMembers entry.now) out.old out.new) }
 {
-    let time = time_text(alloc, entry.time_stamp())?;
+    let mut text = String::with_capacity(alloc, TEXT_CAPACITY)?;
+    let time = time_text(alloc, &mut text, entry.time_stamp())?;
     let manufacturer = u64::from(entry.manufacturer_id());
-    write_time(out, time, entry.time_stamp())?;
-    write_members(out, &[("manufacturer_id", Value::Integer(manufacturer))])?;
+    write_time(
+        out,
+        "timestamp",
+        "timestamp_raw",
+        time.as_deref(),
+        entry.time_stamp(),
+    )?;
+    write_member(out, "manufacturer_id", Value::Integer(manufacturer))?;
     write_data(alloc, out, entry.data_bytes())
 }
 

@@ -1,13 +1,14 @@
 //! The states of a sensor in words.
-ghost use Rattle.std.specs.Prelude.{◌≡◌, ◌<◌, IfOk, map, string_bytes};
+ghost use Rattle.std.specs.Prelude.{◌≡◌, ◌<◌, ◌∷◌, [], IfOk, OnOk, codes, map, string_bytes};
 ghost use Rattle.ipmi_records.specs.Prelude.{has_bit};
 ghost use Rattle.ipmi_events.specs.States.{state_words};
-ghost use Rattle.ipmi_json.specs.Object.{json_of};
+ghost use Rattle.ipmi_json.specs.Object.{Adds};
 ghost use Rattle.ipmi_json.specs.Sdr.{state_words_shown, texts_of_states};
 
-use crate::object::Value;
+use crate::object::{Value, write_member};
 use ipmi_events::event_words;
 use ipmi_records::{Sensor, Shown, has_thresholds, states_in};
+use json::Writer;
 use std::alloc::{AllocError, Global};
 
 /// The number of states of a discrete sensor (IPMI v2.0, section 35.14).
@@ -46,19 +47,22 @@ fn texts_of_states(alloc: Global, sensor: &Sensor, states: u16) -> Result<Vec<St
     Ok(texts)
 }
 
-/// The words of the states that a reading shows; null without a reading, and of a sensor with thresholds.
-pub(crate) fn state_words_shown(
+/// Writes the words of the states that a reading shows; null without a reading, and of a sensor with thresholds.
+pub(crate) fn write_state_words(
     alloc: Global,
+    out: &mut Writer,
     sensor: &Sensor,
     shown: Shown,
-) -> Result<Value, AllocError>
-    ensures { IfOk result (λ value. json_of value ≡ state_words_shown sensor.now shown) }
+) -> Result<(), AllocError>
+    ensures { OnOk result (Adds 1 ((codes "state_words", state_words_shown sensor.now shown) ∷ [])
+        out.old out.new) }
 {
     let Shown::Value(reading) = shown else {
-        return Ok(Value::Null);
+        return write_member(out, "state_words", Value::Null);
     };
     if has_thresholds(sensor) {
-        return Ok(Value::Null);
+        return write_member(out, "state_words", Value::Null);
     }
-    Ok(Value::Texts(texts_of_states(alloc, sensor, states_in(reading))?))
+    let texts = texts_of_states(alloc, sensor, states_in(reading))?;
+    write_member(out, "state_words", Value::Texts(texts.as_slice()))
 }

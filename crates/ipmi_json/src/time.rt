@@ -1,18 +1,40 @@
 //! Points in time as ISO 8601 has them.
-ghost use Rattle.std.specs.Prelude.{◌≡◌, ◌+◌, ◌<◌, ◌≤◌, ◌++◌, IfOk, codes, drop, length, option_map, slice_index, string_bytes, take};
+ghost use Rattle.std.specs.Prelude.{◌≡◌, ◌+◌, ◌<◌, ◌≤◌, ◌++◌, ◌∷◌, [], IfOk, OnOk, codes, drop, length, option_map, slice_index, string_bytes, take};
+ghost use Rattle.ipmi_text.specs.Times.{IsUtcTextOf};
+ghost use Rattle.ipmi_json.specs.Object.{Adds, integer, text_or_null};
 ghost use Rattle.ipmi_json.specs.Time.{IsIsoMinuteOf, IsIsoTimeOf};
 
-use ipmi_text::{minutes_text, utc_text};
+use crate::object::{Value, text_or_null, write_member};
+use ipmi_text::{UtcTime, minutes_text};
+use json::Writer;
 use std::alloc::{AllocError, Global};
 
 /// The last time stamp that counts from the start of the controller's clock.
 const LAST_SINCE_START: u32 = 0x2000_0000;
+
+/// The capacity for a date and a time of day.
+const CAPACITY: usize = 24;
 
 /// How many bytes the space and the time of day after it have, to the second.
 const TO_THE_SECOND: usize = 9;
 
 /// How many they have to the minute.
 const TO_THE_MINUTE: usize = 6;
+
+/// Writes a point in time under a key, and the time stamp that it is from under another.
+pub(crate) fn write_time(
+    out: &mut Writer,
+    key: &'static str,
+    raw_key: &'static str,
+    time: Option<&str>,
+    stamp: u32,
+) -> Result<(), AllocError>
+    ensures { OnOk result (Adds 1 ((key.entry.now, text_or_null (option_map (λ s. s.now) time.entry))
+        ∷ (raw_key.entry.now, integer stamp) ∷ []) out.old out.new) }
+{
+    write_member(out, key, text_or_null(time))?;
+    write_member(out, raw_key, Value::Integer(u64::from(stamp)))
+}
 
 /// A date and a time of day, with a space at a place between them, as ISO 8601 has them. `end` follows them.
 fn iso_text(alloc: Global, text: &str, space: usize, end: &str) -> Result<String, AllocError>
@@ -23,19 +45,36 @@ fn iso_text(alloc: Global, text: &str, space: usize, end: &str) -> Result<String
 {
     let date = &text[..space];
     let time = &text[space + 1..];
-    format!(in alloc; "{date}T{time}{end}")
+    let mut iso = String::with_capacity(alloc, CAPACITY)?;
+    iso.push_str(date)?;
+    iso.push_str("T")?;
+    iso.push_str(time)?;
+    iso.push_str(end)?;
+    Ok(iso)
 }
 
-/// The point in time that a time stamp is, as ISO 8601 has it; None where it is none.
-pub(crate) fn time_text(alloc: Global, seconds: u32) -> Result<Option<String>, AllocError>
+/// Replaces a text with that of a time stamp.
+fn set_utc(text: &mut String, seconds: u32) -> Result<(), AllocError>
+    ensures { OnOk result (IsUtcTextOf seconds (string_bytes text.new)) }
+{
+    text.clear();
+    text.write(UtcTime::of(seconds))
+}
+
+/// The point in time that a time stamp is, as ISO 8601 has it; None where it is none. `text` is used for it.
+pub(crate) fn time_text(
+    alloc: Global,
+    text: &mut String,
+    seconds: u32,
+) -> Result<Option<String>, AllocError>
     ensures { IfOk result (λ time. IsIsoTimeOf seconds (option_map (λ s. string_bytes s) time)) }
 {
     if seconds <= LAST_SINCE_START || seconds == u32::MAX {
         return Ok(None);
     }
-    let text = utc_text(alloc, seconds)?;
+    set_utc(text, seconds)?;
     let space = text.as_bytes().len() - TO_THE_SECOND;
-    Ok(Some(iso_text(alloc, &text, space, "Z")?))
+    Ok(Some(iso_text(alloc, text.as_str(), space, "Z")?))
 }
 
 /// The point in time that so many minutes after 1996-01-01 00:00 are, as ISO 8601 has it; None for 0, which is none.

@@ -11,7 +11,7 @@ returns c =
     let items = items_left c.args.records in
     let objects = c.in_ok-end.ensures.objects in
     let last = text_or_null (option_map record_fault_word (fault_among None items)) in
-    let fault = c.word_or_null.ensures ∙ ap text_or_null (c.end_word.ensures ∙ ap (option_map record_fault_word) c.in_ok-end.ensures.fault) in
+    let fault = c.text_or_null.ensures ∙ ap text_or_null (c.end_word.ensures ∙ ap (option_map record_fault_word) c.in_ok-end.ensures.fault) in
     on_ok_weaker c.write_members.result (λ h. record {
       ms = (codes "records", array_in objects.items) ∷ (codes "records_fault", last) ∷ [];
       are = record { objects = objects.items; are_objects = objects.are; are = refl };

@@ -1,4 +1,11 @@
+use Rattle.std.proofs.lemmas.Result.{on_ok_weaker}
+use Rattle.ipmi_json.proofs.ObjectLemmas.{joined}
 use Rattle.ipmi_json.proofs.sdr.write_locator.Goals as goal
 
 pub returns : goal.returns
-returns c = rw (c.from.ensures, c.from-2.ensures, c.from-3.ensures, c.in_ok-entity.ensures) at c.write_members.ensures
+returns c =
+    let address = rw c.from.ensures at c.in_ok-write_member.ensures in
+    let entity = rw c.from-2.ensures at c.in_ok-write_member-2.ensures in
+    on_ok_weaker c.write_member-3.result
+    (λ last. joined (joined (joined address entity) c.in_ok-write_printed.ensures) (rw c.from-instance.ensures at last))
+    c.write_member-3.ensures

@@ -6,7 +6,7 @@ use Rattle.ipmi_json.proofs.sel.write_event.Goals as goal
 pub returns : goal.returns
 returns c =
     let is_time = rw c.time_stamp.ensures at c.in_ok-time.ensures in
-    let timed = rw c.time_stamp-2.ensures at c.in_ok-write_time.ensures in
-    on_ok_weaker c.write_meaning.result
-    (λ last. event_told c.args.event.now (option_map (λ v. v.now) c.args.view) _ _ _ _ _ _ is_time c.in_ok-details.ensures timed c.in_ok-write_source.ensures last)
-    c.write_meaning.ensures
+    let timed = rw (c.as_deref.ensures.value, c.time_stamp-stamp.ensures) at c.in_ok-write_time.ensures in
+    on_ok_weaker c.write_details.result
+    (λ last. event_told c.args.event.now (option_map (λ v. v.now) c.args.view) _ _ _ _ _ _ is_time timed c.in_ok-write_source.ensures c.in_ok-write_meaning.ensures last)
+    c.write_details.ensures

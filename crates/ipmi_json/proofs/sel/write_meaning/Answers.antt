@@ -1,9 +1,13 @@
-use Rattle.std.proofs.Common.{◌∙◌, ap}
-use Rattle.ipmi_json.specs.Object.{text_or_null}
+use Rattle.std.proofs.lemmas.Result.{on_ok_weaker}
+use Rattle.ipmi_json.proofs.ObjectLemmas.{joined}
 use Rattle.ipmi_json.proofs.sel.write_meaning.Goals as goal
 
 pub returns : goal.returns
 returns c =
-    let words = c.word_or_null.ensures ∙ ap text_or_null c.words_of.ensures in
-    let plain = rw (c.from-event_type.ensures, c.event_type.ensures, c.direction_word.ensures, c.in_ok-content.ensures, c.data_bytes.ensures.value, c.text_unless_empty.ensures) at c.write_members.ensures in
-    rw (words, c.in_ok-specified.ensures) at plain
+    let type = rw (c.from-event_type.ensures, c.event_type.ensures) at c.in_ok-write_member.ensures in
+    let words = rw (c.text_or_null.ensures, c.words_of.ensures) at c.in_ok-write_member-2.ensures in
+    let direction = rw c.direction_word.ensures at c.in_ok-write_member-3.ensures in
+    let said = joined (joined (joined type c.in_ok-write_specified.ensures) words) direction in
+    on_ok_weaker c.write_member-4.result
+    (λ last. joined said (rw (c.as_str.ensures.value, c.in_ok-content.ensures, c.data_bytes.ensures.value) at last))
+    c.write_member-4.ensures

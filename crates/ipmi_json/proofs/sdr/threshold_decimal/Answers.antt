@@ -1,4 +1,0 @@
-use Rattle.ipmi_json.proofs.sdr.threshold_decimal.Goals as goal
-
-pub returns : goal.returns
-returns c = rw c.threshold_value.ensures at c.decimal_or_null.ensures

@@ -1,0 +1,7 @@
+use Rattle.std.proofs.Common.{◌∙◌, refl}
+use Rattle.ipmi_json.proofs.sel.write_name.Goals as goal
+
+pub returns : goal.returns
+returns c =
+    let text = c.as_str.ensures.value ∙ c.in_ok-push_sensor_name.ensures ∙ rw (c.clear.ensures.bytes, c.sensor_number.ensures) refl in
+    rw c.in-Some.is (rw (c.text_unless_empty.ensures, text) at c.write_member-2.ensures)
