@@ -23,6 +23,7 @@ use Rattle.ipmi_program.specs.declared.input.InputFault.{InputFault}
 use Rattle.serdimko.specs.Looks.{explanation}
 use Rattle.serdimko.specs.declared.looks.Looks.{Looks}
 use Rattle.serdimko.specs.declared.problem.Problem.{Problem}
+use Rattle.serdimko.specs.Watch.{faults_in, lines_in}
 use Rattle.serdimko.specs.declared.watch.Watch.{Watch}
 
 -- ---- when
@@ -118,14 +119,19 @@ abbrev pub held_by : {W : Type 0} {write : Ghosts (BufWriter (Watch W) Global)}
     → Written (BufWriter (Watch W) Global) write → List ℕ
 held_by out = writer_buffer (writer_of out)
 
--- how many lines its watch counted, how many with faults, and whether it noted that the output was closed
+-- what left its buffer, and how many lines that is; how many with faults its watch counted, and whether it noted that the output
+-- was closed
+abbrev pub handed_on : {W : Type 0} {write : Ghosts (BufWriter (Watch W) Global)}
+    → Written (BufWriter (Watch W) Global) write → List ℕ
+handed_on out = (writer_inner (writer_of out)).taken.bytes
+
 abbrev pub lines_seen : {W : Type 0} {write : Ghosts (BufWriter (Watch W) Global)}
     → Written (BufWriter (Watch W) Global) write → ℕ
-lines_seen out = (writer_inner (writer_of out)).lines
+lines_seen out = lines_in (handed_on out)
 
 abbrev pub faults_seen : {W : Type 0} {write : Ghosts (BufWriter (Watch W) Global)}
     → Written (BufWriter (Watch W) Global) write → ℕ
-faults_seen out = (writer_inner (writer_of out)).faults
+faults_seen out = faults_in (writer_inner (writer_of out)).fault_lines
 
 abbrev pub is_closed : {W : Type 0} {write : Ghosts (BufWriter (Watch W) Global)}
     → Written (BufWriter (Watch W) Global) write → Bool
