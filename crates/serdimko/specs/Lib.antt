@@ -5,4 +5,5 @@ pub mod Misplaced
 pub mod Objects
 pub mod Own
 pub mod Problem
+pub mod Scan
 pub mod Watch
