@@ -459,7 +459,6 @@ module _ (h v s q j : Bool) (i l o : Option (List ℕ)) (ls fs : List (List ℕ)
       let first : Alone (after own word) = alone_before (after own word) (fold after (after own word) words) (had_all (after own word) words) alone in
       ap (λ (found : Own). fold after found words) (marked_as own.next own word first) ∙ marked_fold (after own word) words alone
 
-
 -- ---- one without a value
 
 module _ (h v s q j : Bool) where

@@ -2,7 +2,7 @@
 ghost use Rattle.std.specs.Prelude.{◌≡◌, ◌+◌, ◌++◌, Some, if◌then◌else◌};
 ghost use Rattle.ipmi_commands.specs.declared.job.Wording.{Wording};
 ghost use Rattle.serdimko.specs.Objects.{PrintsRun};
-ghost use Rattle.serdimko.specs.Problem.{faults_of_problem, handed_on, held_by, lines_seen, PrintsInput, RunsEach, taken_of, Tells};
+ghost use Rattle.serdimko.specs.Problem.{faults_of_problem, handed_on, held_by, lines_seen, looks_of, PrintsInput, RunsEach, taken_of, Tells};
 
 use crate::asked::Commands;
 use crate::labels::labels_of;
@@ -36,7 +36,9 @@ pub(crate) fn file_of(image: Option<&Word>) -> Option<&Word> {
 }
 
 /// How the input looks if it is no image.
-fn looks_of(image: &[u8], ending: &Result<(), Failure<'_>>) -> Looks {
+fn looks_of(image: &[u8], ending: &Result<(), Failure<'_>>) -> Looks
+    ensures { result ≡ looks_of image.now ending.now }
+{
     match ending {
         Err(Failure::Image(fault)) => Looks::of(image, *fault),
         _ => Looks::Unknown,
@@ -44,6 +46,7 @@ fn looks_of(image: &[u8], ending: &Result<(), Failure<'_>>) -> Looks {
 }
 
 /// Runs the command over the input. Returns the problem, if it did not print everything.
+#[tactic(auto, using(crate::proofs::ProblemLemmas::run_faults))]
 fn print_input<'a, W: Write + Drop>(
     alloc: Global,
     command: &'a Command,

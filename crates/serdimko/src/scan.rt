@@ -135,11 +135,7 @@ impl<'a> Scan<'a> {
     }
 
     /// Takes a word that is an option, perhaps with its value.
-    fn take_option(
-        &mut self,
-        alloc: Global,
-        word: &'a str,
-    ) -> Result<Option<Line<'a>>, AllocError>
+    fn take_option(&mut self, alloc: Global, word: &'a str) -> Result<Option<Line<'a>>, AllocError>
         ensures value { IfOk result (λ mistake. MatchOption mistake
             (with_option (scan_of self.old) word.entry.now ≡ Some (scan_of self.new))
             (λ _. with_option (scan_of self.old) word.entry.now ≡ None)) }
@@ -253,11 +249,7 @@ impl<'a> Scan<'a> {
     }
 
     /// Takes all words after the program's name.
-    fn take_all(
-        &mut self,
-        alloc: Global,
-        words: &'a [Word],
-    ) -> Result<Option<Line<'a>>, AllocError>
+    fn take_all(&mut self, alloc: Global, words: &'a [Word]) -> Result<Option<Line<'a>>, AllocError>
         ensures value { IfOk result (λ mistake. MatchOption mistake
             (after_all (Some (scan_of self.old)) words.entry.now ≡ Some (scan_of self.new))
             (λ _. after_all (Some (scan_of self.old)) words.entry.now ≡ None)) }
@@ -277,7 +269,8 @@ fn is_valued(option: &str) -> bool
     ensures { result ≡ is_valued option.now }
 {
     match option {
-        "--image" | "--live" | "--output" | "--from" | "--part" | "--tries" | "--id" | "--label" => true,
+        "--image" | "--live" | "--output" | "--from" | "--part" | "--tries" | "--id" | "--label" =>
+            true,
         _ => false,
     }
 }

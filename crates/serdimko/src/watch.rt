@@ -56,7 +56,11 @@ impl<W: Write> Watch<W> {
             writer,
             taken: Taken::after(&More(None, &[])),
             lines: 0,
-            fault_lines: if counts_faults { Some(FaultLines::new()) } else { None },
+            fault_lines: if counts_faults {
+                Some(FaultLines::new())
+            } else {
+                None
+            },
             is_closed: false,
         }
     }
