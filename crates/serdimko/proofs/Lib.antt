@@ -4,3 +4,4 @@ pub mod ObjectLemmas
 pub mod OwnLemmas
 pub mod ProblemLemmas
 pub mod RunLemmas
+pub mod ScanLemmas

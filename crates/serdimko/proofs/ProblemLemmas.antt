@@ -15,6 +15,11 @@ said_unless_closed name is_one (Problem.Lost said) other = refl
 said_unless_closed name is_one Problem.Faulty other = refl
 said_unless_closed name is_one Problem.Closed other = absurd (other refl)
 
+-- of a run only a write fault is one of the output
+pub run_faults : (ending : Ending) (looks : Looks) (faulty closed : Bool)
+    → faults_of_problem (problem_of ending looks faulty closed) ≡ write_faults ending
+run_faults ending looks faulty closed = grind arith
+
 -- of a run over a controller only a write fault is one of the output
 pub live_faults : (said : Option (String Global)) (ending : Ending) (looks : Looks) (faulty closed : Bool)
     → faults_of_problem (lost_problem said (problem_of ending looks faulty closed)) ≡ write_faults ending

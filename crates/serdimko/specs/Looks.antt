@@ -1,9 +1,129 @@
--- The rule that an invalid image breaks, from the appearance of its beginning, its end or its faulty line.
-use Rattle.std.specs.Prelude.{ℕ, List, [], codes}
+-- What invalid images look like, at their beginning, their end or their faulty line, and which rule that breaks.
+use Rattle.std.specs.Prelude.{◌-◌, ◌%◌, ◌==◌, ◌&&◌, ◌||◌, not, nat_eq, ℕ, Bool, true, false, List, [], ◌∷◌, codes, length, slice_get, unwrap_or, if◌then◌else◌, bytes_eq}
+use Rattle.std.specs.Char.{is_ascii_hexdigit}
+use Rattle.std.specs.List.{ends_with, list_all, list_any, starts_with}
+use Rattle.ipmi_image.specs.Prelude.{pieces}
 use Rattle.ipmi_image.specs.declared.image.ImageFault.{ImageFault}
 use Rattle.serdimko.specs.declared.looks.Looks.{Looks}
 
--- the explanation for input that does not begin as an image
+-- ---- lines and fields
+
+-- a piece between separators, counted from 0; empty if there are not so many
+abbrev pub piece_at : ℕ → ℕ → List ℕ → List ℕ
+piece_at separator place bytes = unwrap_or (slice_get (pieces separator bytes) place) []
+
+-- a line, counted from 1
+abbrev pub line_at : List ℕ → ℕ → List ℕ
+line_at bytes line = piece_at 10 (line - 1) bytes
+
+abbrev pub is_empty : List ℕ → Bool
+is_empty field = length field == 0
+
+abbrev pub ends_with_cr : List ℕ → Bool
+ends_with_cr line = ends_with nat_eq line (13 ∷ [])
+
+-- ---- the beginning and the end
+
+-- files of gzip, xz, zstd, bzip2, zip, lz4 and compress begin so
+abbrev pub is_compressed : List ℕ → Bool
+is_compressed bytes =
+    starts_with nat_eq bytes (0x1F ∷ 0x8B ∷ []) || starts_with nat_eq bytes (0xFD ∷ 0x37 ∷ 0x7A ∷ 0x58 ∷ 0x5A ∷ 0 ∷ [])
+    || starts_with nat_eq bytes (0x28 ∷ 0xB5 ∷ 0x2F ∷ 0xFD ∷ []) || starts_with nat_eq bytes (codes "BZh")
+    || starts_with nat_eq bytes (0x50 ∷ 0x4B ∷ 3 ∷ 4 ∷ []) || starts_with nat_eq bytes (4 ∷ 0x22 ∷ 0x4D ∷ 0x18 ∷ [])
+    || starts_with nat_eq bytes (0x1F ∷ 0x9D ∷ [])
+
+abbrev pub beginning_looks : List ℕ → Looks
+beginning_looks bytes =
+    if length bytes == 0 then Looks.Empty
+    else (if is_compressed bytes then Looks.Compressed
+    else (if starts_with nat_eq bytes (0xEF ∷ 0xBB ∷ 0xBF ∷ []) then Looks.ByteOrderMark
+    else (if starts_with nat_eq bytes (0xFF ∷ 0xFE ∷ []) || starts_with nat_eq bytes (0xFE ∷ 0xFF ∷ []) then Looks.Wide
+    else (if starts_with nat_eq bytes (codes "ipmi-image 1\r\n") || starts_with nat_eq bytes (codes "ipmi-image 2\r\n")
+    then Looks.CrLf
+    else (if starts_with nat_eq bytes (codes "ipmi-image 1\r") || starts_with nat_eq bytes (codes "ipmi-image 2\r")
+    then Looks.Cr
+    else Looks.Unknown)))))
+
+abbrev pub ending_looks : List ℕ → Looks
+ending_looks bytes =
+    if ends_with nat_eq bytes (codes "\nend") then Looks.End
+    else (if ends_with nat_eq bytes (codes "\n") then Looks.Unknown
+    else Looks.Cut)
+
+-- ---- a line
+
+-- by its first word
+abbrev pub looks_of_word : List ℕ → Looks
+looks_of_word word =
+    if bytes_eq word (codes "sdr") then Looks.Record
+    else (if bytes_eq word (codes "sel") then Looks.Event
+    else (if bytes_eq word (codes "fru") then Looks.Inventory
+    else (if bytes_eq word (codes "reading") then Looks.Reading
+    else (if bytes_eq word (codes "info") then Looks.Info
+    else (if bytes_eq word (codes "end") then Looks.End
+    else Looks.Unknown)))))
+
+abbrev pub word_looks : List ℕ → Looks
+word_looks line = looks_of_word (piece_at 32 0 line)
+
+abbrev pub is_row : Looks → Bool
+is_row Looks.Record = true
+is_row Looks.Event = true
+is_row looks = false
+
+-- fields follow the first word
+abbrev pub has_fields : Looks → Bool
+has_fields Looks.Unknown = false
+has_fields Looks.End = false
+has_fields looks = true
+
+-- by how many fields it has
+abbrev pub with_fields : Looks → ℕ → Looks
+with_fields Looks.Record fields = if fields == 4 then Looks.RecordFields else Looks.Record
+with_fields Looks.Event fields = if fields == 4 then Looks.RecordFields else Looks.Event
+with_fields Looks.Inventory fields = if fields == 3 then Looks.InventoryFields else Looks.Inventory
+with_fields Looks.Reading fields = if fields == 4 then Looks.ReadingFields else Looks.Reading
+with_fields looks fields = looks
+
+-- an invalid line of the first version or another one
+abbrev pub line_looks : Bool → List ℕ → Looks
+line_looks is_first line =
+    if ends_with_cr line then Looks.CrLf
+    else (if not (has_fields (word_looks line)) then word_looks line
+    else (if is_first && is_row (word_looks line) && bytes_eq (piece_at 32 2 line) (codes "-") then Looks.Dash
+    else (if list_any is_empty (pieces 32 line) then Looks.Spaces
+    else with_fields (word_looks line) (length (pieces 32 line)))))
+
+-- a line whose id is not allowed
+abbrev pub id_looks : List ℕ → Looks
+id_looks line =
+    if is_row (word_looks line) && bytes_eq (piece_at 32 1 line) (codes "0000") then Looks.Zero else word_looks line
+
+-- the digits are the last field
+abbrev pub digits_in : List ℕ → List ℕ
+digits_in line = piece_at 32 (length (pieces 32 line) - 1) line
+
+abbrev pub digit_looks : List ℕ → Looks
+digit_looks line =
+    if ends_with_cr line then Looks.CrLf
+    else (if length (digits_in line) % 2 == 1 && list_all is_ascii_hexdigit (digits_in line) then Looks.Odd
+    else Looks.Unknown)
+
+-- ---- input that has a fault
+
+abbrev pub looks_in : List ℕ → ImageFault → Looks
+looks_in bytes ImageFault.Header = beginning_looks bytes
+looks_in bytes (ImageFault.Line line) = line_looks (starts_with nat_eq bytes (codes "ipmi-image 1")) (line_at bytes line)
+looks_in bytes (ImageFault.Hex line) = digit_looks (line_at bytes line)
+looks_in bytes (ImageFault.Id line) = id_looks (line_at bytes line)
+looks_in bytes (ImageFault.Twice line) = word_looks (line_at bytes line)
+looks_in bytes (ImageFault.Length line) = word_looks (line_at bytes line)
+looks_in bytes ImageFault.NoEnd = ending_looks bytes
+looks_in bytes fault = Looks.Unknown
+
+-- ---- the rule
+
+-- what is known of input that does not begin as an image
 abbrev pub header_words : Looks → List ℕ
 header_words Looks.Empty = codes " (it is empty)"
 header_words Looks.Compressed = codes " (compressed: unpack it first)"
@@ -43,13 +163,13 @@ id_words Looks.Inventory = codes " (no FRU device has the id FF)"
 id_words Looks.Reading = codes " (a LUN is 0 to 3)"
 id_words _ = codes " (no record has the id FFFF)"
 
--- what the line has in common with an earlier line
+-- what an earlier line has too
 abbrev pub twice_words : Looks → List ℕ
 twice_words Looks.Reading = codes " (an earlier line has this LUN and NUM)"
 twice_words Looks.Info = codes " (an earlier line has this info)"
 twice_words _ = codes " (an earlier line has this record id)"
 
--- the number of bytes that a line must have
+-- how many bytes a line has to have
 abbrev pub length_words : Looks → List ℕ
 length_words Looks.Event = codes " (sel takes 16 bytes)"
 length_words Looks.Reading = codes " (reading takes 4 bytes)"
@@ -62,7 +182,7 @@ end_words Looks.End = codes " (after 'end' a line feed is missing)"
 end_words Looks.Cut = codes " (it is cut off: its last line has no line feed)"
 end_words _ = codes " (its last line is not 'end')"
 
--- the meaning of a fault of an image, given the appearance of the image there
+-- what a fault of an image means, given what the image looks like there
 abbrev pub explanation : ImageFault → Looks → List ℕ
 explanation ImageFault.Header looks = header_words looks
 explanation (ImageFault.Line line) looks = line_words looks

@@ -1,5 +1,5 @@
 -- The options of this program, and the words that are left for the specified command line.
-use Rattle.std.specs.Prelude.{◌≡◌, Bool, true, false, ◌&&◌, nat_lt, ℕ, Option, Some, None, is_some, List, [], ◌∷◌, ◌++◌, codes, length, take, drop, fold, if◌then◌else◌, bytes_eq}
+use Rattle.std.specs.Prelude.{◌≡◌, ◌⊎◌, Bool, true, false, ◌&&◌, nat_lt, ℕ, Option, Some, None, is_some, List, [], ◌∷◌, ◌++◌, codes, length, take, drop, fold, if◌then◌else◌, bytes_eq}
 use Rattle.serdimko.specs.declared.own.Kind.{Kind}
 use Rattle.serdimko.specs.declared.own.Next.{Next}
 use Rattle.serdimko.specs.declared.own.Own.{Own}
@@ -184,7 +184,13 @@ pub record IsPlain (own : Own) (words : List (List ℕ)) : Type 0 where
   pub live : own.live ≡ None
   pub output : own.output ≡ None
 
--- ---- an option of this program that has no value, wherever it stands
+-- ---- an option of this program, wherever it stands
+
+-- where the next word may be an option: it is no value, and does not come after `--`
+abbrev pub MayBeOption : List (List ℕ) → Type 0
+MayBeOption before = (found_in before).next ≡ Next.Any
+
+-- ---- one that has no value
 
 abbrev pub is_flag : Kind → Bool
 is_flag Kind.Help = true
@@ -194,10 +200,6 @@ is_flag Kind.Quiet = true
 is_flag Kind.Json = true
 is_flag kind = false
 
--- where the next word may be an option: it is no value, and does not come after `--`
-abbrev pub MayBeOption : List (List ℕ) → Type 0
-MayBeOption before = (found_in before).next ≡ Next.Any
-
 -- what the words have is what they have without it, and it
 abbrev pub IsTakenOut : List (List ℕ) → List ℕ → List (List ℕ) → Type 0
 IsTakenOut before flag later =
@@ -206,3 +208,41 @@ IsTakenOut before flag later =
 abbrev pub FlagsAreTakenOut : Type 0
 FlagsAreTakenOut = (before : List (List ℕ)) (flag : List ℕ) (later : List (List ℕ))
     → MayBeOption before → is_flag (kind_of flag) ≡ true → IsTakenOut before flag later
+
+-- ---- one that has a value
+
+-- these words are the option and its value, in the next word or after `=`
+abbrev pub GivesValue : List (List ℕ) → Valued → List ℕ → Type 0
+GivesValue words valued value =
+    ((option : List ℕ) × (words ≡ option ∷ value ∷ []) × (kind_of option ≡ Kind.Valued valued) × (is_option value ≡ false))
+    ⊎ (words ≡ (name_of valued ++ codes "=" ++ value) ∷ [])
+
+abbrev pub GivesImage : List (List ℕ) → List ℕ → Type 0
+GivesImage words file =
+    ((words ≡ codes "--image" ∷ file ∷ []) × (is_option file ≡ false)) ⊎ (words ≡ (codes "--image=" ++ file) ∷ [])
+
+-- a value after so many others
+abbrev pub with_next : ℕ → List ℕ → List (List ℕ) → List (List ℕ)
+with_next count value values = take count values ++ value ∷ drop count values
+
+-- what was found, and this value, after so many labels
+abbrev pub and_value : Valued → ℕ → List ℕ → Own → Own
+and_value Valued.Id count value own = record own { id = Some value; has_own = true }
+and_value Valued.Live count value own = record own { live = Some value; has_own = true }
+and_value Valued.Output count value own = record own { output = Some value; has_own = true }
+and_value Valued.Label count value own = record own { labels = with_next count value own.labels; has_own = true }
+
+-- the words have what they have without it, and it, if no other of them gives this option
+abbrev pub ValuesAreTakenOut : Type 0
+ValuesAreTakenOut = (before words later : List (List ℕ)) (valued : Valued) (value : List ℕ)
+    → MayBeOption before → GivesValue words valued value → is_given valued (found_in (before ++ later)) ≡ false
+    → found_in (before ++ (words ++ later))
+    ≡ and_value valued (length (found_in before).labels) value (found_in (before ++ later))
+
+-- the same of an image after the first one
+abbrev pub ImagesAreTakenOut : Type 0
+ImagesAreTakenOut = (before words later : List (List ℕ)) (file : List ℕ)
+    → MayBeOption before → (found_in before).has_image ≡ true → GivesImage words file
+    → found_in (before ++ (words ++ later))
+    ≡ (let own = found_in (before ++ later) in
+    record own { images = with_next (length (found_in before).images) file own.images; has_own = true })

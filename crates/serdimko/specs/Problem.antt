@@ -20,9 +20,10 @@ use Rattle.ipmi_commands.specs.declared.job.Wording.{Wording}
 use Rattle.ipmi_image.specs.Image.{store_of_image}
 use Rattle.ipmi_program.specs.Printing.{EndsBy, IsHandedOn}
 use Rattle.ipmi_program.specs.declared.input.InputFault.{InputFault}
-use Rattle.serdimko.specs.Looks.{explanation}
+use Rattle.serdimko.specs.Looks.{explanation, looks_in}
 use Rattle.serdimko.specs.declared.looks.Looks.{Looks}
 use Rattle.serdimko.specs.declared.problem.Problem.{Problem}
+use Rattle.serdimko.specs.Watch.{faults_in, lines_in}
 use Rattle.serdimko.specs.declared.watch.Watch.{Watch}
 
 -- ---- when
@@ -42,6 +43,11 @@ problem_of (Err (Failure.Image fault)) looks faulty closed = Some (Problem.NoIma
 problem_of (Err failure) looks faulty closed = Some (Problem.Failed failure)
 problem_of (Ok done) looks true closed = Some Problem.Faulty
 problem_of (Ok done) looks false closed = None
+
+-- what input looks like after a run with this ending, if it is no image
+abbrev pub looks_of : List ℕ → Ending → Looks
+looks_of bytes (Err (Failure.Image fault)) = looks_in bytes fault
+looks_of bytes ending = Looks.Unknown
 
 -- input that was not read
 abbrev pub unread : InputFault → Problem
@@ -118,14 +124,19 @@ abbrev pub held_by : {W : Type 0} {write : Ghosts (BufWriter (Watch W) Global)}
     → Written (BufWriter (Watch W) Global) write → List ℕ
 held_by out = writer_buffer (writer_of out)
 
--- how many lines its watch counted, how many with faults, and whether it noted that the output was closed
+-- what left its buffer, and how many lines that is; how many with faults its watch counted, and whether it noted that the output
+-- was closed
+abbrev pub handed_on : {W : Type 0} {write : Ghosts (BufWriter (Watch W) Global)}
+    → Written (BufWriter (Watch W) Global) write → List ℕ
+handed_on out = (writer_inner (writer_of out)).taken.bytes
+
 abbrev pub lines_seen : {W : Type 0} {write : Ghosts (BufWriter (Watch W) Global)}
     → Written (BufWriter (Watch W) Global) write → ℕ
-lines_seen out = (writer_inner (writer_of out)).lines
+lines_seen out = lines_in (handed_on out)
 
 abbrev pub faults_seen : {W : Type 0} {write : Ghosts (BufWriter (Watch W) Global)}
     → Written (BufWriter (Watch W) Global) write → ℕ
-faults_seen out = (writer_inner (writer_of out)).faults
+faults_seen out = faults_in (writer_inner (writer_of out)).fault_lines
 
 abbrev pub is_closed : {W : Type 0} {write : Ghosts (BufWriter (Watch W) Global)}
     → Written (BufWriter (Watch W) Global) write → Bool
@@ -139,11 +150,11 @@ is_faulty old new = not (faults_seen new == faults_seen old)
 -- ---- one input
 
 -- nothing is printed where it was not read; otherwise what `Leaves` tells of how the run ended
-abbrev pub Prints : {Image : Type 0} → (Image → Ending → Type 0) → Type 0 → Bool → Bool → Result Image InputFault
+abbrev pub Prints : (List ℕ → Ending → Type 0) → Type 0 → Bool → Bool → Result (Vec ℕ Global) InputFault
     → Option Problem → Type 0
 Prints Leaves Idle faulty closed (Err fault) problem = Idle × (problem ≡ Some (unread fault))
 Prints Leaves Idle faulty closed (Ok image) problem =
-    (ending : Ending) × (looks : Looks) × Leaves image ending × (problem ≡ problem_of ending looks faulty closed)
+    (ending : Ending) × Leaves image.items ending × (problem ≡ problem_of ending (looks_of image.items ending) faulty closed)
 
 -- what a command prints of it
 abbrev pub PrintsInput : {W : Type 0} {write : Ghosts (BufWriter (Watch W) Global)} → Wording
@@ -151,7 +162,7 @@ abbrev pub PrintsInput : {W : Type 0} {write : Ghosts (BufWriter (Watch W) Globa
     → Written (BufWriter (Watch W) Global) write → Option Problem → Type 0
 PrintsInput wording input command old new problem =
     Prints (λ image ending. EndsBy (λ done. AnswersJob (job_of_command_in wording command)
-    (store_of_image image.items) (taken_of old) (taken_of new) done) ending × IsHandedOn (held_by new) ending)
+    (store_of_image image) (taken_of old) (taken_of new) done) ending × IsHandedOn (held_by new) ending)
     (new ≡ old) (is_faulty old new) (is_closed new) input problem
 
 -- ---- a live controller

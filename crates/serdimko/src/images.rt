@@ -1,8 +1,8 @@
 //! Prints what a command asks for of each image, one after another.
-ghost use Rattle.std.specs.Prelude.{◌≡◌, ◌+◌, Some, if◌then◌else◌};
+ghost use Rattle.std.specs.Prelude.{◌≡◌, ◌+◌, ◌++◌, Some, if◌then◌else◌};
 ghost use Rattle.ipmi_commands.specs.declared.job.Wording.{Wording};
 ghost use Rattle.serdimko.specs.Objects.{PrintsRun};
-ghost use Rattle.serdimko.specs.Problem.{faults_of_problem, PrintsInput, RunsEach, Tells};
+ghost use Rattle.serdimko.specs.Problem.{faults_of_problem, handed_on, held_by, lines_seen, looks_of, PrintsInput, RunsEach, taken_of, Tells};
 
 use crate::asked::Commands;
 use crate::labels::labels_of;
@@ -22,13 +22,23 @@ use std::io::{BufWriter, Write};
 /// The output: buffered, over a writer that counts the lines with faults.
 pub(crate) type Output<W> = Written<BufWriter<Watch<W>>>;
 
+/// How many lines left the buffer.
+pub(crate) fn lines_of<W: Write + Drop>(out: &Output<W>) -> usize
+    ensures lines { result ≡ lines_seen out.now }
+    ensures bytes { taken_of out.now ≡ handed_on out.now ++ held_by out.now }
+{
+    out.get_ref().get_ref().lines()
+}
+
 /// The file, where it is not `-`, which is standard input.
 pub(crate) fn file_of(image: Option<&Word>) -> Option<&Word> {
     image.filter(|file| file.as_str() != "-")
 }
 
 /// How the input looks if it is no image.
-fn looks_of(image: &[u8], ending: &Result<(), Failure<'_>>) -> Looks {
+fn looks_of(image: &[u8], ending: &Result<(), Failure<'_>>) -> Looks
+    ensures { result ≡ looks_of image.now ending.now }
+{
     match ending {
         Err(Failure::Image(fault)) => Looks::of(image, *fault),
         _ => Looks::Unknown,
@@ -36,6 +46,7 @@ fn looks_of(image: &[u8], ending: &Result<(), Failure<'_>>) -> Looks {
 }
 
 /// Runs the command over the input. Returns the problem, if it did not print everything.
+#[tactic(auto, using(crate::proofs::ProblemLemmas::run_faults))]
 fn print_input<'a, W: Write + Drop>(
     alloc: Global,
     command: &'a Command,
@@ -75,7 +86,7 @@ fn print_run<'a, W: Write + Drop>(
         ⟦<Output<W> as Sink>⟧.faults out.old + faults_of_problem result }
     ensures prints { PrintsRun wording.entry name.now is_one input.now command.now out.old out.new result }
 {
-    let before = out.get_ref().get_ref().lines();
+    let before = lines_of(out);
     let problem = print_input(alloc, command, wording, input, out);
     end_run(alloc, wording, before, problem, name, is_one, out)
 }

@@ -6,7 +6,7 @@ ghost use Rattle.serdimko.specs.Objects.{PrintsLiveRun};
 ghost use Rattle.serdimko.specs.Problem.{faults_of_problem, live_state, PrintsLive, RunsEach, Tells};
 
 use crate::asked::Commands;
-use crate::images::{Output, say_problem, wording_of};
+use crate::images::{Output, lines_of, say_problem, wording_of};
 use crate::labels::labels_of;
 use crate::looks::Looks;
 use crate::objects::end_run;
@@ -160,7 +160,7 @@ fn print_run_over<'a, P: Peer + Drop, K: Clock + Drop, W: Write + Drop>(
         (live_state (seen_of P.seen controller.old) (last_words controller.old) out.old)
         (live_state (seen_of P.seen controller.new) (last_words controller.new) out.new) result }
 {
-    let before = out.get_ref().get_ref().lines();
+    let before = lines_of(out);
     let problem = print_over(alloc, command, wording, controller, out);
     end_run(alloc, wording, before, problem, NAME, true, out)
 }

@@ -1,8 +1,12 @@
 //! What input that is no image looks like, and which rule it breaks.
-ghost use Rattle.std.specs.Prelude.{◌≡◌};
-ghost use Rattle.serdimko.specs.Looks.{digit_words, end_words, explanation, header_words, id_words, length_words, line_words, twice_words};
+ghost use Rattle.std.specs.Prelude.{◌≡◌, ◌∷◌, ◌<◌, ◌==◌, [], IfSome, length, MatchOption};
+ghost use Rattle.std.specs.Char.{is_ascii_hexdigit};
+ghost use Rattle.std.specs.List.{list_all, list_any};
+ghost use Rattle.ipmi_image.specs.Prelude.{pieces};
+ghost use Rattle.serdimko.specs.Looks.{beginning_looks, digit_looks, digit_words, end_words, ending_looks, ends_with_cr, explanation, has_fields, header_words, id_looks, id_words, is_compressed, is_empty, is_row, length_words, line_at, line_looks, line_words, looks_in, piece_at, twice_words, with_fields, word_looks};
 
 use ipmi_image::ImageFault;
+use memchr::memchr;
 
 /// What input that is no image looks like at its beginning, or at the line that is at fault.
 #[derive(Clone, Copy, PartialEq, Eq)]
@@ -51,20 +55,83 @@ pub(crate) enum Looks {
     Unknown,
 }
 
-/// How compressed files begin: those of gzip, xz, zstd, bzip2, zip, lz4 and compress.
-const COMPRESSED: [&[u8]; 7] = [
-    b"\x1f\x8b",
-    b"\xfd7zXZ\0",
-    b"\x28\xb5\x2f\xfd",
-    b"BZh",
-    b"PK\x03\x04",
-    b"\x04\x22\x4d\x18",
-    b"\x1f\x9d",
-];
+/// The bytes before and after the first separator.
+fn cut(bytes: &[u8], separator: u8) -> Option<(&[u8], &[u8])>
+    ensures cut { MatchOption result (pieces separator bytes.now ≡ bytes.now ∷ [])
+        (λ parts. pieces separator bytes.now ≡ parts.0.now ∷ pieces separator parts.1.now) }
+    ensures shorter { IfSome result (λ parts. length parts.1.now < length bytes.now) }
+{
+    let at = memchr(separator, bytes)?;
+    Some((&bytes[..at], &bytes[at + 1..]))
+}
+
+/// A piece between separators, counted from 0; empty if there are not so many.
+fn piece_at(bytes: &[u8], separator: u8, place: usize) -> &[u8]
+    ensures { result.now ≡ piece_at separator place bytes.now }
+{
+    let mut rest = bytes;
+    let mut left = place;
+    while left > 0 {
+        let Some((_, more)) = cut(rest, separator) else {
+            return &[];
+        };
+        rest = more;
+        left -= 1;
+    }
+    match cut(rest, separator) {
+        Some((piece, _)) => piece,
+        None => rest,
+    }
+}
+
+/// How many fields the line has, and whether one is empty.
+fn fields_of(line: &[u8]) -> (usize, bool)
+    ensures count { result.0 ≡ length (pieces 32 line.now) }
+    ensures empty { result.1 ≡ list_any is_empty (pieces 32 line.now) }
+{
+    let mut rest = line;
+    let mut count = 1;
+    let mut has_empty = false;
+    while let Some((field, more)) = cut(rest, b' ') {
+        count += 1;
+        has_empty = has_empty || field.is_empty();
+        rest = more;
+    }
+    (count, has_empty || rest.is_empty())
+}
+
+/// Whether it begins as a file of gzip, xz, zstd, bzip2, zip, lz4 or compress.
+fn is_compressed(bytes: &[u8]) -> bool
+    ensures { result ≡ is_compressed bytes.now }
+{
+    bytes.starts_with(b"\x1f\x8b")
+        || bytes.starts_with(b"\xfd7zXZ\0")
+        || bytes.starts_with(b"\x28\xb5\x2f\xfd")
+        || bytes.starts_with(b"BZh")
+        || bytes.starts_with(b"PK\x03\x04")
+        || bytes.starts_with(b"\x04\x22\x4d\x18")
+        || bytes.starts_with(b"\x1f\x9d")
+}
+
+/// Whether the line ends with a carriage return.
+fn ends_with_cr(line: &[u8]) -> bool
+    ensures { result ≡ ends_with_cr line.now }
+{
+    line.ends_with(b"\r")
+}
+
+/// Whether all are hex digits.
+fn are_hex(digits: &[u8]) -> bool
+    ensures { result ≡ list_all is_ascii_hexdigit digits.now }
+{
+    digits.iter().all(|byte| byte.is_ascii_hexdigit())
+}
 
 impl Looks {
     /// What these bytes, which have this fault, look like.
-    pub(crate) fn of(bytes: &[u8], fault: ImageFault) -> Looks {
+    pub(crate) fn of(bytes: &[u8], fault: ImageFault) -> Looks
+        ensures { result ≡ looks_in bytes.now fault }
+    {
         match fault {
             ImageFault::Header => Looks::of_beginning(bytes),
             ImageFault::Line(line) => {
@@ -81,10 +148,12 @@ impl Looks {
     }
 
     /// What bytes that do not begin as an image look like.
-    fn of_beginning(bytes: &[u8]) -> Looks {
+    fn of_beginning(bytes: &[u8]) -> Looks
+        ensures { result ≡ beginning_looks bytes.now }
+    {
         if bytes.is_empty() {
             Looks::Empty
-        } else if COMPRESSED.iter().any(|start| bytes.starts_with(start)) {
+        } else if is_compressed(bytes) {
             Looks::Compressed
         } else if bytes.starts_with(b"\xef\xbb\xbf") {
             Looks::ByteOrderMark
@@ -100,7 +169,9 @@ impl Looks {
     }
 
     /// What bytes without a line `end` look like.
-    fn of_ending(bytes: &[u8]) -> Looks {
+    fn of_ending(bytes: &[u8]) -> Looks
+        ensures { result ≡ ending_looks bytes.now }
+    {
         if bytes.ends_with(b"\nend") {
             Looks::End
         } else if bytes.ends_with(b"\n") {
@@ -111,67 +182,106 @@ impl Looks {
     }
 
     /// What the first word of a line stands for.
-    fn of_word(line: &str) -> Looks {
-        let (word, _) = line.split_once(' ').unwrap_or((line, ""));
-        match word {
-            "sdr" => Looks::Record,
-            "sel" => Looks::Event,
-            "fru" => Looks::Inventory,
-            "reading" => Looks::Reading,
-            "info" => Looks::Info,
-            "end" => Looks::End,
-            _ => Looks::Unknown,
+    fn of_word(line: &[u8]) -> Looks
+        ensures { result ≡ word_looks line.now }
+    {
+        let word = piece_at(line, b' ', 0);
+        if word == b"sdr".as_slice() {
+            Looks::Record
+        } else if word == b"sel".as_slice() {
+            Looks::Event
+        } else if word == b"fru".as_slice() {
+            Looks::Inventory
+        } else if word == b"reading".as_slice() {
+            Looks::Reading
+        } else if word == b"info".as_slice() {
+            Looks::Info
+        } else if word == b"end".as_slice() {
+            Looks::End
+        } else {
+            Looks::Unknown
         }
     }
 
-    /// What a line whose id is not allowed looks like.
-    fn of_id(line: &str) -> Looks {
-        match Looks::of_word(line) {
-            Looks::Record | Looks::Event if line.split(' ').nth(1) == Some("0000") => Looks::Zero,
+    /// Whether it is the line of a record.
+    fn is_row(self) -> bool
+        ensures { result ≡ is_row self }
+    {
+        matches!(self, Looks::Record | Looks::Event)
+    }
+
+    /// Whether fields follow the first word.
+    fn has_fields(self) -> bool
+        ensures { result ≡ has_fields self }
+    {
+        !matches!(self, Looks::Unknown | Looks::End)
+    }
+
+    /// What a line with as many fields looks like.
+    fn with_fields(self, fields: usize) -> Looks
+        ensures { result ≡ with_fields self fields }
+    {
+        match self {
+            Looks::Record | Looks::Event if fields == 4 => Looks::RecordFields,
+            Looks::Inventory if fields == 3 => Looks::InventoryFields,
+            Looks::Reading if fields == 4 => Looks::ReadingFields,
             looks => looks,
         }
     }
 
+    /// What a line whose id is not allowed looks like.
+    fn of_id(line: &[u8]) -> Looks
+        ensures { result ≡ id_looks line.now }
+    {
+        let looks = Looks::of_word(line);
+        if looks.is_row() && piece_at(line, b' ', 1) == b"0000".as_slice() {
+            return Looks::Zero;
+        }
+        looks
+    }
+
     /// What an invalid line looks like.
-    fn of_line(line: &str, is_first_version: bool) -> Looks {
-        if line.ends_with('\r') {
+    fn of_line(line: &[u8], is_first_version: bool) -> Looks
+        ensures { result ≡ line_looks is_first_version line.now }
+    {
+        if ends_with_cr(line) {
             return Looks::CrLf;
         }
         let looks = Looks::of_word(line);
-        let fields = line.split(' ').count();
-        match looks {
-            Looks::Unknown | Looks::End => looks,
-            Looks::Record | Looks::Event
-                if is_first_version && line.split(' ').nth(2) == Some("-") => { Looks::Dash }
-            _ if line.split(' ').any(|field| field.is_empty()) => Looks::Spaces,
-            Looks::Record | Looks::Event if fields == 4 => Looks::RecordFields,
-            Looks::Inventory if fields == 3 => Looks::InventoryFields,
-            Looks::Reading if fields == 4 => Looks::ReadingFields,
-            _ => looks,
+        if !looks.has_fields() {
+            return looks;
         }
+        if is_first_version && looks.is_row() && piece_at(line, b' ', 2) == b"-".as_slice() {
+            return Looks::Dash;
+        }
+        let (fields, has_empty) = fields_of(line);
+        if has_empty {
+            return Looks::Spaces;
+        }
+        looks.with_fields(fields)
     }
 
     /// What a line whose digits are at fault looks like.
-    fn of_digits(line: &str) -> Looks {
-        if line.ends_with('\r') {
+    fn of_digits(line: &[u8]) -> Looks
+        ensures { result ≡ digit_looks line.now }
+    {
+        if ends_with_cr(line) {
             return Looks::CrLf;
         }
-        let (_, digits) = line.rsplit_once(' ').unwrap_or(("", line));
-        let is_hex = digits.bytes().all(|byte| byte.is_ascii_hexdigit());
-        if is_hex && digits.len() % 2 == 1 {
+        let (fields, _) = fields_of(line);
+        let digits = piece_at(line, b' ', fields.saturating_sub(1));
+        if digits.len() % 2 == 1 && are_hex(digits) {
             return Looks::Odd;
         }
         Looks::Unknown
     }
 }
 
-/// The line with this number, counted from 1; empty if it is no text.
-fn line_at(bytes: &[u8], line: usize) -> &str {
-    let line = bytes
-        .split(|byte| *byte == b'\n')
-        .nth(line.saturating_sub(1));
-    line.and_then(|line| str::from_utf8(line).ok())
-        .unwrap_or("")
+/// The line with this number, counted from 1.
+fn line_at(bytes: &[u8], line: usize) -> &[u8]
+    ensures { result.now ≡ line_at bytes.now line }
+{
+    piece_at(bytes, b'\n', line.saturating_sub(1))
 }
 
 /// What is known of bytes that do not begin as an image.

@@ -7,12 +7,14 @@ ghost use Rattle.std.specs.Prelude.{◌<◌, length};
 
 mod asked;
 mod capture;
+mod fault_lines;
 mod grammar;
 mod help;
 mod images;
 mod labels;
 mod live;
 mod looks;
+mod misplaced;
 mod mistake;
 mod objects;
 mod own;
@@ -23,16 +25,16 @@ mod watch;
 
 use asked::{Commands, command_of_options, commands_of};
 use capture::capture_live;
-use grammar::COMMANDS;
 use help::{SHORT, VERSION, help_on};
 use images::print_images;
-use ipmi_command_line::{Command, Task, UsageFault, Word};
+use ipmi_command_line::{UsageFault, Word};
 use ipmi_commands::report;
 use ipmi_output::Part::{self, Name, Number, Text};
 use ipmi_output::{Failure, MessageSink, Written, say_line};
 use ipmi_program::read_words;
 use labels::wrong_label;
 use live::{Live, print_live_objects, print_live_texts};
+use misplaced::{goes_with_capture, input_rule, json_rule, misplaced};
 use mistake::{Line, line, mistake, no_value_of, too_many};
 use own::{Own, own_of};
 use problem::CLOSED;
@@ -41,7 +43,7 @@ use std::alloc::{AllocError, Global};
 use std::env::{Env, FillError};
 use std::io::{self, BufWriter, ErrorKind, IsTerminal, Write};
 use std::process::ExitCode;
-use watch::{Counted, Watch};
+use watch::Watch;
 
 /// The exit status of an invalid command line.
 const USAGE: u8 = 2;
@@ -120,8 +122,8 @@ fn run<E: MessageSink>(
 ) -> Result<u8, AllocError>
     requires { 0 < length own.now.rest }
 {
-    let rule = misplaced(own, scanned);
-    if let Some(rule) = rule.or(misplaced_json(own, scanned.words.as_slice())) {
+    let words = scanned.plain.as_slice();
+    if let Some(rule) = misplaced(own, words).or(json_rule(own, words)) {
         return Ok(refuse(&[Text(rule)], err));
     }
     if let Some(line) = wrong_label(rt.alloc(), own)? {
@@ -147,57 +149,16 @@ fn run_commands<E: MessageSink>(
     let [command, ..] = commands.all.as_slice() else {
         return Ok(0);
     };
-    if is_input_twice(command, own) {
-        return Ok(refuse(&[Text("standard input is given twice")], err));
-    }
-    let is_rewrite = matches!(command.task(), Task::Rewrite);
-    if is_rewrite && !own.images.as_slice().is_empty() {
-        return Ok(refuse(&[Text("'image rewrite' takes one image")], err));
+    if let Some(rule) = input_rule(command, own) {
+        return Ok(refuse(&[Text(rule)], err));
     }
     let image = command.image();
     let Some(live) = &own.live else {
         return print_commands(rt, commands, image, own, None, err);
     };
-    if is_rewrite {
-        return Ok(refuse(&[Text("'image rewrite' needs a saved image")], err));
-    }
-    if image.is_some() {
-        return Ok(refuse(&[Text("--image does not go with a live controller")], err));
-    }
     match live_of(rt, live.as_str())? {
         Ok(live) => print_commands(rt, commands, image, own, Some(live), err),
         Err(line) => Ok(refuse(&line, err)),
-    }
-}
-
-/// The rule against an option that the command does not take. Unknown commands have another message.
-fn misplaced(own: &Own, scanned: &Scan<'_>) -> Option<&'static str> {
-    let words = scanned.words.as_slice();
-    // the id is the last word
-    let is_bare = words.len() == usize::from(own.id.is_some());
-    match (&own.id, words) {
-        (_, [word, ..]) if !is_bare && !COMMANDS.contains(word) => None,
-        (Some(_), ["sel", "get", _]) => None,
-        (Some(_), ["sel", "get", ..]) => Some("'sel get' takes an ID or --id, not both"),
-        (Some(_), _) => Some("--id goes only with 'sel get'"),
-        (None, ["capture", ..]) => None,
-        _ if own.quiet || own.output.is_some() => {
-            Some("--output and --quiet go only with 'capture'")
-        }
-        _ => None,
-    }
-}
-
-/// `--json` beside what does not go with it, or `--label` without it.
-fn misplaced_json(own: &Own, words: &[&str]) -> Option<&'static str> {
-    let has_labels = !own.labels.as_slice().is_empty();
-    match words {
-        _ if !own.json && has_labels => Some("--label goes only with --json"),
-        _ if !own.json => None,
-        _ if own.strict => Some("--strict does not go with --json: objects tell their faults"),
-        ["capture", ..] => Some("--json does not go with 'capture'"),
-        ["image", "rewrite"] => Some("--json does not go with 'image rewrite'"),
-        _ => None,
     }
 }
 
@@ -228,7 +189,7 @@ fn run_capture<E: MessageSink>(
     if scanned.words.as_slice().len() > 1 {
         return Ok(refuse(&too_many(rt.alloc(), scanned.words.as_slice(), 1)?, err));
     }
-    if own.strict || scanned.from.is_some() || scanned.image.is_some() {
+    if !goes_with_capture(own, scanned) {
         let rule = "'capture' takes only --part, --tries, --output and --quiet";
         return Ok(refuse(&[Text(rule)], err));
     }
@@ -254,29 +215,6 @@ fn run_capture<E: MessageSink>(
     )
 }
 
-/// Whether several images are read from standard input.
-fn is_input_twice(command: &Command, own: &Own) -> bool {
-    let more = own
-        .images
-        .as_slice()
-        .iter()
-        .filter(|image| image.as_str() == "-")
-        .count();
-    let is_first = command.image().is_some_and(|image| image.as_str() == "-");
-    more > 1 || (more == 1 && is_first)
-}
-
-/// Which lines of the output are counted.
-fn counted_of(own: &Own) -> Counted {
-    if own.json {
-        Counted::Lines
-    } else if own.strict {
-        Counted::Faults
-    } else {
-        Counted::Nothing
-    }
-}
-
 /// Runs the commands over each image, of which `image` is the first, or over the controller, with buffered output.
 fn print_commands<E: MessageSink>(
     rt: &HostRuntime,
@@ -293,7 +231,7 @@ fn print_commands<E: MessageSink>(
             &[Text("reading an image from the terminal: --image FILE names a file")],
         );
     }
-    let writer = Watch::new(io::writer(rt), counted_of(own));
+    let writer = Watch::new(io::writer(rt), own.strict);
     let mut out = Written::new(BufWriter::new(rt.alloc(), writer).or(Err(AllocError))?);
     let status = match live {
         Some(live) if own.json => print_live_objects(rt, commands, own, live, &mut out, err),

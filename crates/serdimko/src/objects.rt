@@ -6,7 +6,7 @@ ghost use Rattle.ipmi_output.specs.Writer.{flush_faults};
 ghost use Rattle.serdimko.specs.Objects.{EndsIn, IsEndLine, message_of, PrintsEnd};
 ghost use Rattle.serdimko.specs.Problem.{faults_of_problem, has_room, held_by, lines_seen, problem_text, status_of_problem, taken_of};
 
-use crate::images::Output;
+use crate::images::{Output, lines_of};
 use crate::looks::Looks;
 use crate::problem::Problem;
 use ipmi_commands::Wording;
@@ -112,7 +112,7 @@ fn print_end<'a, W: Write + Drop>(
     if !Problem::has_room(&problem) {
         return problem;
     }
-    let count = out.get_ref().get_ref().lines().saturating_sub(before);
+    let count = lines_of(out).saturating_sub(before);
     let Ok(line) = line_at_end(alloc, labels, count, &problem, name, is_one) else {
         return Some(Problem::Failed(Failure::OutOfMemory));
     };

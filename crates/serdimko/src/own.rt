@@ -1,6 +1,6 @@
 //! The options of this program: they are taken out of the words wherever they are, and the rest is the specified command line.
 ghost use Rattle.std.specs.Prelude.{◌≡◌, ◌<◌, drop, false, IfOk, length, OnOk, string_bytes, true};
-ghost use Rattle.serdimko.specs.Own.{add_image, add_value, after, after_image, after_image_value, after_kind, after_other, at_end, FlagsAreTakenOut, id_word, is_option, IsPlain, kind_of, leave, is_given, name_of, nothing, own_of, with_id, with_value};
+ghost use Rattle.serdimko.specs.Own.{add_image, add_value, after, after_image, after_image_value, after_kind, after_other, at_end, FlagsAreTakenOut, id_word, ImagesAreTakenOut, is_option, IsPlain, kind_of, leave, is_given, name_of, nothing, own_of, ValuesAreTakenOut, with_id, with_value};
 
 use ipmi_command_line::{Word, Words};
 use std::alloc::{AllocError, Global};
@@ -356,13 +356,15 @@ fn take_all(alloc: Global, words: &Words) -> Result<Own, AllocError>
 }
 
 /// Takes the options of this program out of the words, the first of which is the program's name. Where there are none, all
-/// words are left. An option without a value is taken out wherever it may stand, and nothing else depends on it.
+/// words are left. An option is taken out wherever it may stand, and nothing else depends on it.
 #[tactic(auto, using(crate::proofs::OwnLemmas::of_own))]
 pub(crate) fn own_of(alloc: Global, words: &Words) -> Result<Own, AllocError>
     requires { 0 < length words.now }
     ensures value { IfOk result (λ own. own ≡ own_of words.now) }
     ensures plain { IfOk result (λ own. own.has_own ≡ false → IsPlain own words.now) }
     ensures flags { FlagsAreTakenOut }
+    ensures values { ValuesAreTakenOut }
+    ensures images { ImagesAreTakenOut }
     ensures name { IfOk result (λ own. 0 < length own.rest) }
 {
     take_all(alloc, words)

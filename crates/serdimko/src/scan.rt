@@ -1,9 +1,12 @@
 //! The options and the words of a command line, told apart as `clap` tells them; or what is wrong where it is refused.
+ghost use Rattle.std.specs.Prelude.{◌≡◌, [], IfOk, MatchOption, MatchResult, None, OnOk, Some, if◌then◌else◌, option_map};
+ghost use Rattle.serdimko.specs.Scan.{after, after_all, HasWords, is_valued, kept, name_in, scan_of, start, told_of, value_in, with_next, with_option, with_plain, with_value};
+
 use crate::grammar::{Next, next_of};
 use crate::mistake::{Line, line, no_value_of, not_a_number, rule_of};
 use crate::own::is_option;
 use crate::suggestion::nearest;
-use ipmi_command_line::Words;
+use ipmi_command_line::{Word, Words};
 use ipmi_output::Part::{Name, Text};
 use std::alloc::{AllocError, Global};
 
@@ -22,11 +25,6 @@ const OPTIONS: [&str; 13] = [
     "--label",
     "--help",
     "--version",
-];
-
-/// Those that have a value.
-const VALUED: [&str; 8] = [
-    "--image", "--live", "--output", "--from", "--part", "--tries", "--id", "--label",
 ];
 
 /// Those that have none.
@@ -64,7 +62,11 @@ pub(crate) struct Scan<'a> {
 }
 
 impl<'a> Scan<'a> {
-    fn new(alloc: Global) -> Scan<'a> {
+    /// Before the first word.
+    fn new(alloc: Global) -> Scan<'a>
+        ensures start { scan_of result ≡ start [] }
+        ensures words { HasWords result }
+    {
         Scan {
             words: Vec::new(alloc),
             plain: Words::new(alloc),
@@ -79,7 +81,10 @@ impl<'a> Scan<'a> {
     }
 
     /// Keeps the option's value; true if it had none before. The first one of this program's own was taken out with its value.
-    fn keep(&mut self, option: &str, value: &'a str) -> bool {
+    fn keep(&mut self, option: &str, value: &'a str) -> bool
+        ensures value { kept (scan_of self.old) option.now value.entry.now ≡ (if result then Some (scan_of self.new) else None) }
+        ensures words { HasWords self.old → HasWords self.new }
+    {
         let kept = match option {
             "--from" => self.from.replace(value),
             "--part" => self.part.replace(value),
@@ -96,38 +101,70 @@ impl<'a> Scan<'a> {
         alloc: Global,
         option: &'a str,
         value: &'a str,
-    ) -> Result<Option<Line<'a>>, AllocError> {
+    ) -> Result<Option<Line<'a>>, AllocError>
+        ensures value { IfOk result (λ mistake. MatchOption mistake
+            (kept (scan_of self.old) option.entry.now value.entry.now ≡ Some (scan_of self.new))
+            (λ _. kept (scan_of self.old) option.entry.now value.entry.now ≡ None)) }
+        ensures words { HasWords self.old → HasWords self.new }
+    {
         if self.keep(option, value) {
             return Ok(None);
         }
         line(alloc, &[Name(option), Text(" is given twice")]).map(Some)
     }
 
-    /// Takes a word that is an option, perhaps with its value.
-    fn take_option(
+    /// Takes an option that has a value, and the value if it comes after `=`.
+    fn take_valued(
         &mut self,
         alloc: Global,
-        word: &'a str,
-    ) -> Result<Option<Line<'a>>, AllocError> {
-        let (option, value) = match word.split_once('=') {
-            Some((option, value)) => (option, Some(value)),
-            None => (word, None),
-        };
+        option: &'a str,
+        value: Option<&'a str>,
+    ) -> Result<Option<Line<'a>>, AllocError>
+        ensures value { IfOk result (λ mistake. MatchOption mistake
+            (with_value (scan_of self.old) option.entry.now (option_map (λ v. v.now) value.entry) ≡ Some (scan_of self.new))
+            (λ _. with_value (scan_of self.old) option.entry.now (option_map (λ v. v.now) value.entry) ≡ None)) }
+        ensures words { HasWords self.old → HasWords self.new }
+    {
         match value {
-            Some(value) if VALUED.contains(&option) => self.take_value(alloc, option, value),
-            None if VALUED.contains(&option) => {
+            Some(value) => self.take_value(alloc, option, value),
+            None => {
                 self.waiting = Some(option);
                 Ok(None)
             }
+        }
+    }
+
+    /// Takes a word that is an option, perhaps with its value.
+    fn take_option(&mut self, alloc: Global, word: &'a str) -> Result<Option<Line<'a>>, AllocError>
+        ensures value { IfOk result (λ mistake. MatchOption mistake
+            (with_option (scan_of self.old) word.entry.now ≡ Some (scan_of self.new))
+            (λ _. with_option (scan_of self.old) word.entry.now ≡ None)) }
+        ensures words { HasWords self.old → HasWords self.new }
+    {
+        let (option, value) = name_and_value(word);
+        if is_valued(option) {
+            return self.take_valued(alloc, option, value);
+        }
+        self.refuse(alloc, option, value).map(Some)
+    }
+
+    /// What is wrong with an option that has no value here.
+    fn refuse(
+        &self,
+        alloc: Global,
+        option: &'a str,
+        value: Option<&'a str>,
+    ) -> Result<Line<'a>, AllocError> {
+        match value {
             Some(_) if FLAGS.contains(&option) => {
-                line(alloc, &[Name(option), Text(" takes no value")]).map(Some)
+                line(alloc, &[Name(option), Text(" takes no value")])
             }
             Some(value) if option == "-o" => {
                 let rule = "-o takes its value as the next word: write -o ";
                 let parts = [Text(rule), Name(value), Text(" or --output="), Name(value)];
-                line(alloc, &parts).map(Some)
+                line(alloc, &parts)
             }
-            _ => self.unknown(alloc, option).map(Some),
+            _ => self.unknown(alloc, option),
         }
     }
 
@@ -159,18 +196,48 @@ impl<'a> Scan<'a> {
         line(alloc, &parts)
     }
 
+    /// Takes a word that belongs to no option.
+    fn take_plain(&mut self, word: &'a str) -> Result<(), AllocError>
+        ensures value { OnOk result (scan_of self.new ≡ with_plain (scan_of self.old) word.entry.now) }
+        ensures words { HasWords self.old → OnOk result (HasWords self.new) }
+    {
+        self.plain.push(word)?;
+        self.words.push(word)?;
+        Ok(())
+    }
+
+    /// Takes the value of the option before it.
+    fn take_next(
+        &mut self,
+        alloc: Global,
+        option: &'a str,
+        word: &'a str,
+    ) -> Result<Option<Line<'a>>, AllocError>
+        ensures value { IfOk result (λ mistake. MatchOption mistake
+            (with_next (scan_of self.old) option.entry.now word.entry.now ≡ Some (scan_of self.new))
+            (λ _. with_next (scan_of self.old) option.entry.now word.entry.now ≡ None)) }
+        ensures words { HasWords self.old → HasWords self.new }
+    {
+        if is_option(word) {
+            return no_value(alloc, option, word).map(Some);
+        }
+        self.options.push(word)?;
+        self.waiting = None;
+        self.take_value(alloc, option, word)
+    }
+
     /// Takes the next word.
-    fn take(&mut self, alloc: Global, word: &'a str) -> Result<Option<Line<'a>>, AllocError> {
-        if let Some(option) = self.waiting.take() {
-            if is_option(word) {
-                return no_value(alloc, option, word).map(Some);
-            }
-            self.options.push(word)?;
-            return self.take_value(alloc, option, word);
+    fn take(&mut self, alloc: Global, word: &'a str) -> Result<Option<Line<'a>>, AllocError>
+        ensures value { IfOk result (λ mistake. MatchOption mistake
+            (after (scan_of self.old) word.entry.now ≡ Some (scan_of self.new))
+            (λ _. after (scan_of self.old) word.entry.now ≡ None)) }
+        ensures words { HasWords self.old → OnOk result (HasWords self.new) }
+    {
+        if let Some(option) = self.waiting {
+            return self.take_next(alloc, option, word);
         }
         if self.is_ended || !is_option(word) {
-            self.plain.push(word)?;
-            self.words.push(word)?;
+            self.take_plain(word)?;
             return Ok(None);
         }
         if word == "--" {
@@ -179,6 +246,43 @@ impl<'a> Scan<'a> {
         }
         self.options.push(word)?;
         self.take_option(alloc, word)
+    }
+
+    /// Takes all words after the program's name.
+    fn take_all(&mut self, alloc: Global, words: &'a [Word]) -> Result<Option<Line<'a>>, AllocError>
+        ensures value { IfOk result (λ mistake. MatchOption mistake
+            (after_all (Some (scan_of self.old)) words.entry.now ≡ Some (scan_of self.new))
+            (λ _. after_all (Some (scan_of self.old)) words.entry.now ≡ None)) }
+        ensures words { HasWords self.old → OnOk result (HasWords self.new) }
+    {
+        for word in words {
+            if let Some(line) = self.take(alloc, word.as_str())? {
+                return Ok(Some(line));
+            }
+        }
+        Ok(None)
+    }
+}
+
+/// Whether the option has a value.
+fn is_valued(option: &str) -> bool
+    ensures { result ≡ is_valued option.now }
+{
+    match option {
+        "--image" | "--live" | "--output" | "--from" | "--part" | "--tries" | "--id" | "--label" =>
+            true,
+        _ => false,
+    }
+}
+
+/// An option and the value after `=`, if there is one.
+fn name_and_value(word: &str) -> (&str, Option<&str>)
+    ensures name { result.0.now ≡ name_in word.entry.now }
+    ensures value { option_map (λ value. value.now) result.1 ≡ value_in word.entry.now }
+{
+    match word.split_once('=') {
+        Some((option, value)) => (option, Some(value)),
+        None => (word, None),
     }
 }
 
@@ -254,15 +358,18 @@ fn needs_value<'a>(alloc: Global, option: &'a str) -> Result<Line<'a>, AllocErro
 pub(crate) fn told_apart<'a>(
     alloc: Global,
     words: &'a Words,
-) -> Result<Result<Scan<'a>, Line<'a>>, AllocError> {
+) -> Result<Result<Scan<'a>, Line<'a>>, AllocError>
+    ensures told { IfOk result (λ told. MatchResult told
+        (λ scan. told_of words.entry.now ≡ Some (scan_of scan)) (λ _. told_of words.entry.now ≡ None)) }
+    ensures words { IfOk result (λ told. IfOk told (λ scan. HasWords scan)) }
+{
     let mut scanned = Scan::new(alloc);
-    if let [name, ..] = words.as_slice() {
-        scanned.options.push(name.as_str())?;
-    }
-    for word in words.as_slice().iter().skip(1) {
-        if let Some(line) = scanned.take(alloc, word.as_str())? {
-            return Ok(Err(line));
-        }
+    let [name, rest @ ..] = words.as_slice() else {
+        return Ok(Ok(scanned));
+    };
+    scanned.options.push(name.as_str())?;
+    if let Some(line) = scanned.take_all(alloc, rest)? {
+        return Ok(Err(line));
     }
     match scanned.waiting {
         Some(option) => Ok(Err(needs_value(alloc, option)?)),

@@ -1,124 +1,85 @@
-//! Counts the lines of the output, or those that tell a fault, and notes that the output was closed.
-ghost use Rattle.std.specs.Prelude.{◌≡◌, ◌≤◌};
+//! Counts the lines of the output, and those that tell a fault, and notes that the output was closed.
+ghost use Rattle.std.specs.Prelude.{◌≡◌, ◌==◌, ◌++◌, [], List, ℕ, Some, count_by, option_map, unwrap_or};
+ghost use Rattle.std.specs.Borrow.{ftrue};
+ghost use Rattle.serdimko.specs.Watch.{lines_in, faults_in};
 
-use ipmi_fru::{AreaFault, FruFault, MultiFault};
+use crate::fault_lines::FaultLines;
 use std::io::{ErrorKind, Result, Write};
+use std::marker::Model;
 
-/// How many bytes of a line are kept: more than the longest line with a fault has.
-const KEPT: usize = 72;
-
-const HEADER: [FruFault; 3] = [
-    FruFault::Short,
-    FruFault::HeaderVersion,
-    FruFault::HeaderSum,
-];
-
-const AREA: [AreaFault; 5] = [
-    AreaFault::Outside,
-    AreaFault::Version,
-    AreaFault::Length,
-    AreaFault::Sum,
-    AreaFault::FieldPastEnd,
-];
-
-const MULTIRECORD: [MultiFault; 3] = [
-    MultiFault::Outside,
-    MultiFault::HeaderSum,
-    MultiFault::DataSum,
-];
-
-/// What the line of a faulty record ends with, after `record ` and four digits.
-const RECORD: [&str; 3] = ["h: short", "h: wrong length", "h: body too short"];
-
-/// Whether the line of an inventory tells this of one of its parts.
-fn tells_of_inventory(part: &str, fault: &str) -> bool {
-    match part {
-        "FRU" => HEADER.iter().any(|it| it.name() == fault),
-        "Chassis" | "Board" | "Product" => AREA.iter().any(|it| it.name() == fault),
-        "Record" => MULTIRECORD.iter().any(|it| it.name() == fault),
-        _ => false,
-    }
+/// Bytes that were taken. Only contracts see them, so they cost nothing at run time.
+#[derive(Drop)]
+pub(crate) struct Taken {
+    pub(crate) ghost bytes: { List ℕ },
 }
 
-/// How the line of a device ends, after its id and its name (at most 32 printed bytes). The line of a present device ends so
-/// only if its product's name does.
-const DEVICE: [&str; 2] = [" | not present | - | - | -", " | faulty | - | - | -"];
-
-/// Whether it is the line of a device that is not present, or whose inventory has a fault.
-fn tells_of_device(line: &str) -> bool {
-    match line.split_once(" | ") {
-        Some((id, _)) => {
-            id.parse::<u8>().is_ok() && DEVICE.iter().any(|end| line.ends_with(*end))
-        }
-        None => false,
-    }
+impl Model for Taken {
+    ghost also_owns = { λ _. ftrue };
 }
 
-/// Whether the whole line tells a fault, or that a device is not present.
-fn tells_fault(line: &str) -> bool {
-    if tells_of_device(line) {
-        return true;
-    }
-    if let Some((part, fault)) = line.split_once(" fault: ") {
-        return tells_of_inventory(part, fault);
-    }
-    match line.strip_prefix("record ") {
-        Some(rest) => rest.get(4..).is_some_and(|end| RECORD.contains(&end)),
-        None => line == "not present",
-    }
-}
-
-/// Which lines are counted.
+/// What was taken before, if anything was, and more bytes.
 #[derive(Clone, Copy)]
-pub(crate) enum Counted {
-    /// None.
-    Nothing,
-    /// Those that tell a fault.
-    Faults,
-    /// All.
-    Lines,
+struct More<'t, 'b>(Option<&'t Taken>, &'b [u8]);
+
+impl Taken {
+    /// All of them.
+    fn after(_more: &More<'_, '_>) -> Taken
+        ensures { result.bytes ≡ unwrap_or (option_map (λ taken. taken.now.bytes) _more.now.0) [] ++ _more.now.1.now }
+    {
+        Taken {}
+    }
 }
 
-/// A writer that counts lines among those that it takes, and notes that it was closed.
+/// How many bytes are line feeds.
+fn line_feeds(bytes: &[u8]) -> usize
+    ensures { result ≡ count_by (λ byte. byte == 10) bytes.now }
+{
+    bytes.iter().filter(|byte| **byte == b'\n').count()
+}
+
+/// A writer that counts lines among the bytes that it takes, and notes that it was closed.
 #[derive(Drop)]
 pub(crate) struct Watch<W> {
     writer: W,
-    counted: Counted,
-    // the first bytes of the line that is being written, and how many
-    line: [u8; KEPT],
-    len: usize,
-    faults: usize,
+    taken: Taken,
     lines: usize,
+    // only where they are counted
+    fault_lines: Option<FaultLines>,
     is_closed: bool,
-    ghost within: { len ≤ 72 },
+    ghost counted: { lines ≡ lines_in taken.bytes },
 }
 
 impl<W: Write> Watch<W> {
-    /// Over a writer, at the beginning of a line. It counts these lines.
-    pub(crate) fn new(writer: W, counted: Counted) -> Watch<W> {
+    /// Over a writer, at the beginning of a line.
+    pub(crate) fn new(writer: W, counts_faults: bool) -> Watch<W> {
         Watch {
             writer,
-            counted,
-            line: [0; KEPT],
-            len: 0,
-            faults: 0,
+            taken: Taken::after(&More(None, &[])),
             lines: 0,
+            fault_lines: if counts_faults {
+                Some(FaultLines::new())
+            } else {
+                None
+            },
             is_closed: false,
         }
     }
 
-    /// How many lines with faults were counted.
-    pub(crate) fn faults(&self) -> usize
-        ensures { result ≡ self.now.faults }
-    {
-        self.faults
-    }
-
-    /// How many lines were counted where all are.
+    /// How many lines were taken.
     pub(crate) fn lines(&self) -> usize
-        ensures { result ≡ self.now.lines }
+        ensures { result ≡ lines_in self.now.taken.bytes }
     {
         self.lines
+    }
+
+    /// How many lines with faults were counted.
+    pub(crate) fn faults(&self) -> usize
+        ensures { result ≡ faults_in self.now.fault_lines }
+    {
+        match &self.fault_lines {
+            Some(lines) => lines.faults(),
+            None => 0,
+        }
     }
 
     /// Whether a write failed because whoever reads the output has closed it.
@@ -127,51 +88,20 @@ impl<W: Write> Watch<W> {
     {
         self.is_closed
     }
-
-    /// Looks at a byte that was written.
-    fn look_at(&mut self, byte: u8) {
-        if byte == b'\n' {
-            if str::from_utf8(&self.line[..self.len]).is_ok_and(|line| tells_fault(line)) {
-                self.faults = self.faults.saturating_add(1);
-            }
-            self.len = 0;
-        } else if self.len < KEPT {
-            self.line[self.len] = byte;
-            self.len += 1;
-        }
-    }
-
-    /// Looks for faults in bytes that were written.
-    fn look(&mut self, bytes: &[u8]) {
-        for byte in bytes {
-            self.look_at(*byte);
-        }
-    }
-
-    /// Counts the ends of lines in bytes that were written.
-    fn count_lines(&mut self, bytes: &[u8]) {
-        for byte in bytes {
-            if *byte == b'\n' {
-                self.lines = self.lines.saturating_add(1);
-            }
-        }
-    }
-
-    /// Counts in bytes that were written.
-    fn count(&mut self, bytes: &[u8]) {
-        match self.counted {
-            Counted::Nothing => {}
-            Counted::Faults => self.look(bytes),
-            Counted::Lines => self.count_lines(bytes),
-        }
-    }
 }
 
 impl<W: Write> Write for Watch<W> {
+    ghost contents = { λ watch. Some watch.taken.bytes };
+
     fn write(&mut self, buf: &[u8]) -> Result<usize> {
         match self.writer.write(buf) {
             Ok(count) => {
-                self.count(&buf[..count]);
+                let bytes = &buf[..count];
+                if let Some(lines) = &mut self.fault_lines {
+                    lines.look(bytes);
+                }
+                self.lines = self.lines.saturating_add(line_feeds(bytes));
+                self.taken = Taken::after(&More(Some(&self.taken), bytes));
                 Ok(count)
             }
             Err(error) => {

@@ -5,7 +5,7 @@ use Rattle.serdimko.proofs.live.print_run_over.Goals as goal
 
 pub returns-clause-prints : goal.returns-clause-prints
 returns-clause-prints g c =
-    let before : c.lines-before.result ≡ lines_seen c.args.out.now = rw c.lines-before.ensures (rw c.get_ref-2.ensures (rw c.get_ref.ensures refl)) in (
+    let before : c.lines_of-before.result ≡ lines_seen c.args.out.now = c.lines_of-before.ensures.lines in (
       c.print_over-problem.new.out,
       c.print_over-problem.result,
       c.print_over-problem.ensures.prints,
