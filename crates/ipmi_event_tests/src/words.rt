@@ -72,10 +72,10 @@ const SPECIFIC: &str = "05 00|General Chassis Intrusion
 05 01|Drive Bay intrusion
 05 02|I/O Card area intrusion
 05 03|Processor area intrusion
-05 04|LAN Leash Lost
+05 04|LAN Leash Lost (system is unplugged from LAN)
 05 05|Unauthorized dock
 05 06|FAN area intrusion
-06 00|Secure Mode Violation attempt
+06 00|Secure Mode (Front Panel Lockout) Violation attempt
 06 01|Pre-boot Password Violation - user password
 06 02|Pre-boot Password Violation attempt - setup password
 06 03|Pre-boot Password Violation - network boot password
@@ -237,7 +237,7 @@ const SPECIFIC: &str = "05 00|General Chassis Intrusion
 24 00|platform generated page
 24 01|platform generated LAN alert
 24 02|Platform Event Trap generated
-24 03|platform generated SNMP trap
+24 03|platform generated SNMP trap, OEM format
 25 00|Entity Present
 25 01|Entity Absent
 25 02|Entity Disabled

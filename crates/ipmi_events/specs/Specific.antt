@@ -1,4 +1,4 @@
--- The words of sensor-specific events (IPMI v2.0, table 42-3), without the remarks in brackets.
+-- The words of sensor-specific events (IPMI v2.0, table 42-3), without most of the remarks in brackets.
 use Rattle.std.specs.Prelude.{ℕ, List, [], ◌∷◌, ◌++◌, codes, Option}
 use Rattle.ipmi_events.specs.Table.{reserved, table_from_one, words_at}
 
@@ -9,14 +9,14 @@ physical_security =
     codes "Drive Bay intrusion" ∷
     codes "I/O Card area intrusion" ∷
     codes "Processor area intrusion" ∷
-    codes "LAN Leash Lost" ∷
+    codes "LAN Leash Lost (system is unplugged from LAN)" ∷
     codes "Unauthorized dock" ∷
     codes "FAN area intrusion" ∷ []
 
 -- sensor type 06h: Platform Security Violation Attempt
 abbrev pub platform_security : List (List ℕ)
 platform_security =
-    codes "Secure Mode Violation attempt" ∷
+    codes "Secure Mode (Front Panel Lockout) Violation attempt" ∷
     codes "Pre-boot Password Violation - user password" ∷
     codes "Pre-boot Password Violation attempt - setup password" ∷
     codes "Pre-boot Password Violation - network boot password" ∷
@@ -269,7 +269,7 @@ platform_alert =
     codes "platform generated page" ∷
     codes "platform generated LAN alert" ∷
     codes "Platform Event Trap generated" ∷
-    codes "platform generated SNMP trap" ∷ []
+    codes "platform generated SNMP trap, OEM format" ∷ []
 
 -- sensor type 25h: Entity Presence
 abbrev pub entity_presence : List (List ℕ)

@@ -13,14 +13,14 @@ const PHYSICAL_SECURITY: [&str; 7] = [
     "Drive Bay intrusion",
     "I/O Card area intrusion",
     "Processor area intrusion",
-    "LAN Leash Lost",
+    "LAN Leash Lost (system is unplugged from LAN)",
     "Unauthorized dock",
     "FAN area intrusion",
 ];
 
 /// Sensor type 06h: Platform Security Violation Attempt.
 const PLATFORM_SECURITY: [&str; 6] = [
-    "Secure Mode Violation attempt",
+    "Secure Mode (Front Panel Lockout) Violation attempt",
     "Pre-boot Password Violation - user password",
     "Pre-boot Password Violation attempt - setup password",
     "Pre-boot Password Violation - network boot password",
@@ -280,7 +280,7 @@ const PLATFORM_ALERT: [&str; 4] = [
     "platform generated page",
     "platform generated LAN alert",
     "Platform Event Trap generated",
-    "platform generated SNMP trap",
+    "platform generated SNMP trap, OEM format",
 ];
 
 /// Sensor type 25h: Entity Presence.
