@@ -1,4 +1,4 @@
--- Listings with names: a walk of the sensor data records into memory, and then what is listed with the names.
+-- Listings with names: a walk reads the sensor data records into memory, then a listing uses the names.
 use Rattle.std.proofs.Common.{◌≡◌, inl, inr, ℕ, ◌+◌, ◌≤◌, true, IsTrue, Option, None, Some, Result, Ok, Err, List, [], ◌∷◌, ◌++◌, length, refl, sym, ap, ◌∙◌, arith}
 use Rattle.std.specs.List.{AllPass, concat}
 use Rattle.std.proofs.lemmas.Bool.Decides.{nat_tests}
@@ -31,11 +31,11 @@ whole_rows look_row rows [] ok all = All-nil _
 whole_rows look_row rows (row ∷ walk) ok all =
     All-cons (λ bytes. is_whole_record bytes ≡ true) row.bytes (bytes_of_rows walk) (whole_record row.bytes (look_row Sdr rows row.id row ok all.0).whole) (whole_rows look_row rows walk ok all.1)
 
--- records that are put one after another are found again
+-- splitting concatenated records gives these records again
 abbrev pub RecordsAreFound : Type 0
 RecordsAreFound = (records : List (List ℕ)) → AllPass is_whole_record records → records_in (concat records) ≡ records
 
--- what was listed are they
+-- the listed bytes are those of the records on the walk
 pub read_records : FoundIsRow → RecordsAreFound → (store : Store) (walk : List Row) (text : List ℕ)
     → IsStore store → AllOf store.sdr walk
     → Printed (IsTextOver store) (row_items Form.Bytes First walk) [] text
@@ -44,7 +44,7 @@ read_records look_row split store walk text ok all printed =
     ap records_in (printed.new_is ∙ bytes_text store walk First printed.text printed.are)
     ∙ split (bytes_of_rows walk) (whole_rows look_row store.sdr walk ok.sdr all)
 
--- what an output over a list holds
+-- equal known contents are equal
 pub some_is : (a b : List ℕ) → Some a ≡ Some b → a ≡ b
 some_is a b is = cc is
 
@@ -55,15 +55,15 @@ among_before : (spots more : List Spot) (spot : Spot) → IsAmong spots spot
 among_before (first ∷ spots) more spot among = elim among [ inl at ↦ inl at | inr later ↦ inr (among_before spots more spot later) ]
 among_before [] more spot among = absurd among
 
--- the first item, or the end, has them
+-- these are the spots of the first item, or of the end
 next_spots-first : (spots : List Spot) (items : List Item) (at_end : List Spot)
     → next_spots (with_first_spots spots items) (end_spots_of_last spots items at_end) ≡ spots
 next_spots-first spots [] at_end = refl
 next_spots-first spots (item ∷ items) at_end = refl
 
--- ---- what is listed with the names
+-- ---- the listing with the names
 
--- where it has its plan
+-- each kind of listing follows its plan
 module _ (wording : Wording) (records : List (List ℕ)) (tries : ℕ) (store : Store)
     (Holds : Plan → ℕ → Type 0) where
   named_map : (More : Plan → ℕ → Type 0) (named : Named)
@@ -110,7 +110,7 @@ named_ends wording records (Named.Events (Count.First n) from) c ending ends = e
 named_ends wording records (Named.Events (Count.Last n) from) c ending ends = entries_end wording (entries_in wording records) (Count.Last n) from c.seen' ending ends
 named_ends wording records Named.Devices c ending ends = devices_end wording c.seen' ending ends
 
--- there is no memory for a table of the sensors, or for the name
+-- out of memory for the table of sensors, or for the name
 with_end : (wording : Wording) (records : List (List ℕ)) (named : Named) (c : Change)
     → MayEnd (job_with wording records named) c (Err Failure.OutOfMemory)
 with_end wording records (Named.Events Count.All from) c = tt
@@ -127,12 +127,12 @@ with_without_memory wording records named tries s text = record {
   prints = λ h same. with_all wording records tries s.store _ named (λ plan calls. (no_items (IsTextOver s.store) plan text text refl, omega arith));
 }
 
--- ---- the walk of the records did not come to its end
+-- ---- the walk of the records was not finished
 
 abbrev records_plan : List Row → WalkEnd → Plan
 records_plan records end = listing_plan (listing Form.Bytes First None) records end
 
--- a listing that ends so was not at the end of its plan
+-- a listing with this failure was not at the end of its plan
 not_at_end : (records : List Row) (end : WalkEnd) (result : Result Place Failure) (failure : Failure)
     → walk_of result ≡ Err failure → ending_of result ≡ rows_end Form.Bytes records end → ⊥
 not_at_end records Done result failure is at = grind arith
@@ -143,7 +143,7 @@ module _ (store : Store) (records : List Row) (end : WalkEnd) (plan : Plan) (kep
   abbrev q : Plan
   q = after_names records end plan
 
-  -- at a spot of that walk
+  -- the run stops at a spot of that walk
   stop_there : (first : HasFirstItems (IsTextOver store) (records_plan records end) [] kept) (spot : Spot)
       → IsAmong (next_spots first.rest (spots_at_walk_end First records end)) spot
       → IsAmong (next_spots q.items q.end_spots) spot
@@ -152,7 +152,7 @@ module _ (store : Store) (records : List Row) (end : WalkEnd) (plan : Plan) (kep
       (among_before (spots_of_walk First records end) (next_spots plan.items plan.end_spots) spot
       (quiet_there Form.Bytes (λ row. refl) None First records first.done first.rest (spots_at_walk_end First records end) spot first.items_are there))
 
-  -- why the walk ended early is why the run does, but that memory for the records is wanted in place of room in an output
+  -- the run ends early for the same cause as the walk, but a write fault of the list of records means out of memory
   cause_kept : (result : Result Place Failure) (failure : Failure) → walk_of result ≡ Err failure
       → (cause_of (ending_of result) ≡ NoOutput → ⊥)
       → cause_of (Err failure) ≡ cause_of (ending_of result)
@@ -179,12 +179,12 @@ module _ (store : Store) (records : List Row) (end : WalkEnd) (plan : Plan) (kep
       rw (cause_of-memory result failure is at) (no_items (IsTextOver store) q text text refl)
   stop_by result failure is Dishonest at leaves = absurd leaves
 
--- a walk of which the end is known was at the end of its plan
+-- a walk with a known end was at the end of its plan
 pub walked_at_end : (result : Result Place Failure) (walked : Walked) → walk_of result ≡ Ok walked
     → cause_of (ending_of result) ≡ AtEnd
 walked_at_end result walked is = grind arith
 
--- and ends so
+-- and its end is that of the rows
 pub walked_end : (records : List Row) (end : WalkEnd) (result : Result Place Failure) (walked : Walked)
     → walk_of result ≡ Ok walked → ending_of result ≡ rows_end Form.Bytes records end
     → end_after walked ≡ end_after_names end (Ok tt)
@@ -192,7 +192,7 @@ walked_end records Done result walked is at = grind arith
 walked_end records (CycleAt n) result walked is at = grind arith
 walked_end records (MissingAt n) result walked is at = grind arith
 
--- the run ends by this before anything is printed
+-- the run ends with this failure before anything is printed
 module _ (tries : ℕ) (s s' : Seen) (kept : List ℕ) (wording : Wording) (named : Named)
     (calls : s'.calls ≤ s.calls + most_on_walk Form.Bytes tries) where
   pub failed_ends : (named : Named) (result : Result Place Failure) (failure : Failure)
@@ -222,7 +222,7 @@ module _ (tries : ℕ) (s s' : Seen) (kept : List ℕ) (wording : Wording) (name
         ));
   }
 
--- ---- what follows the walk
+-- ---- after the walk
 
 pub then_ends : (wording : Wording) (named : Named) (seen : Seen) (ending : Ending) (walked : Walked)
     → EndsNamed wording named seen ending → EndsNamed wording named seen (ending_then ending walked)

@@ -1,4 +1,4 @@
--- Pages over a chain that does not end by a cycle are one listing.
+-- If the chain does not end with a cycle, all pages together are one listing.
 use Rattle.std.proofs.Common.{◌≡◌, inl, inr, ℕ, ◌+◌, ◌*◌, ◌≤◌, true, IsTrue, Option, None, Some, Err, List, [], ◌∷◌, ◌++◌, take, drop, refl, sym, subst, arith, ne_eqb, take_all, take-append-drop}
 use Rattle.std.proofs.lemmas.Bool.{or_parts}
 use Rattle.std.proofs.Math.Seq.{take-nil, drop-nil}
@@ -12,7 +12,7 @@ use Rattle.ipmi_commands.proofs.PageLemmas.{calls_of_page, no_walk}
 use Rattle.ipmi_commands.proofs.SpotLemmas.{spots_at_walk_end-joined}
 use Rattle.ipmi_commands.proofs.CountLemmas.{between, ends_since}
 
--- a listing in this form asks for no name, and so ends as its walk does
+-- a listing in this form does not search for a name, so it ends as its walk does
 abbrev NamesNone : Form → Type 0
 NamesNone (Form.Block wording name) = ⊥
 NamesNone _ = Unit {0}
@@ -21,7 +21,7 @@ same_end : (form : Form) (rows : List Row) (end : WalkEnd) → NamesNone form
     → rows_end form rows end ≡ rows_end Form.Raw [] end
 same_end form rows end none = grind arith
 
--- what the pages do together
+-- the result of all pages together
 pub record OneListing (form : Form) (start : Place) (tries : ℕ) (sizes : List ℕ) (c : Change)
     (ending : Ending) : Type 0 where
   pub ends : EndsFor tries (IsTrue c.seen.plain) c.seen c.seen' (cause_of ending)
@@ -51,8 +51,8 @@ module _ (walk_tail : TailIsWalk) where
   module _ (form : Form) (store : Store) (rows : List Row) (start : Place) (walk : List Row)
       (end : WalkEnd) (ends : EndsBy rows start walk end) (size : ℕ) (old new : List ℕ)
       (none : NamesNone form) where
-    -- where the page stopped at its end no row is there, and it is that of all
-    -- a failure is not how the page would end, but where more are wanted than there are
+    -- If the page stopped at the end of its rows, there is no further row, so this is also the end of the whole listing. A page
+    -- within the walk does not end with a failure.
     leaves_wide : (failure : Failure)
         → IsAllowed (IsTextOver store) (plan_from form start (Some size) walk end) old new (Err failure)
         → IsAllowed (IsTextOver store) (plan_from form start None walk end) old new (Err failure)
@@ -65,7 +65,7 @@ module _ (walk_tail : TailIsWalk) where
 
   module _ (form : Form) (store : Store) (rows : List Row) (start next : Place) (walk : List Row)
       (end : WalkEnd) (size : ℕ) (w : IsWalk rows start walk) where
-    -- it goes along the rest of the walk
+    -- the next page follows the rest of the walk
     rest_there : IsShelf (shelf_of form) rows → EndsBy rows start walk end → IsOpen end
         → GoesOn rows start (take size walk) next
         → IsWalk rows next (drop size walk) × EndsBy rows next (drop size walk) end
@@ -76,7 +76,7 @@ module _ (walk_tail : TailIsWalk) where
         let gone = no_walk rows start walk (rw empty.1 empty.2) w in
         rw (empty.0, gone, drop-nil size) (record { of_shelf = tt; distinct = tt; first = tt; links = tt }, grind (arith, rw (gone, empty.1) at ends))
 
-    -- and what it leaves is what a listing from after the page leaves: an empty shelf has one spot more, at its start
+    -- its output is that of a listing from after the page; an empty shelf has one more spot, at its start
     from_next : (text new : List ℕ) (ending : Ending) → GoesOn rows start (take size walk) next
         → IsAllowed (IsTextOver store) (plan_from form next None (drop size walk) end) text new ending
         → IsAllowed (IsTextOver store) (plan_from form (place_after_rows start (take size walk)) None
@@ -87,7 +87,7 @@ module _ (walk_tail : TailIsWalk) where
         rw (gone, take-nil size, drop-nil size, empty.1)
         (leaves_longer (IsTextOver store) (plan_from form End None [] end) (plan_from form First None [] end) [] refl (λ spot rest among. grind arith) text new ending (cause_of ending) (λ at_end all. all) (rw (empty.0, gone, drop-nil size) at allowed))
 
-    -- so with the page it is the listing
+    -- so together with the page it is the whole listing
     leaves_of_rest : (old text new : List ℕ) (ending : Ending) → NamesNone form
         → Printed (IsTextOver store) (row_items form start (take size walk)) old text
         → GoesOn rows start (take size walk) next
@@ -141,9 +141,9 @@ module _ (walk_tail : TailIsWalk) where
             );
       }
 
--- ---- a command that can be done in pages
+-- ---- a command that can be run in pages
 
--- it lists all records of a shelf, in a form that asks for no name; what the pages did
+-- it lists all records of a shelf, in a form that does not search for a name; the result of the pages
 pub paged : TailIsWalk → (wording : Wording) (command : CommandState) (sizes : List ℕ) (s s' : Seen)
     (old new : List ℕ) (ending : Ending) (l : Listing) → is_listing command.task ≡ true
     → listing_in (job_of_command_in wording command) ≡ Some l

@@ -43,9 +43,9 @@ pub one_number : DecimalIsUnique → (value : Option ℤ) (j k : Json) → IsDec
 one_number one None j k h l = h ∙ sym l
 one_number one (Some value) j k h l = h.1.1 ∙ ap number (one value h.0 l.0 h.1.0 l.1.0) ∙ sym l.1.1
 
--- ---- points in time
+-- ---- times
 
--- by the texts with a space in place of the T
+-- from the uniqueness of the texts with a space instead of the T
 pub one_moment : (day : ℕ) (time end text other : List ℕ) (h : IsIsoMoment day time end text)
     (k : IsIsoMoment day time end other)
     → h.date ++ (codes " " ++ time) ≡ k.date ++ (codes " " ++ time) → text ≡ other

@@ -1,4 +1,4 @@
--- What the code writes for members, and the object that this is.
+-- The tokens that the code writes for members, and the object of these tokens.
 use Rattle.std.proofs.Common.{◌≡◌, ◌≤◌, ◌+◌, ℕ, ℤ, Some, List, [], ◌∷◌, ◌++◌, refl, sym, ap, ◌∙◌, append_assoc, append-nil, option_and_then, arith, map, rules, string_bytes}
 use Rattle.std.specs.Borrow.{Bor}
 use Rattle.json.proofs.Printed.Trees.{value-json_tokens}
@@ -130,7 +130,7 @@ object_added deep ms Is old begun filled new is first adds last = record {
   within = let inner : AreWithin deep ms = adds.within in omega (arith, inner);
 }
 
--- a value under its key, and then a member
+-- a value with its key, then another member
 pub value_and_member : (name other : List ℕ) (Is : Json → Type 0) (last : Json) (old named valued new : Written)
     → (named.tokens ≡ old.tokens ++ key name ∷ []) × (named.before ≡ old.before)
     → (v : AddsValue 2 Is named valued)

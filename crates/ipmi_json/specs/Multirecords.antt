@@ -10,7 +10,7 @@ use Rattle.ipmi_fru.specs.declared.record_text.RecordForm.{RecordForm}
 use Rattle.ipmi_json.specs.Object.{array_in, integer, object_in, Pair, text_or_null}
 use Rattle.ipmi_json.specs.Record.{raw_members}
 
--- the names of record types, from 00h on (table 16-2); C0h to FFh are the manufacturer's
+-- the names of record types, starting with 00h (table 16-2); C0h to FFh are OEM types
 abbrev pub record_types : List (List ℕ)
 record_types =
     codes "power_supply" ∷
@@ -76,14 +76,14 @@ pub record AreDcMembers (kind : DcKind) (r : MultiRecord) (ms : List Pair) : Typ
   pub are_ranges : AreRangeMembers kind (dc_fields r.bytes) ranges
   pub are : ms ≡ (record_head (dc_word kind) r ++ number_members kind (dc_fields r.bytes)) ++ ranges
 
--- of management access: the subtype and what follows it
+-- management access: the subtype and the value after it
 abbrev pub access_members : List ℕ → List Pair
 access_members bytes =
     (codes "subtype", integer (slice_index bytes 0))
     ∷ (codes "value", string (access_text bytes))
     ∷ []
 
--- a record by what ipmi_fru makes of it: an output or a load, management access, or its data alone
+-- a record in the form in which ipmi_fru prints it: an output or a load, management access, or only its data
 abbrev pub AreFormMembers : RecordForm → MultiRecord → List Pair → Type 0
 AreFormMembers (RecordForm.Dc kind) r ms = AreDcMembers kind r ms
 AreFormMembers RecordForm.Access r ms =
@@ -107,7 +107,7 @@ record_fault_word MultiFault.Outside = codes "outside"
 record_fault_word MultiFault.HeaderSum = codes "header_checksum"
 record_fault_word MultiFault.DataSum = codes "data_checksum"
 
--- the records among items, and the fault that ends them, or the one that came before
+-- the records among the items, and the last fault, or the earlier fault if there is none
 abbrev pub records_among : List (Result MultiRecord MultiFault) → List MultiRecord
 records_among [] = []
 records_among (Ok r ∷ items) = r ∷ records_among items

@@ -1,4 +1,4 @@
--- A JSON object as a list of its members, and the line that it is written as: RFC 8259 with no space, in UTF-8.
+-- A JSON object as a list of members, and its line: RFC 8259 without spaces, in UTF-8.
 use Rattle.std.specs.Prelude.{◌≡◌, ℕ, ◌≤◌, ℤ, Option, Some, None, List, [], ◌∷◌, ◌++◌, codes, decimal, flat_map, map, string_bytes}
 use Rattle.std.specs.Borrow.{Bor}
 use Rattle.json.specs.Json.{Json, Items, Members, array, boolean, document, item, member, no_items, no_members, null, number, object, string}
@@ -30,8 +30,7 @@ members_in (m ∷ ms) = member m.0 m.1 (members_in ms)
 abbrev pub object_in : List Pair → Json
 object_in ms = object (members_in ms)
 
--- the text is that of a value and a line feed, and the grammar of RFC 8259 reads what comes before the line feed as that
--- value
+-- the text of a value, then a line feed; the grammar of RFC 8259 reads the text before the line feed as that value
 pub record IsLineOfJson (j : Json) (text : List ℕ) : Type 0 where
   pub line_is : text ≡ print (json_tokens j) ++ codes "\n"
   pub reads_back : document (print (json_tokens j)) ≡ Some j
@@ -49,7 +48,7 @@ abbrev pub text_or_null : Option (List ℕ) → Json
 text_or_null None = null
 text_or_null (Some text) = string text
 
--- an empty text says as much as none
+-- an empty text is null
 abbrev pub text_unless_empty : List ℕ → Json
 text_unless_empty [] = null
 text_unless_empty (c ∷ text) = string (c ∷ text)
@@ -57,12 +56,12 @@ text_unless_empty (c ∷ text) = string (c ∷ text)
 abbrev pub texts : List (List ℕ) → Json
 texts ts = array_in (map string ts)
 
--- a number that counts units of 10^-16, as its exact decimal
+-- the exact decimal of a number of units of 10^-16
 abbrev pub IsDecimalOrNull : Option ℤ → Json → Type 0
 IsDecimalOrNull None j = j ≡ null
 IsDecimalOrNull (Some value) j = (text : List ℕ) × (IsDecimalOf value text × (j ≡ number text))
 
--- ---- members as the code has them
+-- ---- members in the code
 
 abbrev pub json_of : Value → Json
 json_of Value.Null = null
@@ -71,7 +70,7 @@ json_of (Value.Integer n) = integer n
 json_of (Value.Text text) = string text.now
 json_of (Value.Texts list) = texts (map (λ text. string_bytes text) list.now)
 
--- a member as it is seen
+-- a member of the code, as seen by contracts
 abbrev pub pair_of : Bor (List ℕ) × Value → Pair
 pair_of m = (m.0.now, json_of m.1)
 
@@ -85,18 +84,18 @@ pair_of_label label = (label.key.now, string label.value.now)
 abbrev pub labels_of : List Label → List Pair
 labels_of labels = map pair_of_label labels
 
--- the line of the object with these members, and after them those of the labels
+-- the line of the object with these members, then the labels
 abbrev pub IsLineOf : List Pair → List Label → List ℕ → Type 0
 IsLineOf ms labels text = IsLineOfJson (object_in (ms ++ labels_of labels)) text
 
--- ---- what is written
+-- ---- the written tokens
 
--- the tokens of members, with no bracket
+-- the tokens of members, without brackets
 abbrev pub tokens_in : List Pair → List Token
 tokens_in [] = []
 tokens_in (m ∷ ms) = (key m.0 ∷ json_tokens m.1) ++ tokens_in ms
 
--- arrays and objects nest no deeper than this in the values
+-- the nesting of arrays and objects in the values is at most this deep
 abbrev pub AreWithin : ℕ → List Pair → Type 0
 AreWithin deep ms = members_depth (members_in ms) ≤ deep
 
@@ -106,7 +105,7 @@ pub record Adds (deep : ℕ) (ms : List Pair) (old new : Written) : Type 0 where
   pub tokens : new.tokens ≡ old.tokens ++ tokens_in ms
   pub within : AreWithin deep ms
 
--- members of which this holds were written
+-- members that satisfy `Are` were written
 pub record AddsSome (deep : ℕ) (Are : List Pair → Type 0) (old new : Written) : Type 0 where
   pub ms : List Pair
   pub are : Are ms
@@ -118,7 +117,7 @@ pub record AddsDecimal (name : List ℕ) (value : Option ℤ) (old new : Written
   pub is : IsDecimalOrNull value decimal
   pub adds : Adds 1 ((name, decimal) ∷ []) old new
 
--- a value of which this holds was written
+-- a value that satisfies `Is` was written
 pub record AddsValue (deep : ℕ) (Is : Json → Type 0) (old new : Written) : Type 0 where
   pub value : Json
   pub is : Is value
@@ -126,7 +125,7 @@ pub record AddsValue (deep : ℕ) (Is : Json → Type 0) (old new : Written) : T
   pub tokens : new.tokens ≡ old.tokens ++ json_tokens value
   pub within : depth value ≤ deep
 
--- the items of an array, of which this holds, were written
+-- the items of an array, which satisfy `Are`, were written
 pub record AddsItems (deep : ℕ) (Are : List Json → Type 0) (old new : Written) : Type 0 where
   pub items : List Json
   pub are : Are items
@@ -134,7 +133,7 @@ pub record AddsItems (deep : ℕ) (Are : List Json → Type 0) (old new : Writte
   pub tokens : new.tokens ≡ old.tokens ++ flat_map json_tokens items
   pub within : items_depth (items_in items) ≤ deep
 
--- an object was begun, and these members were written
+-- the beginning of an object and these members were written
 pub record IsOpen (ms : List Pair) (out : Written) : Type 0 where
   pub before : out.before ≡ []
   pub tokens : out.tokens ≡ begin_object ∷ tokens_in ms

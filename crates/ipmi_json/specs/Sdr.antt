@@ -1,5 +1,5 @@
--- The object of a sensor data record with its reading. The keys of each kind are always there, and a value never
--- changes its type, but for null.
+-- The object of a sensor data record with its reading. Each kind always has the same keys, and a value never changes its type,
+-- except to null.
 use Rattle.std.specs.Prelude.{◌≡◌, ℕ, ◌/◌, ◌%◌, ℤ, ◌&&◌, if◌then◌else◌, Option, Some, None, List, [], ◌∷◌, ◌++◌, codes, map, slice_get}
 use Rattle.json.specs.Json.{Json, boolean, null, string}
 use Rattle.ipmi_text.specs.FieldText.{binary_text}
@@ -55,7 +55,7 @@ sensor_members sensor =
 
 -- ---- readings
 
--- of a reading that is there: its raw byte, and its states, a bit for each
+-- the raw byte of a reading and its states, one bit for each, if there is a reading
 abbrev pub raw_shown : Shown → Option ℕ
 raw_shown (Shown.Value reading) = Some reading.raw
 raw_shown _ = None
@@ -69,13 +69,13 @@ abbrev pub texts_of_states : Sensor → ℕ → List (List ℕ)
 texts_of_states sensor states =
     map (state_words sensor.event_type sensor.sensor_type) (set_states states)
 
--- of a sensor without thresholds; one with thresholds has its status in words
+-- the states in words, for a sensor without thresholds; a sensor with thresholds has a status in words
 abbrev pub state_words_shown : Sensor → Shown → Json
 state_words_shown sensor (Shown.Value reading) =
     if has_thresholds sensor then null else texts (texts_of_states sensor (states_of reading))
 state_words_shown sensor _ = null
 
--- its value by the bytes of a full record: none where the sensor has no analog reading or is not linear
+-- the value of the reading by the bytes of a full record; none if the sensor has no analog reading or is not linear
 abbrev pub value_shown : List ℕ → Shown → Option ℤ
 value_shown bytes (Shown.Value reading) = reading_value (factors_in bytes) reading.raw
 value_shown bytes _ = None
@@ -101,8 +101,7 @@ shown_members sensor shown status =
 
 -- ---- thresholds
 
--- the value of a threshold: none where the sensor has no thresholds, where this one can't be read, and where a reading
--- has no value either
+-- the value of a threshold; none if the sensor has no thresholds, if this one is not readable, or if readings have no value
 abbrev pub threshold_value : Threshold → List ℕ → Option ℤ
 threshold_value threshold bytes =
     if has_thresholds (sensor_in bytes) && is_readable threshold bytes
@@ -160,7 +159,7 @@ pub record AreFullMembers (bytes : List ℕ) (reading : Option Reading) (status 
   pub are : ms ≡ ((sensor_members (sensor_in bytes) ++ value)
       ++ shown_members (sensor_in bytes) (shown_of (sensor_in bytes) reading) status) ++ thresholds
 
--- a compact record, which tells no way to make a reading a value
+-- a compact record, which has no conversion of readings
 pub record AreCompactMembers (bytes : List ℕ) (reading : Option Reading) (status : List ℕ)
     (ms : List Pair) : Type 0 where
   pub value : List Pair
@@ -168,7 +167,7 @@ pub record AreCompactMembers (bytes : List ℕ) (reading : Option Reading) (stat
   pub are : ms ≡ (sensor_members (sensor_in bytes) ++ value)
       ++ shown_members (sensor_in bytes) (shown_of (sensor_in bytes) reading) status
 
--- by the kind of the record; only a full and a compact one have a reading
+-- the members by the kind of the record; only a full and a compact record have a reading
 abbrev pub AreTold : SdrView → Option Reading → List Pair → Type 0
 AreTold (SdrView.Full bytes) reading ms =
     AreFullMembers bytes reading (status_of (SdrView.Full bytes) reading) ms
@@ -181,7 +180,7 @@ AreTold (SdrView.Fru bytes) reading ms =
 AreTold (SdrView.Controller bytes) reading ms = ms ≡ locator_members (locator_in bytes)
 AreTold (SdrView.Other bytes) reading ms = ms ≡ []
 
--- the line of a record under its id
+-- the line of a record, with its id
 pub record IsSdrLine (id : ℕ) (view : SdrView) (reading : Option Reading) (labels : List Label)
     (text : List ℕ) : Type 0 where
   pub told : List Pair
@@ -190,14 +189,14 @@ pub record IsSdrLine (id : ℕ) (view : SdrView) (reading : Option Reading) (lab
       ((head_members (codes "sdr_record") id (record_type (record_bytes view)) (kind_word view)
       ++ name_members (name_of view)) ++ told) ++ raw_members (record_bytes view)) labels text
 
--- ---- a record that has no view
+-- ---- a record with a fault
 
 abbrev pub fault_word : SdrFault → List ℕ
 fault_word SdrFault.Short = codes "short"
 fault_word SdrFault.Length = codes "wrong_length"
 fault_word SdrFault.BodyShort = codes "body_too_short"
 
--- there may be too few bytes for a record type, the fourth
+-- the record type is byte 4, and may be missing
 abbrev pub fault_members : ℕ → SdrFault → List ℕ → List Pair
 fault_members id fault bytes =
     (codes "object", string (codes "sdr_record"))
@@ -208,9 +207,9 @@ fault_members id fault bytes =
     ∷ (codes "raw", string (binary_text bytes))
     ∷ []
 
--- ---- a record as it is
+-- ---- a raw record
 
--- with the id of the next one
+-- the bytes, with the id of the next record
 abbrev pub bytes_members : ℕ → ℕ → List ℕ → List Pair
 bytes_members id next bytes =
     (codes "object", string (codes "sdr_raw"))

@@ -67,7 +67,7 @@ fn extra_texts(alloc: Global, language: u8, left: Fields) -> Result<Vec<String>,
     Ok(texts)
 }
 
-/// Writes a member for each key, with the field at its place, and the fields past the keys.
+/// Writes a member for each key with its field, and the fields after those.
 fn write_fields(
     alloc: Global,
     out: &mut Writer,
@@ -86,7 +86,7 @@ fn write_fields(
     write_member(out, "extra", Value::Texts(extra.as_slice()))
 }
 
-/// Writes what comes before the fields: the type of a chassis, the language of others, the date of a board.
+/// Writes the members before the fields: the type of a chassis, the language of a board or product, the date of a board.
 fn write_lead(alloc: Global, out: &mut Writer, area: &AreaView) -> Result<(), AllocError>
     ensures { OnOk result (AddsSome 1 (AreLeadMembers area.now.kind area.now.bytes) out.old out.new) }
 {
@@ -137,7 +137,7 @@ fn area_fault_word(fault: AreaFault) -> &'static str
     }
 }
 
-/// Writes the object of an area; null where it has a fault.
+/// Writes the object of an area; null if it has a fault.
 fn write_found(
     alloc: Global,
     out: &mut Writer,
@@ -151,7 +151,7 @@ fn write_found(
     }
 }
 
-/// Writes the value of an area; null where there is none, and where it has a fault.
+/// Writes the value of an area; null if there is none, or if it has a fault.
 fn write_value(
     alloc: Global,
     out: &mut Writer,
@@ -175,7 +175,7 @@ fn fault_found(found: &Option<Result<AreaView, AreaFault>>) -> Option<&'static s
     }
 }
 
-/// Writes an area under its key, and its fault under another.
+/// Writes an area with its key, and its fault with another key.
 pub(crate) fn write_area(
     alloc: Global,
     out: &mut Writer,

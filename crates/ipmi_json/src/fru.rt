@@ -21,7 +21,7 @@ fn id_or_null(id: Option<u8>) -> Value<'static>
     }
 }
 
-/// Writes what is known of a device.
+/// Writes the members of a device.
 fn write_device(
     out: &mut Writer,
     id: Option<u8>,
@@ -44,7 +44,7 @@ fn write_device(
     )
 }
 
-/// Writes null for each thing that an inventory has.
+/// Writes null for each area and for the records.
 fn write_no_content(out: &mut Writer) -> Result<(), AllocError>
     ensures { OnOk result (Adds 1 no_content out.old out.new) }
 {
@@ -73,7 +73,7 @@ fn write_content(alloc: Global, out: &mut Writer, inventory: &FruView) -> Result
     write_records(alloc, out, inventory.records())
 }
 
-/// Writes the bytes of an inventory, and how many there are.
+/// Writes the size and the bytes of an inventory.
 fn write_bytes(alloc: Global, out: &mut Writer, bytes: Option<&[u8]>) -> Result<(), AllocError>
     ensures { OnOk result (Adds 1 (bytes_members (option_map (λ bytes. bytes.now) bytes.entry))
         out.old out.new) }
@@ -93,7 +93,7 @@ fn write_bytes(alloc: Global, out: &mut Writer, bytes: Option<&[u8]>) -> Result<
     }
 }
 
-/// The line of a device whose inventory tells nothing.
+/// The line of a device whose inventory has no areas or records that can be read.
 fn bare_line(
     alloc: Global,
     id: Option<u8>,
@@ -146,8 +146,8 @@ fn header_fault_word(fault: FruFault) -> &'static str
     }
 }
 
-/// The line of a FRU device: its object, with its id, the name that a locator gives it, and its inventory. `inventory` is
-/// what the device holds, None where it is not present.
+/// The line of a FRU device: its object, with its id, its name from a locator, and its inventory. `inventory` has the bytes of
+/// the inventory; None if it is not present.
 pub fn fru_line(
     alloc: Global,
     id: u8,
@@ -170,7 +170,7 @@ pub fn fru_line(
     }
 }
 
-/// The line of a FRU device that is reached in another way than through the controller itself, by its locator's name.
+/// The line of a FRU device that is not reached through the controller itself, with its locator's name.
 pub fn fru_elsewhere_line(
     alloc: Global,
     name: Option<&str>,

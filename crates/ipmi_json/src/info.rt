@@ -60,7 +60,7 @@ fn info_line(
     finish(out, labels)
 }
 
-/// The line of the answer of Get SDR Repository Info (IPMI v2.0, section 33.9) after its completion code: its object.
+/// The line of the answer of Get SDR Repository Info (IPMI v2.0, section 33.9), without its completion code.
 pub fn sdr_info_line(
     alloc: Global,
     bytes: &[u8; 14],
@@ -72,7 +72,7 @@ pub fn sdr_info_line(
     info_line(alloc, "sdr_info", bytes, labels)
 }
 
-/// The line of the answer of Get SEL Info (IPMI v2.0, section 31.2) after its completion code: its object.
+/// The line of the answer of Get SEL Info (IPMI v2.0, section 31.2), without its completion code.
 pub fn sel_info_line(
     alloc: Global,
     bytes: &[u8; 14],
@@ -84,7 +84,7 @@ pub fn sel_info_line(
     info_line(alloc, "sel_info", bytes, labels)
 }
 
-/// The last line of a listing: how it ended, and how many objects came before. A listing without it was cut.
+/// The last line of a listing: its status, its message, and the number of objects before. A listing without it was cut off.
 pub fn end_line(
     alloc: Global,
     status: u8,

@@ -1,4 +1,4 @@
-//! Laws of lines: what follows from their definitions alone, whatever code wrote the text.
+//! Laws of lines. They follow from the definitions, so they hold for any code that writes such a text.
 ghost use Rattle.ipmi_json.specs.Laws.{DeviceLineIsUnique, EntryLineIsUnique, InfoLineIsUnique, NoDeviceLineIsEmpty, NoEntryLineIsEmpty, NoInfoLineIsEmpty, NoObjectLineIsEmpty, NoRecordLineIsEmpty, ObjectLineIsUnique, RecordLineIsUnique};
 
 /// An object has at most one line for labels, so the results of `sdr_fault_line`, `sdr_raw_line`, `fru_elsewhere_line` and

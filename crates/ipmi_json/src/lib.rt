@@ -1,4 +1,4 @@
-//! Records, entries and inventories as JSON: an object in a line for each.
+//! Records, entries and inventories as JSON: one object per line.
 #![tactic(auto)]
 
 mod areas;

@@ -13,7 +13,7 @@ use ipmi_fru::{
 use json::Writer;
 use std::alloc::{AllocError, Global};
 
-/// The names of record types, from 00h on (Platform Management FRU Information Storage Definition v1.0, table 16-2).
+/// The names of record types, starting with 00h (Platform Management FRU Information Storage Definition v1.0, table 16-2).
 const RECORD_TYPES: [&str; 6] = [
     "power_supply",
     "dc_output",
@@ -26,7 +26,7 @@ const RECORD_TYPES: [&str; 6] = [
 /// The capacity for most decimals.
 const DECIMAL_CAPACITY: usize = 32;
 
-/// The first of the types that are the manufacturer's.
+/// The first OEM type.
 const FIRST_OEM_TYPE: u8 = 0xC0;
 
 /// The name of a record type, if it has one.
@@ -39,7 +39,7 @@ fn record_type_name(kind: u8) -> Option<&'static str>
     RECORD_TYPES.get(usize::from(kind)).copied()
 }
 
-/// Writes what the object of each record has first.
+/// Writes the first members of each record.
 fn write_head(out: &mut Writer, kind: &'static str, view: &MultiView) -> Result<(), AllocError>
     ensures { OnOk result (Adds 1 (record_head kind.entry.now (record_of view.now)) out.old out.new) }
 {
@@ -53,7 +53,7 @@ fn write_head(out: &mut Writer, kind: &'static str, view: &MultiView) -> Result<
     )
 }
 
-/// Writes the number of an output or a load, and whether an output is a standby one.
+/// Writes the number of an output or a load, and whether an output is a standby output.
 fn write_number(out: &mut Writer, kind: DcKind, fields: &DcFields) -> Result<(), AllocError>
     ensures { OnOk result (Adds 1 (number_members kind fields.now) out.old out.new) }
 {
@@ -74,7 +74,7 @@ fn dc_word(kind: DcKind) -> &'static str
     }
 }
 
-/// The key of the negative deviation of an output, and of the least voltage of a load.
+/// The key of the negative deviation of an output, or of the minimum voltage of a load.
 fn low_key(kind: DcKind) -> &'static str
     ensures { result.now ≡ low_key kind }
 {
@@ -84,7 +84,7 @@ fn low_key(kind: DcKind) -> &'static str
     }
 }
 
-/// The key of the positive deviation of an output, and of the greatest voltage of a load.
+/// The key of the positive deviation of an output, or of the maximum voltage of a load.
 fn high_key(kind: DcKind) -> &'static str
     ensures { result.now ≡ high_key kind }
 {
@@ -127,7 +127,7 @@ fn write_ranges(
     write_currents(out, fields)
 }
 
-/// Writes what a management access record says.
+/// Writes the members of a management access record.
 fn write_access(alloc: Global, out: &mut Writer, bytes: &[u8]) -> Result<(), AllocError>
     requires { 1 ≤ length bytes.now }
     ensures { OnOk result (Adds 1 (access_members bytes.now) out.old out.new) }
@@ -142,7 +142,7 @@ fn write_access(alloc: Global, out: &mut Writer, bytes: &[u8]) -> Result<(), All
     )
 }
 
-/// Writes what a record says, by what it is.
+/// Writes the members of a record by its form.
 fn write_told(
     alloc: Global,
     out: &mut Writer,
@@ -177,7 +177,7 @@ fn write_record(alloc: Global, out: &mut Writer, view: &MultiView) -> Result<(),
     out.end_object()
 }
 
-/// Writes the objects of records, and gives the fault after the last one.
+/// Writes the objects of records, and returns the fault after the last one.
 fn write_objects(
     alloc: Global,
     out: &mut Writer,

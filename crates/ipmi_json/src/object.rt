@@ -1,4 +1,4 @@
-//! A JSON object as a list of members, and the line that it is written as.
+//! A JSON object as a list of members, and its line.
 ghost use Rattle.std.specs.Prelude.{◌≡◌, ◌++◌, ◌∷◌, [], List, IfOk, IfSome, OnOk, map, option_map, string_bytes};
 ghost use Rattle.json.specs.Json.{string};
 ghost use Rattle.json.specs.Tree.{json_tokens};
@@ -11,7 +11,7 @@ use std::fmt::Display;
 /// The capacity for most lines.
 const LINE_CAPACITY: usize = 768;
 
-/// A member that a caller adds to an object, a text: it comes after the object's own. Its key must be none of theirs.
+/// A member with a text that a caller adds to an object, after its own members. Its key must differ from theirs.
 #[derive(Clone, Copy, Debug, PartialEq, Eq)]
 pub struct Label<'a> {
     /// The key.
@@ -33,7 +33,7 @@ pub(crate) enum Value<'a> {
 /// A key and its value.
 pub(crate) type Member<'a> = (&'static str, Value<'a>);
 
-/// A text, or null where there is none.
+/// A text, or null if there is none.
 pub(crate) fn text_or_null(text: Option<&str>) -> Value<'_>
     ensures { json_of result ≡ text_or_null (option_map (λ s. s.now) text.entry) }
 {
@@ -43,7 +43,7 @@ pub(crate) fn text_or_null(text: Option<&str>) -> Value<'_>
     }
 }
 
-/// A text, or null where it is empty.
+/// A text, or null if it is empty.
 pub(crate) fn text_unless_empty(text: &str) -> Value<'_>
     ensures { json_of result ≡ text_unless_empty text.entry.now }
 {
@@ -54,7 +54,7 @@ pub(crate) fn text_unless_empty(text: &str) -> Value<'_>
     }
 }
 
-/// A number, or null where there is none.
+/// A number, or null if there is none.
 pub(crate) fn integer_or_null(number: Option<u64>) -> Value<'static>
     ensures { json_of result ≡ integer_or_null number }
 {
@@ -119,7 +119,7 @@ pub(crate) fn write_printed<D: Display + Drop>(
     write_member(out, key, Value::Text(text.as_str()))
 }
 
-/// Writes members, with no bracket before and after them.
+/// Writes members, without brackets.
 pub(crate) fn write_members(out: &mut Writer, members: &[Member]) -> Result<(), AllocError>
     ensures { OnOk result (Adds 1 (pairs_of members.now) out.old out.new) }
 {
@@ -149,7 +149,7 @@ pub(crate) fn begin(alloc: Global) -> Result<Writer, AllocError>
     Ok(out)
 }
 
-/// The line of an object that was begun, with the members that were written and the labels.
+/// The line of an object whose beginning and members were written, with the labels.
 pub(crate) fn finish(mut out: Writer, labels: &[Label]) -> Result<Vec<u8>, AllocError>
     ensures { (ms : List Pair) → IsOpen ms out → IfOk result
         (λ line. IsLineOf ms labels.now line.items) }

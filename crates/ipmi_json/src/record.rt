@@ -1,4 +1,4 @@
-//! What the objects of records and entries have first and last.
+//! The first and the last members of the objects of records and entries.
 ghost use Rattle.std.specs.Prelude.{OnOk};
 ghost use Rattle.ipmi_json.specs.Object.{Adds};
 ghost use Rattle.ipmi_json.specs.Record.{head_members, raw_members};
@@ -7,8 +7,7 @@ use crate::object::{Value, write_member};
 use json::Writer;
 use std::alloc::{AllocError, Global};
 
-/// Writes the members that each record and each entry has first: the word for its object, its id, its type and the word for
-/// its kind.
+/// Writes the first members of each record and entry: the name of its object, its id, its type and the word for its kind.
 pub(crate) fn write_head(
     out: &mut Writer,
     object: &'static str,
@@ -25,7 +24,7 @@ pub(crate) fn write_head(
     write_member(out, "kind", Value::Text(kind))
 }
 
-/// Writes the bytes, which each has last.
+/// Writes the bytes, the last member of each.
 pub(crate) fn write_raw(alloc: Global, out: &mut Writer, bytes: &[u8]) -> Result<(), AllocError>
     ensures { OnOk result (Adds 1 (raw_members bytes.now) out.old out.new) }
 {

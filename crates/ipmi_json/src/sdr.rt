@@ -24,7 +24,7 @@ use std::alloc::{AllocError, Global};
 /// The capacity for most texts.
 const TEXT_CAPACITY: usize = 64;
 
-/// Where a record has its type, counted from 0.
+/// The offset of the record type, counted from 0.
 const RECORD_TYPE: usize = 3;
 
 /// The word for the kind of a record.
@@ -90,7 +90,7 @@ fn write_sensor(out: &mut Writer, text: &mut String, sensor: &Sensor) -> Result<
     )
 }
 
-/// The raw byte of a reading that is there.
+/// The raw byte of the reading, if there is one.
 fn raw_shown(shown: Shown) -> Option<u64>
     ensures { result ≡ raw_shown shown }
 {
@@ -100,7 +100,7 @@ fn raw_shown(shown: Shown) -> Option<u64>
     }
 }
 
-/// The states of a reading that is there.
+/// The states of the reading, if there is one.
 fn states_shown(shown: Shown) -> Option<u64>
     ensures { result ≡ states_shown shown }
 {
@@ -110,7 +110,7 @@ fn states_shown(shown: Shown) -> Option<u64>
     }
 }
 
-/// The value of a reading that is there.
+/// The value of the reading, if there is one.
 fn value_shown(full: &FullSensor, shown: Shown) -> Option<Fixed>
     ensures { option_map (λ value. value.0) result ≡ value_shown full.now shown }
 {
@@ -242,7 +242,7 @@ fn write_locator(out: &mut Writer, text: &mut String, locator: &Locator) -> Resu
     write_member(out, "entity_instance", Value::Integer(instance))
 }
 
-/// Writes how a FRU device is reached.
+/// Writes the members for reaching a FRU device.
 fn write_fru(out: &mut Writer, fru: &FruLocator) -> Result<(), AllocError>
     ensures { OnOk result (Adds 1 (fru_members fru.now) out.old out.new) }
 {
@@ -328,7 +328,7 @@ fn write_told(
     }
 }
 
-/// The line of a record under its id: its object, with what its sensor answered to Get Sensor Reading, if it did.
+/// The line of a record with its id: its object, with the answer of Get Sensor Reading for its sensor, if there is one.
 pub fn sdr_record_line(
     alloc: Global,
     id: u16,
@@ -353,7 +353,7 @@ pub fn sdr_record_line(
     finish(out, labels)
 }
 
-/// The type of a record, if it has as many bytes.
+/// The type of a record, if it has enough bytes.
 fn type_of(bytes: &[u8]) -> Option<u64>
     ensures { result ≡ slice_get bytes.now 3 }
 {
@@ -371,7 +371,7 @@ fn fault_word(fault: SdrFault) -> &'static str
     }
 }
 
-/// The line of a record that has a fault: its object, with its bytes.
+/// The line of a record with a fault: its object, with its bytes.
 pub fn sdr_fault_line(
     alloc: Global,
     id: u16,
@@ -396,7 +396,7 @@ pub fn sdr_fault_line(
     finish(out, labels)
 }
 
-/// The line of a record as it is, with the id of the next one: the object of `sdr hex`.
+/// The line of a raw record, with the id of the next record: the object of `sdr hex`.
 pub fn sdr_raw_line(
     alloc: Global,
     id: u16,

@@ -37,7 +37,7 @@ fn kind_word(entry: &SelView) -> &'static str
     }
 }
 
-/// Writes bytes that the standard gives no meaning.
+/// Writes bytes without a meaning in the standard.
 fn write_data(alloc: Global, out: &mut Writer, bytes: &[u8]) -> Result<(), AllocError>
     ensures { OnOk result (Adds 1 (data_members bytes.now) out.old out.new) }
 {
@@ -45,7 +45,7 @@ fn write_data(alloc: Global, out: &mut Writer, bytes: &[u8]) -> Result<(), Alloc
     write_member(out, "oem_data", Value::Text(content.as_str()))
 }
 
-/// The record of an event's sensor, by a table of sensors.
+/// The record of an event's sensor, from a table of sensors.
 fn sensor_record<'a>(event: &EventEntry, sensors: Option<&'a Sensors>) -> Option<SdrView<'a>>
     ensures { result ≡ sensor_record event.now (option_map (λ s. s.now) sensors.entry) }
 {
@@ -130,7 +130,7 @@ fn write_specified(
     }
 }
 
-/// The words of an event by the standard's tables, if they have some.
+/// The words of an event from the standard's tables, if there are any.
 fn words_of(event: &EventEntry) -> Option<&'static str>
     ensures { option_map (λ s. s.now) result ≡
         event_words (event_type event.now) (sensor_type event.now) (event_offset event.now) }
@@ -142,7 +142,7 @@ fn words_of(event: &EventEntry) -> Option<&'static str>
     )
 }
 
-/// The word for an event that comes or goes.
+/// The word for the event direction.
 fn direction_word(event: &EventEntry) -> &'static str
     ensures { result.now ≡ direction_word (is_deasserted event.now) }
 {
@@ -186,7 +186,7 @@ fn write_details(
     write_member(out, "event_details", text_unless_empty(text.as_str()))
 }
 
-/// Writes what an event tells, by the record of its sensor.
+/// Writes the members of an event, given the record of its sensor.
 fn write_event(
     alloc: Global,
     out: &mut Writer,
@@ -205,7 +205,7 @@ fn write_event(
     write_details(out, &mut text, event, view)
 }
 
-/// Writes what an OEM timestamped record tells.
+/// Writes the members of an OEM timestamped record.
 fn write_timed(
     alloc: Global,
     out: &mut Writer,
@@ -227,7 +227,7 @@ fn write_timed(
     write_data(alloc, out, entry.data_bytes())
 }
 
-/// Writes what the entry tells by its kind.
+/// Writes the members of an entry by its kind.
 fn write_told(
     alloc: Global,
     out: &mut Writer,
@@ -248,8 +248,8 @@ fn write_told(
     }
 }
 
-/// The line of an entry under its id: its object. Of an event `sensors` gives the name of the sensor, and the units of the
-/// details, if there is a table.
+/// The line of an entry with its id: its object. For an event, the table `sensors`, if there is one, has the name of the
+/// sensor and the units of the details.
 pub fn sel_entry_line(
     alloc: Global,
     id: u16,

@@ -22,7 +22,7 @@ fn is_set(states: u16, state: u8) -> bool
     states >> state & 1 == 1
 }
 
-/// The words of a state by the standard's tables, or else its number.
+/// The words of a state from the standard's tables, or else its number.
 fn state_text(alloc: Global, sensor: &Sensor, state: u8) -> Result<String, AllocError>
     ensures { IfOk result (λ text. string_bytes text ≡
         state_words sensor.now.event_type sensor.now.sensor_type state) }
@@ -33,7 +33,7 @@ fn state_text(alloc: Global, sensor: &Sensor, state: u8) -> Result<String, Alloc
     }
 }
 
-/// The words of the states that are set, from state 0 on.
+/// The words of the states that are set, starting with state 0.
 fn texts_of_states(alloc: Global, sensor: &Sensor, states: u16) -> Result<Vec<String>, AllocError>
     ensures { IfOk result (λ texts. map (λ text. string_bytes text) texts.items ≡
         texts_of_states sensor.now states) }

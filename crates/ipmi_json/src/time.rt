@@ -1,4 +1,4 @@
-//! Points in time as ISO 8601 has them.
+//! Times in the format of ISO 8601.
 ghost use Rattle.std.specs.Prelude.{◌≡◌, ◌+◌, ◌<◌, ◌≤◌, ◌++◌, ◌∷◌, [], IfOk, OnOk, codes, drop, length, option_map, slice_index, string_bytes, take};
 ghost use Rattle.ipmi_text.specs.Times.{IsUtcTextOf};
 ghost use Rattle.ipmi_json.specs.Object.{Adds, integer, text_or_null};
@@ -9,16 +9,16 @@ use ipmi_text::{UtcTime, minutes_text};
 use json::Writer;
 use std::alloc::{AllocError, Global};
 
-/// The last time stamp that counts from the start of the controller's clock.
+/// The last time stamp that is relative to the start of the controller's clock.
 const LAST_SINCE_START: u32 = 0x2000_0000;
 
 /// The capacity for a date and a time of day.
 const CAPACITY: usize = 24;
 
-/// How many bytes the space and the time of day after it have, to the second.
+/// The length of a space and a time of day with seconds.
 const TO_THE_SECOND: usize = 9;
 
-/// How many they have to the minute.
+/// The length of a space and a time of day without seconds.
 const TO_THE_MINUTE: usize = 6;
 
 /// Writes a point in time under a key, and the time stamp that it is from under another.
@@ -36,7 +36,7 @@ pub(crate) fn write_time(
     write_member(out, raw_key, Value::Integer(u64::from(stamp)))
 }
 
-/// A date and a time of day, with a space at a place between them, as ISO 8601 has them. `end` follows them.
+/// A date and a time of day in the format of ISO 8601, from a text with a space between them, then `end`.
 fn iso_text(alloc: Global, text: &str, space: usize, end: &str) -> Result<String, AllocError>
     requires room { space < length text.now }
     requires space { slice_index text.now space ≡ 32 }
@@ -77,7 +77,7 @@ pub(crate) fn time_text(
     Ok(Some(iso_text(alloc, text.as_str(), space, "Z")?))
 }
 
-/// The point in time that so many minutes after 1996-01-01 00:00 are, as ISO 8601 has it; None for 0, which is none.
+/// The time this many minutes after 1996-01-01 00:00 in the format of ISO 8601; None for 0, which is not a time.
 pub(crate) fn minute_text(alloc: Global, minutes: u32) -> Result<Option<String>, AllocError>
     requires { minutes ≤ 0xff_ffff }
     ensures { IfOk result (λ time. IsIsoMinuteOf minutes (option_map (λ s. string_bytes s) time)) }

@@ -1,4 +1,4 @@
--- The options of this program, and the words that are left for the specified command line.
+-- The options of this program, and the remaining words, a command line of our `ipmitool`.
 use Rattle.std.specs.Prelude.{◌≡◌, ◌⊎◌, Bool, true, false, ◌&&◌, nat_lt, ℕ, Option, Some, None, is_some, List, [], ◌∷◌, ◌++◌, codes, length, take, drop, fold, if◌then◌else◌, bytes_eq}
 use Rattle.serdimko.specs.declared.own.Kind.{Kind}
 use Rattle.serdimko.specs.declared.own.Next.{Next}
@@ -7,7 +7,7 @@ use Rattle.serdimko.specs.declared.own.Valued.{Valued}
 
 -- ---- words
 
--- what a word is where it may be an option
+-- the kind of a word that may be an option
 abbrev pub kind_of : List ℕ → Kind
 kind_of word =
     if bytes_eq word (codes "-h") then Kind.Help
@@ -29,7 +29,7 @@ kind_of word =
     else (if bytes_eq word (codes "--") then Kind.Dashes
     else Kind.Other))))))))))))))))
 
--- it can't be a value: it begins with a dash, and is more than that
+-- the word can't be a value: it begins with a dash and is longer than that
 abbrev pub is_option : List ℕ → Bool
 is_option word = nat_lt 1 (length word) && bytes_eq (take 1 word) (codes "-")
 
@@ -40,7 +40,7 @@ name_of Valued.Live = codes "--live"
 name_of Valued.Output = codes "--output"
 name_of Valued.Label = codes "--label"
 
--- ---- what was found so far
+-- ---- the words so far
 
 -- before the first word, which is the program's name
 abbrev pub nothing : Own
@@ -61,7 +61,7 @@ nothing = record {
   next = Next.Value;
 }
 
--- the word is left; `next` says what the following word is
+-- the word is kept; `next` is the kind of the following word
 abbrev pub leave : Own → List ℕ → Next → Own
 leave own word next = record own { rest = own.rest ++ word ∷ []; next = next }
 
@@ -84,14 +84,14 @@ with_value Valued.Output own value = record own { output = Some value; has_own =
 with_value Valued.Label own value =
     record own { labels = own.labels ++ value ∷ []; has_own = true; next = Next.Any }
 
--- a value; a repeated option stays in `rest` and is refused later
+-- a value; a repeated option is kept in `rest` and refused later
 abbrev pub add_value : Valued → Own → List ℕ → Own
 add_value valued own value =
     if is_given valued own
     then record (leave (leave own (name_of valued) Next.Any) value Next.Any) { has_own = true }
     else with_value valued own value
 
--- the first `--image` is left, with its value; the value of each further one is an image
+-- the first `--image` is kept, with its value; the value of each further one is an image
 abbrev pub after_image : Bool → Own → List ℕ → Own
 after_image false own word = record (leave own word Next.Value) { has_image = true }
 after_image true own word = record own { has_own = true; next = Next.Image }
@@ -122,14 +122,14 @@ after_kind Kind.Specified own word = leave own word Next.Value
 after_kind Kind.Dashes own word = leave own word Next.Words
 after_kind Kind.Other own word = after_other own word
 
--- the value of an option of this program; where there is none, the option is left, and refused there
+-- the value of an option of this program; if it is missing, the option is kept, and refused later
 abbrev pub after_value : Bool → Own → List ℕ → List ℕ → Own → Own
 after_value true own option word taken =
     record (leave (leave own option Next.Any) word Next.Any) { has_own = true }
 after_value false own option word taken = taken
 
--- by what the word is: possibly an option; a value, which is left; the value of an option of this program; or, after `--`, a
--- plain word
+-- by the kind of the word: possibly an option; a value, which is kept; the value of an option of this program; or, after `--`,
+-- a plain word
 abbrev pub after_as : Next → Own → List ℕ → Own
 after_as Next.Any own word = after_kind (kind_of word) own word
 after_as Next.Value own word = leave own word Next.Any
@@ -144,16 +144,16 @@ after own word = after_as own.next own word
 
 -- ---- after all words
 
--- an id in hex digits, also after 0x, as the specified command line takes it
+-- an id in hex digits, with or without 0x, in the form of our `ipmitool`
 abbrev pub id_word : List ℕ → List ℕ
 id_word digits = if bytes_eq (take 2 digits) (codes "0x") then digits else codes "0x" ++ digits
 
--- the id is the last word, if the words are not cut short
+-- the id becomes the last word, unless the words end too early
 abbrev pub with_id : Option (List ℕ) → Own → Own
 with_id None own = own
 with_id (Some digits) own = record own { rest = own.rest ++ id_word digits ∷ [] }
 
--- an option without its value is left, and is refused
+-- an option without its value is kept, and refused later
 abbrev pub at_end : Next → Own → Own
 at_end Next.Any own = with_id own.id own
 at_end Next.Words own = with_id own.id own
@@ -161,7 +161,7 @@ at_end Next.Value own = own
 at_end Next.Image own = record (leave own (codes "--image") Next.Any) { has_own = true }
 at_end (Next.Own valued) own = record (leave own (name_of valued) Next.Any) { has_own = true }
 
--- what the words have, before it is known that there are no more
+-- the options and the remaining words so far, before the end of the words is known
 abbrev pub found_in : List (List ℕ) → Own
 found_in words = fold after nothing words
 
@@ -170,7 +170,7 @@ own_of words = let own = found_in words in at_end own.next own
 
 -- ---- words without an option of this program
 
--- all words are left, and nothing else was found
+-- all words are kept, and no option was found
 pub record IsPlain (own : Own) (words : List (List ℕ)) : Type 0 where
   pub rest : own.rest ≡ words
   pub images : own.images ≡ []
@@ -186,7 +186,7 @@ pub record IsPlain (own : Own) (words : List (List ℕ)) : Type 0 where
 
 -- ---- an option of this program, wherever it stands
 
--- where the next word may be an option: it is no value, and does not come after `--`
+-- the next word may be an option: it is not a value, and does not come after `--`
 abbrev pub MayBeOption : List (List ℕ) → Type 0
 MayBeOption before = (found_in before).next ≡ Next.Any
 
@@ -200,7 +200,7 @@ is_flag Kind.Quiet = true
 is_flag Kind.Json = true
 is_flag kind = false
 
--- what the words have is what they have without it, and it
+-- the result for the words is the result without the option, and the option
 abbrev pub IsTakenOut : List (List ℕ) → List ℕ → List (List ℕ) → Type 0
 IsTakenOut before flag later =
     own_of (before ++ flag ∷ later) ≡ after_kind (kind_of flag) (own_of (before ++ later)) flag

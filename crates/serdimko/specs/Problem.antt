@@ -1,4 +1,4 @@
--- Why nothing, or not all, was printed of an image: when, in which words, and with which status.
+-- Why an image was not printed, or not completely: when, with which message, and with which status.
 use Rattle.std.specs.Prelude.{◌≡◌, ◌==◌, ◌⊎◌, not, ℕ, max, ◌∷◌, Bool, true, false, List, [], ◌++◌, codes, decimal, Option, Some, None, Result, Ok, Err, String, string_bytes, unwrap_or, Vec}
 use Rattle.std.specs.declared.alloc.Global.{Global}
 use Rattle.std.specs.Io.Buffered.{writer_buffer, writer_inner}
@@ -28,13 +28,13 @@ use Rattle.serdimko.specs.declared.watch.Watch.{Watch}
 
 -- ---- when
 
--- where the output took no more: whoever reads it has closed it, or there is a fault
+-- the output accepted no more: its reader has closed it, or there is a fault
 abbrev pub output_problem : Bool → Problem
 output_problem true = Problem.Closed
 output_problem false = Problem.Failed Failure.WriteFault
 
--- of a run: its ending, what its input looks like where it is no image, whether it printed faults that matter, and whether the
--- output was closed
+-- the problem of a run, from its ending, the appearance of input that is not an image, whether it printed faults that matter, and
+-- whether the output was closed
 abbrev pub problem_of : Ending → Looks → Bool → Bool → Option Problem
 problem_of (Err Failure.WriteFault) looks faulty closed = Some (output_problem closed)
 problem_of (Err (Failure.Image ImageFault.Memory)) looks faulty closed =
@@ -61,15 +61,15 @@ lost_problem (Some said) (Some (Problem.Failed (Failure.Ended (Ended.Refused id 
 lost_problem (Some said) (Some (Problem.Failed (Failure.Inventory id (FruEnded.Refused code)))) = Some (Problem.Lost said)
 lost_problem said problem = problem
 
--- ---- words
+-- ---- messages
 
--- what is wrong with an image: on a line, or as a whole
+-- the fault of an image: in a line, or in the whole image
 abbrev pub image_problem : List ℕ → Option ℕ → List ℕ → List ℕ
 image_problem name (Some line) words =
     escaped_name name ++ (codes ":" ++ (decimal line ++ (codes ": " ++ words)))
 image_problem name None words = escaped_name name ++ (codes ": " ++ words)
 
--- of one image by itself, or of one of several, with its name
+-- the message about one image, or, with its name, about one of several
 abbrev pub named_text : Bool → List ℕ → List ℕ → List ℕ
 named_text true name text = text
 named_text false name text = escaped_name name ++ (codes ": " ++ text)
@@ -91,7 +91,7 @@ problem_text name is_one Problem.Closed = []
 problem_text name is_one Problem.Faulty =
     named_text is_one name (codes "a fault or a missing device was printed (--strict)")
 
--- ---- the exit status, and what is said
+-- ---- the exit status and the message
 
 abbrev pub status_of_problem : Option Problem → ℕ
 status_of_problem None = 0
@@ -115,11 +115,11 @@ faults_of_problem _ = 0
 
 -- ---- the output
 
--- what the sink of a writer took
+-- the bytes taken by the sink of a writer
 abbrev pub taken_of : {W : Type 0} {write : Ghosts W} → Written W write → List ℕ
 taken_of {write = write} out = unwrap_or (write.contents out.begun.value) [] ++ out.history.taken
 
--- what its buffer still holds
+-- the bytes still in its buffer
 abbrev pub held_by : {W : Type 0} {write : Ghosts (BufWriter (Watch W) Global)}
     → Written (BufWriter (Watch W) Global) write → List ℕ
 held_by out = writer_buffer (writer_of out)
@@ -142,21 +142,21 @@ abbrev pub is_closed : {W : Type 0} {write : Ghosts (BufWriter (Watch W) Global)
     → Written (BufWriter (Watch W) Global) write → Bool
 is_closed out = (writer_inner (writer_of out)).is_closed
 
--- meanwhile a line with a fault was counted
+-- a line with a fault was counted since then
 abbrev pub is_faulty : {W : Type 0} {write : Ghosts (BufWriter (Watch W) Global)}
     → Written (BufWriter (Watch W) Global) write → Written (BufWriter (Watch W) Global) write → Bool
 is_faulty old new = not (faults_seen new == faults_seen old)
 
 -- ---- one input
 
--- nothing is printed where it was not read; otherwise what `Leaves` tells of how the run ended
+-- if the input was not read, nothing is printed; otherwise `Leaves` says how the run ended
 abbrev pub Prints : (List ℕ → Ending → Type 0) → Type 0 → Bool → Bool → Result (Vec ℕ Global) InputFault
     → Option Problem → Type 0
 Prints Leaves Idle faulty closed (Err fault) problem = Idle × (problem ≡ Some (unread fault))
 Prints Leaves Idle faulty closed (Ok image) problem =
     (ending : Ending) × Leaves image.items ending × (problem ≡ problem_of ending (looks_of image.items ending) faulty closed)
 
--- what a command prints of it
+-- the output of a command over it
 abbrev pub PrintsInput : {W : Type 0} {write : Ghosts (BufWriter (Watch W) Global)} → Wording
     → Result (Vec ℕ Global) InputFault → CommandState → Written (BufWriter (Watch W) Global) write
     → Written (BufWriter (Watch W) Global) write → Option Problem → Type 0
@@ -167,7 +167,7 @@ PrintsInput wording input command old new problem =
 
 -- ---- a live controller
 
--- what contracts see of it, what the tool printed last if the connection to it is lost, and the output
+-- the state that contracts see, the tool's last output if the connection was lost, and the output
 pub record LiveState (Out : Type 0) : Type 0 where
   pub seen : Seen
   pub lost : Option (List ℕ)
@@ -176,8 +176,8 @@ pub record LiveState (Out : Type 0) : Type 0 where
 abbrev pub live_state : {Out : Type 0} → Seen → Option (List ℕ) → Out → LiveState Out
 live_state seen lost out = record { seen = seen; lost = lost; out = out }
 
--- what a command prints of it: it asks for no part that is too long, and ends as the run did; what a tool said is told only
--- where the connection was lost
+-- the output of a command over it: no part requested is too long, and it ends as the run did; the tool's output is reported only
+-- if the connection was lost
 abbrev pub PrintsLive : {W : Type 0} {write : Ghosts (BufWriter (Watch W) Global)} → Wording → CommandState
     → LiveState (Written (BufWriter (Watch W) Global) write) → LiveState (Written (BufWriter (Watch W) Global) write)
     → Option Problem → Type 0
@@ -188,16 +188,16 @@ PrintsLive wording command old new problem =
     × IsHandedOn (held_by new.out) ending × (new.lost ≡ None → said ≡ None)
     × (problem ≡ lost_problem said (problem_of ending Looks.Unknown (is_faulty old.out new.out) (is_closed new.out)))
 
--- ---- what is told
+-- ---- the report
 
--- the status is that of the problem, and its line is said, or nothing where there is none
+-- the status is that of the problem, and its message is written, or nothing if there is no problem
 abbrev pub Tells : List ℕ → Bool → Option Problem → Received → Received → ℕ → Type 0
 Tells name is_one problem said said' status =
     (status ≡ status_of_problem problem) × ReceivesText said said' (said_of_problem name is_one problem)
 
 -- ---- several commands, one after another
 
--- another command may do better over the same input
+-- another command may succeed over the same input
 abbrev pub goes_on : Option Problem → Bool
 goes_on None = true
 goes_on (Some (Problem.Failed failure)) = status_of_failure failure == 1

@@ -1,4 +1,4 @@
-//! Saves what a live controller holds as an image.
+//! Saves the contents of a live controller as an image.
 ghost use Rattle.std.specs.Prelude.{◌≡◌, IfOk, OnErr, option_map};
 ghost use Rattle.ipmi_image.specs.Rewritten.{image_text_of};
 ghost use Rattle.ipmi_raw.specs.Controller.{last_words, seen_of};
@@ -18,10 +18,10 @@ use std::fs::{self, File, Files};
 use std::io::{self, ErrorKind, Write};
 use std::time::Clock;
 
-/// The exit status where the image is not whole.
+/// The exit status if the image is not whole.
 const NOT_WHOLE: u8 = 1;
 
-/// The exit status where the image can't be written.
+/// The exit status if the image can't be written.
 const UNWRITTEN: u8 = 4;
 
 /// The last line of an image.
@@ -37,7 +37,7 @@ pub(crate) struct Counter<W> {
 }
 
 impl<W: Write> Counter<W> {
-    /// Nothing has come yet.
+    /// Before the first item.
     pub(crate) fn new(terminal: Option<W>) -> Counter<W> {
         Counter {
             terminal,
@@ -50,7 +50,7 @@ impl<W: Write> Counter<W> {
     fn show(&mut self) {
         let (records, readings, inventories) = (self.records, self.readings, self.inventories);
         if let Some(terminal) = &mut self.terminal {
-            // progress that can't be shown is none
+            // a failure to show progress is ignored
             let _ = write!(
                 terminal,
                 "\r{records} records, {readings} readings, {inventories} inventories"
@@ -58,7 +58,7 @@ impl<W: Write> Counter<W> {
         }
     }
 
-    /// Takes the line away.
+    /// Erases the line.
     fn clear(&mut self) {
         if let Some(terminal) = &mut self.terminal {
             let _ = terminal.write_all(b"\r\x1b[K");
@@ -83,11 +83,11 @@ impl<W: Write> Progress for Counter<W> {
     }
 }
 
-/// Says what is not in the image, a line each.
+/// Reports the items that are not in the image, one line each.
 fn say_left<E: MessageSink>(alloc: Global, left: &[Left], err: &mut E) -> Result<(), AllocError> {
     for left in left {
         let line = format!(in alloc; "{left}")?;
-        // there is nowhere left to tell that this failed
+        // there is nowhere left to report that this failed
         let _ = say_line(err, &[Text(line.as_str())]);
     }
     Ok(())
@@ -101,13 +101,13 @@ fn write_file<R: Files + AllocGlobal>(rt: &R, name: &str, text: &[u8]) -> io::Re
         .write_all(text)
         .and_then(|()| fs::rename(rt, partial.as_str(), name));
     if written.is_err() {
-        // what is there is no image
+        // the existing file is not an image
         let _ = fs::remove_file(rt, partial.as_str());
     }
     written
 }
 
-/// What is printed of the text of an image. Without its last line it is no image.
+/// The part of an image's text to print: without its last line it is not an image.
 fn printed_text(text: &[u8], is_whole: bool) -> &[u8]
     ensures { result.now ≡ printed_text is_whole text.now }
 {
@@ -118,14 +118,14 @@ fn printed_text(text: &[u8], is_whole: bool) -> &[u8]
     }
 }
 
-/// The exit status where an image was saved.
+/// The exit status if an image was saved.
 fn status_of_image(is_whole: bool) -> u8
     ensures { result ≡ status_of_image is_whole }
 {
     if is_whole { 0 } else { NOT_WHOLE }
 }
 
-/// Writes the text of an image, or what is printed of it, to the output, and gives the exit status.
+/// Writes the text of an image, or its part to print, to the output, and returns the exit status.
 fn print_text<W: Write, E: MessageSink>(text: &[u8], is_whole: bool, out: &mut W, err: &mut E) -> u8
     ensures { PrintsText is_whole text.now (W.contents out.old) (W.contents out.new) result }
 {
@@ -133,14 +133,14 @@ fn print_text<W: Write, E: MessageSink>(text: &[u8], is_whole: bool, out: &mut W
         Ok(()) => status_of_image(is_whole),
         Err(error) if error.kind() == ErrorKind::BrokenPipe => CLOSED,
         Err(_) => {
-            // there is nowhere left to tell that this failed
+            // there is nowhere left to report that this failed
             let _ = say(err, &Failure::WriteFault);
             UNWRITTEN
         }
     }
 }
 
-/// Writes the text of an image to a file, if it is whole, and gives the exit status.
+/// Writes the text of an image to a file, if it is whole, and returns the exit status.
 fn write_text<R: Files + AllocGlobal, E: MessageSink>(
     rt: &R,
     text: &[u8],
@@ -164,7 +164,7 @@ fn write_text<R: Files + AllocGlobal, E: MessageSink>(
     status_of_image(is_whole)
 }
 
-/// Writes the image, whole or what there is of it, and gives the exit status.
+/// Writes the image, whole or in part, and returns the exit status.
 fn write_captured<R: Files + AllocGlobal, W: Write, E: MessageSink>(
     rt: &R,
     captured: &Captured,
@@ -183,7 +183,7 @@ fn write_captured<R: Files + AllocGlobal, W: Write, E: MessageSink>(
     })
 }
 
-/// Reads all that the controller holds, writes it as an image, says what is not in it, and gives the exit status.
+/// Reads the contents of the controller, writes them as an image, reports the items left out, and returns the exit status.
 fn capture_from<
     R: Files + AllocGlobal,
     P: Peer + Drop,
@@ -216,7 +216,7 @@ fn capture_from<
     write_captured(rt, &captured, output, out, err)
 }
 
-/// Saves what the live controller holds, and gives the exit status.
+/// Saves the contents of the live controller, and returns the exit status.
 pub(crate) fn capture_live<
     R: Files + Clock + AllocGlobal,
     T: Write + Drop,

@@ -1,4 +1,4 @@
-//! Prints what a command asks for of each image, one after another.
+//! Runs commands over each image, one after another.
 ghost use Rattle.std.specs.Prelude.{◌≡◌, ◌+◌, ◌++◌, Some, if◌then◌else◌};
 ghost use Rattle.ipmi_commands.specs.declared.job.Wording.{Wording};
 ghost use Rattle.serdimko.specs.Objects.{PrintsRun};
@@ -30,12 +30,12 @@ pub(crate) fn lines_of<W: Write + Drop>(out: &Output<W>) -> usize
     out.get_ref().get_ref().lines()
 }
 
-/// The file, where it is not `-`, which is standard input.
+/// The file; None for `-`, which is standard input.
 pub(crate) fn file_of(image: Option<&Word>) -> Option<&Word> {
     image.filter(|file| file.as_str() != "-")
 }
 
-/// How the input looks if it is no image.
+/// The appearance of the input, if it is not an image.
 fn looks_of(image: &[u8], ending: &Result<(), Failure<'_>>) -> Looks
     ensures { result ≡ looks_of image.now ending.now }
 {
@@ -71,8 +71,8 @@ fn print_input<'a, W: Write + Drop>(
     Problem::of(ending, looks, has_faults, is_closed)
 }
 
-/// Runs the command over the input with this name, and prints the line that ends objects. Returns the problem, if not
-/// everything was printed.
+/// Runs the command over the input with this name, and prints the line at the end of objects. Returns the problem, if it did
+/// not print everything.
 fn print_run<'a, W: Write + Drop>(
     alloc: Global,
     command: &'a Command,
@@ -91,7 +91,7 @@ fn print_run<'a, W: Write + Drop>(
     end_run(alloc, wording, before, problem, name, is_one, out)
 }
 
-/// Says the problem, and gives the exit status. That the output was closed is not said.
+/// Reports the problem, unless the output was closed, and returns the exit status.
 #[tactic(auto, using(crate::proofs::ProblemLemmas::said_unless_closed))]
 fn say_one<E: MessageSink>(problem: &Problem<'_>, name: &str, is_one: bool, err: &mut E) -> u8
     ensures { Tells name.now is_one (Some problem.now) (E.received err.old) (E.received err.new) result }
@@ -99,14 +99,14 @@ fn say_one<E: MessageSink>(problem: &Problem<'_>, name: &str, is_one: bool, err:
     match problem {
         Problem::Closed => CLOSED,
         _ => {
-            // there is nowhere left to tell that this failed
+            // there is nowhere left to report that this failed
             let _ = say_line(err, &problem.parts(name, is_one));
             problem.status()
         }
     }
 }
 
-/// Says the problem, if there is one, and gives the exit status.
+/// Reports the problem, if there is one, and returns the exit status.
 pub(crate) fn say_problem<E: MessageSink>(
     problem: &Option<Problem<'_>>,
     name: &str,
@@ -121,14 +121,14 @@ pub(crate) fn say_problem<E: MessageSink>(
     }
 }
 
-/// Prints `== NAME` above what is printed of one of several images.
+/// Prints `== NAME` before the output for one of several images.
 fn print_name<W: Write + Drop>(out: &mut Output<W>, name: &str) -> Result<(), SinkFault> {
     say_line(out, &[Text("== "), Name(name)])?;
     out.flush()
 }
 
-/// Runs each command over the input with this name, in this wording, and says its problem. Returns the highest exit status, and
-/// whether more can be printed.
+/// Runs each command over the input with this name, in this wording, and reports its problem. Returns the highest exit status,
+/// and whether more can be printed.
 fn print_each<W: Write + Drop, E: MessageSink>(
     alloc: Global,
     commands: &[Command],
@@ -164,7 +164,7 @@ pub(crate) fn wording_of<'a>(in_words: bool) -> Wording<'a>
     }
 }
 
-/// Prints what the commands ask for of an image as texts, below its name if it is one of several.
+/// Runs the commands over an image and prints texts, after its name if it is one of several.
 fn print_texts<W: Write + Drop, E: MessageSink>(
     rt: &HostRuntime,
     commands: &Commands,
@@ -186,7 +186,7 @@ fn print_texts<W: Write + Drop, E: MessageSink>(
     print_each(rt.alloc(), all, wording, &input, name, is_one, out, err)
 }
 
-/// Prints what the commands ask for of an image as objects, each with the image's name if it is one of several.
+/// Runs the commands over an image and prints objects, each with the image's name if it is one of several.
 fn print_objects<W: Write + Drop, E: MessageSink>(
     rt: &HostRuntime,
     commands: &Commands,
@@ -216,7 +216,7 @@ fn print_objects<W: Write + Drop, E: MessageSink>(
     )
 }
 
-/// Prints what the commands ask for of an image.
+/// Runs the commands over an image.
 fn print_image<W: Write + Drop, E: MessageSink>(
     rt: &HostRuntime,
     commands: &Commands,
@@ -234,8 +234,8 @@ fn print_image<W: Write + Drop, E: MessageSink>(
     }
 }
 
-/// Prints what the commands ask for of this image and of the others after it, and gives the highest exit status. After a write
-/// fault nothing more is printed.
+/// Runs the commands over this image and the others after it, and returns the highest exit status. After a write fault nothing
+/// more is printed.
 pub(crate) fn print_images<W: Write + Drop, E: MessageSink>(
     rt: &HostRuntime,
     commands: &Commands,

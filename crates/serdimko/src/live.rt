@@ -1,4 +1,4 @@
-//! Runs a command over a live controller, with which a stock tool holds a session: pipes in a folder lead to the tool.
+//! Runs commands over a live controller. A stock tool holds a session with it, and pipes in a folder lead to the tool.
 ghost use Rattle.std.specs.Prelude.{◌≡◌, ◌+◌, ℕ, Bool, codes, List, None, Option, true};
 ghost use Rattle.ipmi_bus.specs.Seen.{Seen};
 ghost use Rattle.ipmi_raw.specs.Controller.{last_words, seen_of};
@@ -22,18 +22,18 @@ use std::fs::{self, File, Files, OpenOptions};
 use std::io::{self, BufReader, Write};
 use std::time::{Clock, Duration};
 
-/// How many milliseconds a call waits after a busy answer, so that the next call does not follow at once.
+/// The pause in milliseconds after a busy answer, before the next call.
 const PAUSE: u64 = 500;
 
-/// The most bytes and lines of a tool's output in a message.
+/// The largest number of bytes and of lines of a tool's output in a message.
 const MOST_TOLD: usize = 200;
 
 const MOST_LINES: usize = 3;
 
-/// What messages call a live controller.
+/// The name of a live controller in messages.
 const NAME: &str = "the controller";
 
-/// Where a live controller is.
+/// The tool of a live controller, and the folder of its pipes.
 #[derive(Clone, Copy)]
 pub(crate) struct Live<'a> {
     tool: Tool,
@@ -55,7 +55,7 @@ impl<'a> Live<'a> {
     /// Whether its pipes are there: each tool is asked for logical unit 0.
     pub(crate) fn has_pipes<R: Files + AllocGlobal>(&self, rt: &R) -> Result<bool, AllocError> {
         let requests = format!(in rt.alloc(); "{}/requests.0", self.folder)?;
-        // what can't be looked at can't be opened either
+        // pipes that can't be examined can't be opened either
         Ok(fs::exists(rt, requests.as_str()).unwrap_or(false))
     }
 }
@@ -85,7 +85,7 @@ impl<'a, R: Files + AllocGlobal> Open for Pipes<'a, R> {
     }
 }
 
-/// What the tool printed last, on one line, cut where it is long.
+/// The last output of the tool, on one line, cut off if it is long.
 pub(crate) fn lost_line(alloc: Global, text: &[u8]) -> Result<String, AllocError> {
     let text = String::from_utf8_lossy(alloc, text.get(..MOST_TOLD).unwrap_or(text))?;
     let mut line = String::new(alloc);
@@ -123,7 +123,7 @@ fn print_over<'a, P: Peer + Drop, K: Clock + Drop, W: Write + Drop>(
     let has_faults = watch.faults() != before;
     let is_closed = watch.is_closed();
     let problem = Problem::of(ending, Looks::Unknown, has_faults, is_closed);
-    // without memory for what the tool said, the message is that of the refusal
+    // if out of memory for the tool's output, the message is that of the refusal
     let said = controller
         .lost()
         .and_then(|text| lost_line(alloc, text).ok());
@@ -145,8 +145,8 @@ pub(crate) fn controller_of<'a, R: Files + Clock + AllocGlobal>(
     RawController::new(Piped::new(live.tool, pipes), rt, pause)
 }
 
-/// Runs the command over the controller, and prints the line that ends objects. Returns the problem, if not everything was
-/// printed.
+/// Runs the command over the controller, and prints the line at the end of objects. Returns the problem, if it did not print
+/// everything.
 fn print_run_over<'a, P: Peer + Drop, K: Clock + Drop, W: Write + Drop>(
     alloc: Global,
     command: &'a Command,
@@ -165,7 +165,7 @@ fn print_run_over<'a, P: Peer + Drop, K: Clock + Drop, W: Write + Drop>(
     end_run(alloc, wording, before, problem, NAME, true, out)
 }
 
-/// Runs each command over the controller, in this wording, says its problem, and returns the highest exit status.
+/// Runs each command over the controller, in this wording, reports its problem, and returns the highest exit status.
 fn print_each_over<P: Peer + Drop, K: Clock + Drop, W: Write + Drop, E: MessageSink>(
     alloc: Global,
     commands: &[Command],
@@ -190,7 +190,7 @@ fn print_each_over<P: Peer + Drop, K: Clock + Drop, W: Write + Drop, E: MessageS
     highest
 }
 
-/// Prints what the commands ask for of the live controller, in this wording, and gives the highest exit status.
+/// Runs the commands over the live controller, in this wording, and returns the highest exit status.
 fn print_live_controller<R: Files + Clock + AllocGlobal, W: Write + Drop, E: MessageSink>(
     rt: &R,
     commands: &[Command],
@@ -207,7 +207,7 @@ fn print_live_controller<R: Files + Clock + AllocGlobal, W: Write + Drop, E: Mes
     print_each_over(rt.alloc(), commands, wording, &mut controller, out, err)
 }
 
-/// Prints what the commands ask for of the live controller as texts, and gives the highest exit status.
+/// Runs the commands over the live controller, prints texts, and returns the highest exit status.
 pub(crate) fn print_live_texts<R: Files + Clock + AllocGlobal, W: Write + Drop, E: MessageSink>(
     rt: &R,
     commands: &Commands,
@@ -219,7 +219,7 @@ pub(crate) fn print_live_texts<R: Files + Clock + AllocGlobal, W: Write + Drop, 
     print_live_controller(rt, commands.all.as_slice(), wording, live, out, err)
 }
 
-/// Prints what the commands ask for of the live controller as objects, and gives the highest exit status.
+/// Runs the commands over the live controller, prints objects, and returns the highest exit status.
 pub(crate) fn print_live_objects<R: Files + Clock + AllocGlobal, W: Write + Drop, E: MessageSink>(
     rt: &R,
     commands: &Commands,

@@ -1,4 +1,4 @@
-//! What input that is no image looks like, and which rule it breaks.
+//! The appearance of input that is not an image, and the rule that it breaks.
 ghost use Rattle.std.specs.Prelude.{◌≡◌, ◌∷◌, ◌<◌, ◌==◌, [], IfSome, length, MatchOption};
 ghost use Rattle.std.specs.Char.{is_ascii_hexdigit};
 ghost use Rattle.std.specs.List.{list_all, list_any};
@@ -8,10 +8,10 @@ ghost use Rattle.serdimko.specs.Looks.{beginning_looks, digit_looks, digit_words
 use ipmi_image::ImageFault;
 use memchr::memchr;
 
-/// What input that is no image looks like at its beginning, or at the line that is at fault.
+/// The appearance of input that is not an image, at its beginning or at the faulty line.
 #[derive(Clone, Copy, PartialEq, Eq)]
 pub(crate) enum Looks {
-    /// There is no byte.
+    /// It is empty.
     Empty,
     /// It is compressed.
     Compressed,
@@ -23,7 +23,7 @@ pub(crate) enum Looks {
     CrLf,
     /// Its lines end with CR alone.
     Cr,
-    /// The line has a dash for NEXT, and is one of version 1.
+    /// The line has a dash for NEXT, but the image has version 1.
     Dash,
     /// A field of the line is empty.
     Spaces,
@@ -31,27 +31,27 @@ pub(crate) enum Looks {
     Record,
     /// The line has the first word of an event.
     Event,
-    /// The line has the first word of a record, and as many fields.
+    /// The line has the first word and the number of fields of a record.
     RecordFields,
     /// The line is a record with the id 0000h.
     Zero,
     /// The line has the first word of an inventory.
     Inventory,
-    /// The line has the first word of an inventory, and as many fields.
+    /// The line has the first word and the number of fields of an inventory.
     InventoryFields,
     /// The line has the first word of a reading.
     Reading,
-    /// The line has the first word of a reading, and as many fields.
+    /// The line has the first word and the number of fields of a reading.
     ReadingFields,
     /// The line has the first word of an info.
     Info,
-    /// The line is the word `end`, and perhaps more.
+    /// The line begins with the word `end`.
     End,
     /// The last line has no line feed.
     Cut,
     /// The line has an odd number of digits.
     Odd,
-    /// Like nothing that is known here.
+    /// None of these.
     Unknown,
 }
 
@@ -128,7 +128,7 @@ fn are_hex(digits: &[u8]) -> bool
 }
 
 impl Looks {
-    /// What these bytes, which have this fault, look like.
+    /// The appearance of bytes with this fault.
     pub(crate) fn of(bytes: &[u8], fault: ImageFault) -> Looks
         ensures { result ≡ looks_in bytes.now fault }
     {
@@ -147,7 +147,7 @@ impl Looks {
         }
     }
 
-    /// What bytes that do not begin as an image look like.
+    /// The appearance of bytes that do not begin as an image.
     fn of_beginning(bytes: &[u8]) -> Looks
         ensures { result ≡ beginning_looks bytes.now }
     {
@@ -168,7 +168,7 @@ impl Looks {
         }
     }
 
-    /// What bytes without a line `end` look like.
+    /// The appearance of bytes without a line `end`.
     fn of_ending(bytes: &[u8]) -> Looks
         ensures { result ≡ ending_looks bytes.now }
     {
@@ -181,7 +181,7 @@ impl Looks {
         }
     }
 
-    /// What the first word of a line stands for.
+    /// The kind of a line, from its first word.
     fn of_word(line: &[u8]) -> Looks
         ensures { result ≡ word_looks line.now }
     {
@@ -229,7 +229,7 @@ impl Looks {
         }
     }
 
-    /// What a line whose id is not allowed looks like.
+    /// The appearance of a line whose id is not allowed.
     fn of_id(line: &[u8]) -> Looks
         ensures { result ≡ id_looks line.now }
     {
@@ -240,7 +240,7 @@ impl Looks {
         looks
     }
 
-    /// What an invalid line looks like.
+    /// The appearance of an invalid line.
     fn of_line(line: &[u8], is_first_version: bool) -> Looks
         ensures { result ≡ line_looks is_first_version line.now }
     {
@@ -261,7 +261,7 @@ impl Looks {
         looks.with_fields(fields)
     }
 
-    /// What a line whose digits are at fault looks like.
+    /// The appearance of a line with a fault in its digits.
     fn of_digits(line: &[u8]) -> Looks
         ensures { result ≡ digit_looks line.now }
     {
@@ -284,7 +284,7 @@ fn line_at(bytes: &[u8], line: usize) -> &[u8]
     piece_at(bytes, b'\n', line.saturating_sub(1))
 }
 
-/// What is known of bytes that do not begin as an image.
+/// The explanation for bytes that do not begin as an image.
 fn header_words(looks: Looks) -> &'static str
     ensures { result.now ≡ header_words looks }
 {
@@ -344,7 +344,7 @@ fn id_words(looks: Looks) -> &'static str
     }
 }
 
-/// What an earlier line has too.
+/// What the line has in common with an earlier line.
 fn twice_words(looks: Looks) -> &'static str
     ensures { result.now ≡ twice_words looks }
 {
@@ -355,7 +355,7 @@ fn twice_words(looks: Looks) -> &'static str
     }
 }
 
-/// How many bytes a line has to have.
+/// The number of bytes that a line must have.
 fn length_words(looks: Looks) -> &'static str
     ensures { result.now ≡ length_words looks }
 {
@@ -378,7 +378,7 @@ fn end_words(looks: Looks) -> &'static str
     }
 }
 
-/// What a fault of an image means, given what the image looks like there.
+/// The meaning of a fault of an image, given the appearance of the image there.
 pub(crate) fn explanation(fault: ImageFault, looks: Looks) -> &'static str
     ensures { result.now ≡ explanation fault looks }
 {

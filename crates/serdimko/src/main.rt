@@ -1,6 +1,5 @@
-//! Lists what management controllers hold, live ones or saved images of them: `ipmitool`'s commands `fru`, `sdr` and `sel`,
-//! with help, and with messages that say what is wrong and where. It also saves a live controller as an image, and rewrites
-//! images.
+//! Lists the contents of management controllers, live or saved as images: `ipmitool`'s commands `fru`, `sdr` and `sel`, with
+//! help, and with messages that say what is wrong and where. It also saves a live controller as an image, and rewrites images.
 #![tactic(auto)]
 
 ghost use Rattle.std.specs.Prelude.{◌<◌, length};
@@ -60,7 +59,7 @@ fn main(rt: HostRuntime) -> ExitCode {
     ExitCode::from(status)
 }
 
-/// Says which argument is not UTF-8, counted from 1, unless it is too long to be looked at, and gives the exit status.
+/// Reports which argument is not UTF-8, counted from 1, unless it is too long to be checked, and returns the exit status.
 fn refuse_argument<R: Env, E: MessageSink>(rt: &R, err: &mut E) -> u8 {
     let mut argument = [0; LONGEST_LOOKED_AT];
     for place in 1..usize::MAX {
@@ -78,7 +77,7 @@ fn refuse_argument<R: Env, E: MessageSink>(rt: &R, err: &mut E) -> u8 {
     refuse(&[Text("an argument is not UTF-8")], err)
 }
 
-/// Reads the command line, does what it asks for, and gives the exit status.
+/// Reads the command line, runs it, and returns the exit status.
 fn program<E: MessageSink>(rt: &HostRuntime, err: &mut E) -> Result<u8, AllocError> {
     let words = match read_words(rt) {
         Ok(words) => words,
@@ -113,7 +112,7 @@ fn program<E: MessageSink>(rt: &HostRuntime, err: &mut E) -> Result<u8, AllocErr
     run(rt, &own, &scanned, err)
 }
 
-/// Runs the command of the words that are left.
+/// Runs the command of the remaining words.
 fn run<E: MessageSink>(
     rt: &HostRuntime,
     own: &Own,
@@ -139,7 +138,7 @@ fn run<E: MessageSink>(
     }
 }
 
-/// Runs the commands, which are all over the same images or the same controller.
+/// Runs the commands, all over the same images or the same controller.
 fn run_commands<E: MessageSink>(
     rt: &HostRuntime,
     commands: &Commands,
@@ -162,7 +161,7 @@ fn run_commands<E: MessageSink>(
     }
 }
 
-/// Where the live controller is, by the value of `--live`, or why there is none.
+/// The live controller of the value of `--live`, or why there is none.
 fn live_of<'a>(rt: &HostRuntime, value: &'a str) -> Result<Result<Live<'a>, Line<'a>>, AllocError> {
     let Some(live) = Live::of(value) else {
         return Ok(Err(no_value_of(rt.alloc(), "--live", value)?));
@@ -175,7 +174,7 @@ fn live_of<'a>(rt: &HostRuntime, value: &'a str) -> Result<Result<Live<'a>, Line
     Ok(Err(line(rt.alloc(), &parts)?))
 }
 
-/// Saves what a live controller holds.
+/// Saves the contents of a live controller.
 fn run_capture<E: MessageSink>(
     rt: &HostRuntime,
     own: &Own,
@@ -238,19 +237,19 @@ fn print_commands<E: MessageSink>(
         Some(live) => print_live_texts(rt, commands, live, &mut out, err),
         None => print_images(rt, commands, image, own, &mut out, err),
     };
-    // what a failing flush left is not tried once more
+    // bytes left by a failed flush are not written again
     let _ = out.into_inner().into_parts();
     Ok(status)
 }
 
-/// Says what is wrong with the command line, and gives the exit status.
+/// Reports what is wrong with the command line, and returns the exit status.
 fn refuse<E: MessageSink>(line: &[Part<'_>], err: &mut E) -> u8 {
-    // there is nowhere left to tell that this failed
+    // there is nowhere left to report that this failed
     let _ = say_line(err, line);
     USAGE
 }
 
-/// Prints a text on standard output, and gives the exit status.
+/// Prints a text on standard output, and returns the exit status.
 fn print_text<E: MessageSink>(rt: &HostRuntime, text: &str, err: &mut E) -> Result<u8, AllocError> {
     Ok(match io::writer(rt).write_all(text.as_bytes()) {
         Ok(()) => 0,

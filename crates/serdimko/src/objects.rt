@@ -15,7 +15,7 @@ use ipmi_output::{Failure, Sink, SinkFault, say_line, write_all};
 use std::alloc::{AllocError, Global};
 use std::io::Write;
 
-/// A line without the line feed at its end.
+/// A line without its line feed.
 fn without_line_feed(line: &[u8]) -> &[u8]
     requires { 0 < length line.now }
     ensures { result.now ≡ take (length line.now - 1) line.now }
@@ -23,7 +23,7 @@ fn without_line_feed(line: &[u8]) -> &[u8]
     &line[..line.len() - 1]
 }
 
-/// The text of a problem, as its line has it.
+/// The text of a problem, as in its message.
 fn text_of(
     alloc: Global,
     problem: &Problem<'_>,
@@ -34,7 +34,7 @@ fn text_of(
         string_bytes text ≡ utf8_lossy (problem_text name.now is_one problem.now)) }
 {
     let mut line = Vec::new(alloc);
-    // only memory can be missing
+    // the only failure is out of memory
     say_line(&mut line, &problem.parts(name, is_one)).or(Err(AllocError))?;
     String::from_utf8_lossy(alloc, without_line_feed(line.as_slice()))
 }
@@ -65,7 +65,7 @@ fn status_of(problem: &Option<Problem<'_>>) -> u8
     }
 }
 
-/// The line at the end of so many objects.
+/// The line at the end of this many objects.
 fn line_at_end(
     alloc: Global,
     labels: &[Label<'_>],
@@ -92,8 +92,8 @@ fn write_line<W: Write + Drop>(out: &mut Output<W>, line: &[u8]) -> Result<(), S
     out.flush()
 }
 
-/// Prints the line at the end of the objects of a run that had this problem, or none, unless the output takes no more. `before`
-/// is how many lines there were before the run. Returns the problem, or what happened to this line.
+/// Prints the line at the end of the objects of a run with this problem, or without one, unless the output accepts no more.
+/// `before` is the number of lines before the run. Returns the problem, or the problem of this line.
 fn print_end<'a, W: Write + Drop>(
     alloc: Global,
     labels: &[Label<'_>],
@@ -125,7 +125,7 @@ fn print_end<'a, W: Write + Drop>(
     }
 }
 
-/// Ends a run in this wording, of an input with this name: only objects are followed by a line.
+/// Ends a run in this wording, over an input with this name: prints the line at the end of objects.
 pub(crate) fn end_run<'a, W: Write + Drop>(
     alloc: Global,
     wording: Wording<'_>,

@@ -1,4 +1,4 @@
-//! The options of this program: they are taken out of the words wherever they are, and the rest is the specified command line.
+//! The options of this program. They are taken out of the words at any place, and the rest is a command line of our `ipmitool`.
 ghost use Rattle.std.specs.Prelude.{◌≡◌, ◌<◌, drop, false, IfOk, length, OnOk, string_bytes, true};
 ghost use Rattle.serdimko.specs.Own.{add_image, add_value, after, after_image, after_image_value, after_kind, after_other, at_end, FlagsAreTakenOut, id_word, ImagesAreTakenOut, is_option, IsPlain, kind_of, leave, is_given, name_of, nothing, own_of, ValuesAreTakenOut, with_id, with_value};
 
@@ -18,7 +18,7 @@ enum Valued {
     Label,
 }
 
-/// What a word is where it may be an option.
+/// The kind of a word that may be an option.
 #[derive(Clone, Copy)]
 enum Kind {
     /// `--help` or `-h`.
@@ -35,7 +35,7 @@ enum Kind {
     Valued(Valued),
     /// `--image`.
     Image,
-    /// Another specified option, whose value comes next.
+    /// Another option of our `ipmitool`, whose value comes next.
     Specified,
     /// `--`, after which nothing is an option.
     Dashes,
@@ -43,22 +43,22 @@ enum Kind {
     Other,
 }
 
-/// What the next word is.
+/// The kind of the next word.
 #[derive(Clone, Copy)]
 enum Next {
     /// An option or another word.
     Any,
-    /// The value of a specified option, or the program's name.
+    /// The value of an option of our `ipmitool`, or the program's name.
     Value,
     /// The value of a further `--image`.
     Image,
     /// The value of an option of this program.
     Own(Valued),
-    /// No option, after `--`.
+    /// A plain word, after `--`.
     Words,
 }
 
-/// The options of this program, and the words that are left.
+/// The options of this program, and the remaining words.
 #[derive(Drop)]
 pub(crate) struct Own {
     /// `--help` or `-h`.
@@ -81,7 +81,7 @@ pub(crate) struct Own {
     pub(crate) labels: Words,
     /// The images after the first one.
     pub(crate) images: Words,
-    /// The words that are left, the program's name first.
+    /// The remaining words, starting with the program's name.
     pub(crate) rest: Words,
     // whether there was any option of this program
     has_own: bool,
@@ -89,7 +89,7 @@ pub(crate) struct Own {
     next: Next,
 }
 
-/// What a word is where it may be an option.
+/// The kind of a word that may be an option.
 fn kind_of(word: &str) -> Kind
     ensures { result ≡ kind_of word.now }
 {
@@ -117,7 +117,7 @@ pub(crate) fn is_option(word: &str) -> bool
     word.len() > 1 && word.as_bytes()[0] == b'-'
 }
 
-/// An id in hex digits, also after 0x, as the specified command line takes it.
+/// An id in hex digits, with or without 0x, in the form of our `ipmitool`.
 pub(crate) fn id_word(alloc: Global, digits: &str) -> Result<String, AllocError>
     ensures { IfOk result (λ word. string_bytes word ≡ id_word digits.now) }
 {
@@ -164,7 +164,7 @@ impl Own {
         }
     }
 
-    /// Leaves the word.
+    /// Keeps the word.
     fn leave(&mut self, word: &str, next: Next) -> Result<(), AllocError>
         ensures { OnOk result (self.new ≡ leave self.old word.now next) }
     {
@@ -233,7 +233,7 @@ impl Own {
         self.leave(word, Next::Value)
     }
 
-    /// Takes a word that begins with `--image=`, which this file comes after.
+    /// Takes a word that is `--image=` and this file.
     fn take_image_value(&mut self, word: &str, file: &str) -> Result<(), AllocError>
         requires { file.now ≡ drop 8 word.now }
         ensures { OnOk result (self.new ≡ after_image_value self.old.has_image self.old word.now) }
@@ -287,7 +287,7 @@ impl Own {
         Ok(())
     }
 
-    /// Leaves an option of this program whose value is missing.
+    /// Keeps an option of this program whose value is missing.
     fn leave_option(&mut self, option: &str) -> Result<(), AllocError>
         ensures { OnOk result (self.new ≡ record (leave self.old option.now Next.Any) { has_own = true }) }
     {
@@ -295,7 +295,7 @@ impl Own {
         self.leave(option, Next::Any)
     }
 
-    /// Leaves such an option, and the word after it.
+    /// Keeps such an option, and the word after it.
     fn leave_both(&mut self, option: &str, word: &str) -> Result<(), AllocError>
         ensures { OnOk result (self.new ≡
             record (leave (leave self.old option.now Next.Any) word.now Next.Any) { has_own = true }) }

@@ -72,7 +72,7 @@ impl<W: Write> Watch<W> {
         self.lines
     }
 
-    /// How many lines with faults were counted.
+    /// The number of lines with faults.
     pub(crate) fn faults(&self) -> usize
         ensures { result ≡ faults_in self.now.fault_lines }
     {
@@ -82,7 +82,7 @@ impl<W: Write> Watch<W> {
         }
     }
 
-    /// Whether a write failed because whoever reads the output has closed it.
+    /// Whether a write failed because the reader of the output has closed it.
     pub(crate) fn is_closed(&self) -> bool
         ensures { result ≡ self.now.is_closed }
     {
