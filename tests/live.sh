@@ -190,7 +190,7 @@ says_of() {
 says_of "ipmitool:$work/plain" 2 "--live 'ipmitool:$work/plain': cannot open the pipes there; use serdimko-live"
 touch "$work/plain/requests.0" "$work/plain/replies.0"
 says_of "ipmitool:$work/plain" 1 'no reply from the controller: the tool said nothing'
-says_of "$work/plain" 2 "--live '$work/plain' is not ipmitool:FOLDER or freeipmi:FOLDER"
+says_of "$work/plain" 2 "--live '$work/plain' is not TOOL:FOLDER: use serdimko-live"
 
 # When ended by a signal, it leaves no process and no folder. A shell makes its background processes ignore SIGINT.
 for signal in INT TERM HUP; do

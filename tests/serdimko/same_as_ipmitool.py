@@ -101,10 +101,10 @@ def generated_line(rng, images):
 
 OWN = {"-h", "--help", "-V", "--version", "--strict", "--id", "help", "sensor"}
 USAGE = b"usage: ipmitool [--image FILE] [--from HEX4] [--part N] [--tries N] fru|sdr|sel WORDS\n"
-WHY_NOT_READ = b": (no such file|is a directory|permission denied|longer than 64 MiB|can't be opened or read)"
+WHY_NOT_READ = b": (no such file|is a directory|permission denied|longer than 64 MiB|reason not known)"
 EXPLANATION = rb" \([^\n]+\)"
 WHY_NO_HEADER = (
-    rb"( \((it is empty|compressed: unpack it first|line ends are CR LF: use LF alone|line ends are CR: use LF alone|begins with a byte order mark: save it without"
+    rb"( \((empty input|compressed: unpack it first|line ends are CR LF: use LF alone|line ends are CR: use LF alone|begins with a byte order mark: save it without"
     rb"|is UTF-16 or UTF-32: save it as UTF-8|the first line has to be exactly 'ipmi-image 1' or 'ipmi-image 2', ended by a line feed)\))"
 )
 

@@ -22,7 +22,7 @@ input_fault_words InputFault.NotFound = codes "no such file"
 input_fault_words InputFault.IsDirectory = codes "is a directory"
 input_fault_words InputFault.PermissionDenied = codes "permission denied"
 input_fault_words InputFault.TooLong = codes "longer than 64 MiB"
-input_fault_words InputFault.Other = codes "can't be opened or read"
+input_fault_words InputFault.Other = codes "reason not known"
 
 -- the name of the input in messages
 abbrev pub input_name : Option (List ℕ) → List ℕ

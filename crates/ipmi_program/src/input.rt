@@ -44,7 +44,7 @@ impl InputFault {
             InputFault::IsDirectory => "is a directory",
             InputFault::PermissionDenied => "permission denied",
             InputFault::TooLong => "longer than 64 MiB",
-            InputFault::Other => "can't be opened or read",
+            InputFault::Other => "reason not known",
         }
     }
 }

@@ -32,12 +32,18 @@ is_compressed bytes =
     || starts_with nat_eq bytes (0x50 ∷ 0x4B ∷ 3 ∷ 4 ∷ []) || starts_with nat_eq bytes (4 ∷ 0x22 ∷ 0x4D ∷ 0x18 ∷ [])
     || starts_with nat_eq bytes (0x1F ∷ 0x9D ∷ [])
 
+-- UTF-16 and UTF-32 begin so
+abbrev pub is_wide : List ℕ → Bool
+is_wide bytes =
+    starts_with nat_eq bytes (0xFF ∷ 0xFE ∷ []) || starts_with nat_eq bytes (0xFE ∷ 0xFF ∷ [])
+    || starts_with nat_eq bytes (0 ∷ 0 ∷ 0xFE ∷ 0xFF ∷ [])
+
 abbrev pub beginning_looks : List ℕ → Looks
 beginning_looks bytes =
     if length bytes == 0 then Looks.Empty
     else (if is_compressed bytes then Looks.Compressed
     else (if starts_with nat_eq bytes (0xEF ∷ 0xBB ∷ 0xBF ∷ []) then Looks.ByteOrderMark
-    else (if starts_with nat_eq bytes (0xFF ∷ 0xFE ∷ []) || starts_with nat_eq bytes (0xFE ∷ 0xFF ∷ []) then Looks.Wide
+    else (if is_wide bytes then Looks.Wide
     else (if starts_with nat_eq bytes (codes "ipmi-image 1\r\n") || starts_with nat_eq bytes (codes "ipmi-image 2\r\n")
     then Looks.CrLf
     else (if starts_with nat_eq bytes (codes "ipmi-image 1\r") || starts_with nat_eq bytes (codes "ipmi-image 2\r")
@@ -87,10 +93,10 @@ with_fields looks fields = looks
 
 -- an invalid line of the first version or another one
 abbrev pub line_looks : Bool → List ℕ → Looks
-line_looks is_first line =
+line_looks is_first_version line =
     if ends_with_cr line then Looks.CrLf
     else (if not (has_fields (word_looks line)) then word_looks line
-    else (if is_first && is_row (word_looks line) && bytes_eq (piece_at 32 2 line) (codes "-") then Looks.Dash
+    else (if is_first_version && is_row (word_looks line) && bytes_eq (piece_at 32 2 line) (codes "-") then Looks.Dash
     else (if list_any is_empty (pieces 32 line) then Looks.Spaces
     else with_fields (word_looks line) (length (pieces 32 line)))))
 
@@ -125,7 +131,7 @@ looks_in bytes fault = Looks.Unknown
 
 -- what is known of input that does not begin as an image
 abbrev pub header_words : Looks → List ℕ
-header_words Looks.Empty = codes " (it is empty)"
+header_words Looks.Empty = codes " (empty input)"
 header_words Looks.Compressed = codes " (compressed: unpack it first)"
 header_words Looks.ByteOrderMark = codes " (begins with a byte order mark: save it without)"
 header_words Looks.Wide = codes " (is UTF-16 or UTF-32: save it as UTF-8)"
@@ -141,14 +147,14 @@ line_words Looks.Dash = codes " (NEXT is a dash: the first line has to be 'ipmi-
 line_words Looks.Spaces = codes " (a field is empty: between two fields one space, and none at the end)"
 line_words Looks.Record = codes " (sdr and sel take three fields: ID NEXT HEX)"
 line_words Looks.Event = codes " (sdr and sel take three fields: ID NEXT HEX)"
-line_words Looks.RecordFields = codes " (ID and NEXT are four digits each)"
+line_words Looks.RecordFields = codes " (ID or NEXT is not four digits)"
 line_words Looks.Inventory = codes " (fru takes two fields: ID HEX)"
 line_words Looks.InventoryFields = codes " (the ID of fru is two digits)"
 line_words Looks.Reading = codes " (reading takes three fields: LUN NUM HEX)"
 line_words Looks.ReadingFields = codes " (LUN is one digit, NUM two)"
 line_words Looks.Info = codes " (info takes sdr HEX or sel HEX)"
 line_words Looks.End = codes " (end stands alone)"
-line_words _ = codes " (it begins with none of sdr, sel, fru, reading, info and end)"
+line_words _ = codes " (its first word is none of sdr, sel, fru, reading, info, end)"
 
 -- what is wrong with the digits of a line
 abbrev pub digit_words : Looks → List ℕ
@@ -159,14 +165,14 @@ digit_words _ = codes " (a character is no hex digit)"
 -- why a line may not have its id
 abbrev pub id_words : Looks → List ℕ
 id_words Looks.Zero = codes " (only the first record may have the id 0000)"
-id_words Looks.Inventory = codes " (no FRU device has the id FF)"
+id_words Looks.Inventory = codes " (a FRU device id can't be FF)"
 id_words Looks.Reading = codes " (a LUN is 0 to 3)"
-id_words _ = codes " (no record has the id FFFF)"
+id_words _ = codes " (a record id can't be FFFF)"
 
 -- what an earlier line has too
 abbrev pub twice_words : Looks → List ℕ
 twice_words Looks.Reading = codes " (an earlier line has this LUN and NUM)"
-twice_words Looks.Info = codes " (an earlier line has this info)"
+twice_words Looks.Info = codes " (one info each for sdr and sel)"
 twice_words _ = codes " (an earlier line has this record id)"
 
 -- how many bytes a line has to have

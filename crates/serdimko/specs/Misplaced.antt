@@ -1,5 +1,6 @@
 -- Which options go with which words, and which inputs with a command. A rule is a message; None: nothing is against it.
 use Rattle.std.specs.Prelude.{◌+◌, ◌-◌, ◌==◌, ◌&&◌, ◌||◌, not, nat_lt, ℕ, Bool, true, false, Option, Some, None, is_some, List, [], ◌∷◌, codes, count_by, length, take, if◌then◌else◌, bytes_eq}
+use Rattle.std.specs.Option.{option_or}
 use Rattle.ipmi_command_line.specs.Command.{CommandState}
 use Rattle.ipmi_command_line.specs.declared.task.Task.{Task}
 use Rattle.serdimko.specs.declared.own.Own.{Own}
@@ -37,11 +38,12 @@ without_id own words = if is_some own.id then take (length words - 1) words else
 -- ---- options and words
 
 -- with `sel get` and no ID of its own
-abbrev pub id_rule : List (List ℕ) → Option (List ℕ)
-id_rule words =
-    if not (is_sel_get words) then Some (codes "--id goes only with 'sel get'")
+abbrev pub id_rule : Own → List (List ℕ) → Option (List ℕ)
+id_rule own words =
+    if not (is_some own.id) then None
+    else (if not (is_sel_get words) then Some (codes "--id goes only with 'sel get'")
     else (if length words == 3 then None
-    else Some (codes "'sel get' takes an ID or --id, not both"))
+    else Some (codes "'sel get' takes an ID or --id, not both")))
 
 abbrev pub capture_rule : Own → List (List ℕ) → Option (List ℕ)
 capture_rule own words =
@@ -53,7 +55,7 @@ capture_rule own words =
 abbrev pub misplaced : Own → List (List ℕ) → Option (List ℕ)
 misplaced own words =
     if is_other_command (without_id own words) then None
-    else (if is_some own.id then id_rule words else capture_rule own words)
+    else option_or (id_rule own words) (capture_rule own words)
 
 abbrev pub json_rule : Own → List (List ℕ) → Option (List ℕ)
 json_rule own words =

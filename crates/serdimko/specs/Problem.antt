@@ -54,8 +54,8 @@ abbrev pub unread : InputFault → Problem
 unread InputFault.Memory = Problem.Failed Failure.OutOfMemory
 unread fault = Problem.Unread fault
 
--- the problem of a run over a controller: a refusal after a lost connection is `Lost`, with the tool's last words if there is
--- memory for them
+-- the problem of a run over a controller: a refusal after a lost connection is `Lost`, with the tool's last words; without
+-- memory for them it stays the refusal
 abbrev pub lost_problem : Option (String Global) → Option Problem → Option Problem
 lost_problem (Some said) (Some (Problem.Failed (Failure.Ended (Ended.Refused id code)))) = Some (Problem.Lost said)
 lost_problem (Some said) (Some (Problem.Failed (Failure.Inventory id (FruEnded.Refused code)))) = Some (Problem.Lost said)
@@ -211,7 +211,7 @@ has_room (Some (Problem.Failed Failure.WriteFault)) = false
 has_room problem = true
 
 -- Each command runs (`Runs` relates the states before and after it), and its problem is reported (`Told`), up to the first
--- problem that is not the command's own. The status is the highest.
+-- problem that is not the command's own. The result is the highest status, and whether more can be printed.
 abbrev pub RunsEach : {S : Type 0} → (CommandState → S → S → Option Problem → Type 0)
     → (Option Problem → Received → Received → ℕ → Type 0) → List CommandState
     → S → S → Received → Received → ℕ × Bool → Type 0

@@ -1,4 +1,4 @@
--- The options and the words of a command line. A line that has none of the following is refused: the definitions are None there.
+-- The options and the words of a command line. None: the line is refused.
 use Rattle.std.specs.Prelude.{◌≡◌, ◌==◌, ◌||◌, not, ℕ, Bool, true, false, Option, Some, None, is_some, option_and_then, option_map, List, [], ◌∷◌, ◌++◌, codes, fold, length, map, nat_lt, if◌then◌else◌, bytes_eq}
 use Rattle.std.specs.List.{after_first, before_first, position_or_len}
 use Rattle.serdimko.specs.Own.{is_option}
@@ -32,7 +32,7 @@ scan_of scan = record {
   is_ended = scan.is_ended;
 }
 
--- the same words twice
+-- `words` and `plain` are the same words
 abbrev pub HasWords : Scan → Type 0
 HasWords scan = map (λ word. word.now) scan.words.items ≡ scan.plain
 
@@ -65,7 +65,7 @@ value_in word =
     if nat_lt (position_or_len (λ byte. byte == 61) word) (length word) then Some (after_first (λ byte. byte == 61) word)
     else None
 
--- only the first value of an option is kept
+-- an option that has a value takes no other
 abbrev pub first_value : Option (List ℕ) → Scanned → Option Scanned
 first_value None scan = Some scan
 first_value (Some value) scan = None

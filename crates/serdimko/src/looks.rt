@@ -3,7 +3,7 @@ ghost use Rattle.std.specs.Prelude.{◌≡◌, ◌∷◌, ◌<◌, ◌==◌, [],
 ghost use Rattle.std.specs.Char.{is_ascii_hexdigit};
 ghost use Rattle.std.specs.List.{list_all, list_any};
 ghost use Rattle.ipmi_image.specs.Prelude.{pieces};
-ghost use Rattle.serdimko.specs.Looks.{beginning_looks, digit_looks, digit_words, end_words, ending_looks, ends_with_cr, explanation, has_fields, header_words, id_looks, id_words, is_compressed, is_empty, is_row, length_words, line_at, line_looks, line_words, looks_in, piece_at, twice_words, with_fields, word_looks};
+ghost use Rattle.serdimko.specs.Looks.{beginning_looks, digit_looks, digit_words, end_words, ending_looks, ends_with_cr, explanation, has_fields, header_words, id_looks, id_words, is_compressed, is_empty, is_row, is_wide, length_words, line_at, line_looks, line_words, looks_in, piece_at, twice_words, with_fields, word_looks};
 
 use ipmi_image::ImageFault;
 use memchr::memchr;
@@ -113,6 +113,15 @@ fn is_compressed(bytes: &[u8]) -> bool
         || bytes.starts_with(b"\x1f\x9d")
 }
 
+/// Whether it begins with a byte order mark of UTF-16 or UTF-32.
+fn is_wide(bytes: &[u8]) -> bool
+    ensures { result ≡ is_wide bytes.now }
+{
+    bytes.starts_with(b"\xff\xfe")
+        || bytes.starts_with(b"\xfe\xff")
+        || bytes.starts_with(b"\0\0\xfe\xff")
+}
+
 /// Whether the line ends with a carriage return.
 fn ends_with_cr(line: &[u8]) -> bool
     ensures { result ≡ ends_with_cr line.now }
@@ -157,7 +166,7 @@ impl Looks {
             Looks::Compressed
         } else if bytes.starts_with(b"\xef\xbb\xbf") {
             Looks::ByteOrderMark
-        } else if bytes.starts_with(b"\xff\xfe") || bytes.starts_with(b"\xfe\xff") {
+        } else if is_wide(bytes) {
             Looks::Wide
         } else if bytes.starts_with(b"ipmi-image 1\r\n") || bytes.starts_with(b"ipmi-image 2\r\n") {
             Looks::CrLf
@@ -289,7 +298,7 @@ fn header_words(looks: Looks) -> &'static str
     ensures { result.now ≡ header_words looks }
 {
     match looks {
-        Looks::Empty => " (it is empty)",
+        Looks::Empty => " (empty input)",
         Looks::Compressed => " (compressed: unpack it first)",
         Looks::ByteOrderMark => " (begins with a byte order mark: save it without)",
         Looks::Wide => " (is UTF-16 or UTF-32: save it as UTF-8)",
@@ -310,14 +319,14 @@ fn line_words(looks: Looks) -> &'static str
         Looks::Dash => " (NEXT is a dash: the first line has to be 'ipmi-image 2')",
         Looks::Spaces => " (a field is empty: between two fields one space, and none at the end)",
         Looks::Record | Looks::Event => " (sdr and sel take three fields: ID NEXT HEX)",
-        Looks::RecordFields => " (ID and NEXT are four digits each)",
+        Looks::RecordFields => " (ID or NEXT is not four digits)",
         Looks::Inventory => " (fru takes two fields: ID HEX)",
         Looks::InventoryFields => " (the ID of fru is two digits)",
         Looks::Reading => " (reading takes three fields: LUN NUM HEX)",
         Looks::ReadingFields => " (LUN is one digit, NUM two)",
         Looks::Info => " (info takes sdr HEX or sel HEX)",
         Looks::End => " (end stands alone)",
-        _ => " (it begins with none of sdr, sel, fru, reading, info and end)",
+        _ => " (its first word is none of sdr, sel, fru, reading, info, end)",
     }
 }
 
@@ -338,9 +347,9 @@ fn id_words(looks: Looks) -> &'static str
 {
     match looks {
         Looks::Zero => " (only the first record may have the id 0000)",
-        Looks::Inventory => " (no FRU device has the id FF)",
+        Looks::Inventory => " (a FRU device id can't be FF)",
         Looks::Reading => " (a LUN is 0 to 3)",
-        _ => " (no record has the id FFFF)",
+        _ => " (a record id can't be FFFF)",
     }
 }
 
@@ -350,7 +359,7 @@ fn twice_words(looks: Looks) -> &'static str
 {
     match looks {
         Looks::Reading => " (an earlier line has this LUN and NUM)",
-        Looks::Info => " (an earlier line has this info)",
+        Looks::Info => " (one info each for sdr and sel)",
         _ => " (an earlier line has this record id)",
     }
 }

@@ -227,7 +227,7 @@ fn print_commands<E: MessageSink>(
         // otherwise it would wait for an image in silence
         let _ = say_line(
             err,
-            &[Text("reading an image from the terminal: --image FILE names a file")],
+            &[Text("reading an image from the terminal: a file needs --image FILE")],
         );
     }
     let writer = Watch::new(io::writer(rt), own.strict);

@@ -69,9 +69,12 @@ fn without_id<'a>(own: &Own, words: &'a [Word]) -> &'a [Word]
 }
 
 /// The rule against `--id` with these words.
-fn id_rule(words: &[Word]) -> Option<&'static str>
-    ensures { option_map (λ rule. rule.now) result ≡ id_rule words.now }
+fn id_rule(own: &Own, words: &[Word]) -> Option<&'static str>
+    ensures { option_map (λ rule. rule.now) result ≡ id_rule own.now words.now }
 {
+    if own.id.is_none() {
+        return None;
+    }
     if !is_sel_get(words) {
         return Some("--id goes only with 'sel get'");
     }
@@ -101,10 +104,7 @@ pub(crate) fn misplaced(own: &Own, words: &[Word]) -> Option<&'static str>
     if is_other_command(without_id(own, words)) {
         return None;
     }
-    if own.id.is_some() {
-        return id_rule(words);
-    }
-    capture_rule(own, words)
+    id_rule(own, words).or(capture_rule(own, words))
 }
 
 /// The rule against `--json` with what does not go with it, or against `--label` without it.

@@ -47,8 +47,8 @@ pub(crate) fn rule_of(option: &str) -> &'static str {
         "--from" => "four hex digits from 0001 to FFFE",
         "--part" => "a number from 1 to 254 (decimal without leading zeros)",
         "--tries" => "a number from 0 to 255 (decimal without leading zeros)",
-        "--id" => "one to four hex digits from 1 to FFFE",
-        "--live" => "ipmitool:FOLDER or freeipmi:FOLDER",
+        "--id" => "a hex id of 1 to 4 digits, 1 to FFFE",
+        "--live" => "TOOL:FOLDER: use serdimko-live",
         "--label" => "KEY=VALUE",
         _ => "a file",
     }
@@ -313,11 +313,19 @@ pub(crate) fn too_many<'a>(
         return unquoted(alloc, name);
     }
     let word = words.get(place).copied().unwrap_or("");
+    if is_option(word) {
+        let parts = [Text("'"), Name(word), Text("' is no option after --")];
+        return line(alloc, &parts);
+    }
+    let before = words.get(..place).unwrap_or(&[]);
+    if matches!(before, ["image", "rewrite"]) {
+        let rule = Text("': a file goes after --image");
+        return line(alloc, &[Text("unexpected '"), Name(word), rule]);
+    }
     let mut parts = line(
         alloc,
         &[Text("unexpected word '"), Name(word), Text("' after '")],
     )?;
-    let before = words.get(..place).unwrap_or(&[]);
     push_joined(&mut parts, before)?;
     parts.push(Text("'"))?;
     parts.push(Text(instead_after(before)))?;

@@ -170,7 +170,8 @@ impl<'a> Scan<'a> {
 
     /// The word is no option; perhaps it is a number below zero.
     fn unknown(&self, alloc: Global, word: &'a str) -> Result<Line<'a>, AllocError> {
-        match next_of(self.words.as_slice()) {
+        let next = next_of(self.words.as_slice());
+        match next {
             Next::Number(number) | Next::Count(number) if is_below_zero(word) => {
                 return not_a_number(alloc, number, word);
             }
@@ -178,7 +179,10 @@ impl<'a> Scan<'a> {
         }
         let near = nearest(alloc, word, &OPTIONS)?;
         let tool = option_of_tool(word);
-        let (before, name, after) = advice_on_option(near, tool);
+        let (before, name, after) = match (near, tool, next) {
+            (None, None, Next::Name) => ("put -- before names", "", ""),
+            _ => advice_on_option(near, tool),
+        };
         // a password is not shown
         let word = match (near, tool) {
             (None, Some("-P")) => "-P",

@@ -72,11 +72,7 @@ const FAULTS: [(ErrorKind, InputFault, &str); 5] = [
         InputFault::PermissionDenied,
         "permission denied",
     ),
-    (
-        ErrorKind::TimedOut,
-        InputFault::Other,
-        "can't be opened or read",
-    ),
+    (ErrorKind::TimedOut, InputFault::Other, "reason not known"),
 ];
 
 /// Asserts the fault of a reader that fails with this kind of error.
