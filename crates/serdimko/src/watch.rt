@@ -34,7 +34,13 @@ impl Taken {
 fn line_feeds(bytes: &[u8]) -> usize
     ensures { result ≡ count_by (λ byte. byte == 10) bytes.now }
 {
-    bytes.iter().filter(|byte| **byte == b'\n').count()
+    let mut count = 0;
+    'bytes: for byte in bytes {
+        if *byte == b'\n' {
+            count += 1;
+        }
+    }
+    count
 }
 
 /// A writer that counts lines among the bytes that it takes, and notes that it was closed.
