@@ -56,7 +56,7 @@ pub(crate) enum Looks {
 }
 
 /// The bytes before and after the first separator.
-fn cut(bytes: &[u8], separator: u8) -> Option<(&[u8], &[u8])>
+pub(crate) fn cut(bytes: &[u8], separator: u8) -> Option<(&[u8], &[u8])>
     ensures cut { MatchOption result (pieces separator bytes.now ≡ bytes.now ∷ [])
         (λ parts. pieces separator bytes.now ≡ parts.0.now ∷ pieces separator parts.1.now) }
     ensures shorter { IfSome result (λ parts. length parts.1.now < length bytes.now) }

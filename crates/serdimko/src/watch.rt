@@ -4,6 +4,7 @@ ghost use Rattle.std.specs.Borrow.{ftrue};
 ghost use Rattle.serdimko.specs.Watch.{lines_in, faults_in};
 
 use crate::fault_lines::FaultLines;
+use crate::looks::cut;
 use std::io::{ErrorKind, Result, Write};
 use std::marker::Model;
 
@@ -34,11 +35,11 @@ impl Taken {
 fn line_feeds(bytes: &[u8]) -> usize
     ensures { result ≡ count_by (λ byte. byte == 10) bytes.now }
 {
+    let mut rest = bytes;
     let mut count = 0;
-    'bytes: for byte in bytes {
-        if *byte == b'\n' {
-            count += 1;
-        }
+    'lines: while let Some((_, more)) = cut(rest, b'\n') {
+        count += 1;
+        rest = more;
     }
     count
 }
