@@ -2,14 +2,14 @@
 # Each line that `serdimko --json` prints over the examples is one JSON value, by Python and, if it is installed, by jq. Each has
 # exactly the keys that docs/json.md lists for its kind, in one order. There are as many objects as the text form has lines, with
 # the same readings and statuses, and the last one counts them. Labels and the names of images come last, and a label may have none
-# of the keys of docs/json.md.
+# of the keys of docs/json.md. Its examples, of each object, are printed as they stand there.
 # `tests/json.sh PROGRAM` tries that program; without a word the one of this repository is built first.
 set -uo pipefail
 [ $# -eq 0 ] || program=$(realpath "$1")
 cd "$(dirname "$0")/.." || exit 1
 [ $# -gt 0 ] || make -s build || exit 1
 python3 - "${program:-crates/serdimko/out/serdimko}" << 'END'
-import json, re, shutil, subprocess, sys
+import json, os, re, shutil, subprocess, sys, tempfile
 
 program = sys.argv[1]
 images = ['examples/server.image', 'examples/one-of-each.image', 'examples/three-rows.image']
@@ -62,11 +62,10 @@ inventory = {'object'}
 for row in rows('fru'):
     if re.fullmatch(r'(`\w+`(, )?)+', row[0]) and row[0].strip('`') not in ('dc_output', 'dc_load', 'management_access', 'other'):
         inventory |= set(re.findall(r'`(\w+)`', row[0]))
-examples = {}
-for line in re.findall(r'^\{.*\}$', page, re.M):
+examples, page_lines = {}, re.findall(r'^\{.*\}$', page, re.M)
+for line in page_lines:
     example = json.loads(line)
     examples[example['object']] = set(example)
-examples['sdr_info'] = examples['sel_info']
 
 
 def keys_of(line):
@@ -131,6 +130,38 @@ for image in images:
                     fault(what, line['name'], line['reading'], cells)
                 if 'name' in line and line['name'] != cells[0]:
                     fault(what, line['name'], cells)
+
+# The examples of the page, as the program prints them over an image of these rows. There is one of each object, and of each kind of
+# entry.
+page_rows = '''ipmi-image 1
+sdr 0001 0002 010051013320000103017f680101000000003838000100000100000000f00000000000005f5a550000000202000000c84350552054656d70
+sdr 0002 0003 020051110f200180000000000a0100c450535531
+sdr 0003 0008 0300510100
+sdr 0008 ffff 080051c003570100
+sel 0001 0002 01000200105e5f200004010101574746
+sel 0002 0003 0200c100100000570100010203040506
+sel 0003 0004 0300e00102030405060708090a0b0c0d
+sel 0004 ffff 0400030102030405060708090a0b0c0d
+fru 01 01000000010000fe010319c24142c0c2504ec0c2534ec0c0c25831c0c100000f
+reading 0 01 5cc01800
+info sdr 510400001000105e5fffffffff22
+info sel 510c00983a00105e5f0000000082
+end
+'''
+with tempfile.TemporaryDirectory() as folder:
+    name = os.path.join(folder, 'page.image')
+    with open(name, 'w') as file:
+        file.write(page_rows)
+    printed = set()
+    for command in [('sdr', 'list', 'all'), ('sdr', 'hex'), ('sel', 'list'), ('fru',), ('sdr', 'info'), ('sel', 'info')]:
+        printed.update(run('--image', name, '--json', *command)[1].split('\n'))
+for line in page_lines:
+    if line not in printed:
+        fault('docs/json.md has an example that is not printed:', line)
+kinds = {(example['object'], example.get('kind') if example['object'] == 'sel_entry' else None) for example in map(json.loads, page_lines)}
+others = ('sdr_record', 'sdr_raw', 'fru', 'sdr_info', 'sel_info', 'end')
+if kinds != {*((name, None) for name in others), *(('sel_entry', kind) for kind in entries)}:
+    fault('docs/json.md has no example of each object:', kinds)
 
 # Labels, and several images.
 status, out, said = run('--image', images[0], '--image', images[2], 'sdr', 'list', '--json', '--label', 'host=web 17', '--label=a==')

@@ -2,7 +2,8 @@
 """Prints the number of requests that a capture of the image $1 needs, in parts of $2 bytes: a reservation and an info for each
 shelf; for each sensor data record first the header, because it has the record's length, and then the rest in parts; each event
 in parts; the reading of each sensor of the controller with a full or compact record; and, for device 0 and each logical device
-of the controller with a locator, the size and the inventory in parts (IPMI v2.0, sections 33.12, 34.2 and 43)."""
+of the controller with a locator, the size and the inventory in parts, or the size twice if there is none (IPMI v2.0, sections
+33.12, 34.2 and 43)."""
 import sys
 
 HEADER = 5
@@ -28,5 +29,5 @@ needed = 2 + 2
 needed += sum(parts(HEADER) + parts(len(record) - HEADER) for record in records)
 needed += sum(parts(len(event)) for event in events)
 needed += len(sensors)
-needed += len(devices) + sum(parts(len(inventories.get(device, b""))) for device in devices)
+needed += sum(1 + parts(len(inventories[device])) if device in inventories else 2 for device in devices)
 print(needed)

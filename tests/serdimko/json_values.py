@@ -1,12 +1,14 @@
 """Compares `serdimko --json` with the text form, value by value, over the images that are given and 1,000 generated ones.
 
-All objects of a kind must have the same keys. tests/json.sh compares these with docs/json.md.
+All objects of a kind must have the same keys. tests/json.sh compares these with docs/json.md. If jq is installed, it must read each
+object as Python does.
 """
 import json
 import multiprocessing
 import os
 import random
 import re
+import shutil
 import subprocess
 import sys
 import tempfile
@@ -138,6 +140,14 @@ def cells_of(line):
     return [cell.strip() for cell in line.split(" | ")]
 
 
+def with_unit(line, value):
+    return f"{value} {line['unit'] or ''}".strip()
+
+
+def name_of(line):
+    return (line["name"] or "").strip()
+
+
 def told_reading(line):
     """The column of the text form that an object of a record means."""
     kind = line["kind"]
@@ -147,12 +157,12 @@ def told_reading(line):
         if line["status"] == "ns":
             return "no reading"
         if line["reading"] is not None:
-            return f"{line['reading']} {line['unit']}".strip()
+            return with_unit(line, line["reading"])
         return None
     if kind == "event_only":
         return "event only"
     if kind == "fru_locator":
-        return f"FRU {line['fru_device_id']}" if line["is_logical"] and line["device_address"] == 0x20 and line["access_lun"] == 0 else "elsewhere"
+        return f"FRU {line['fru_device_id']}" if line["is_logical"] and line["device_access_address"] == 0x20 and line["access_lun"] == 0 else "elsewhere"
     return None
 
 
@@ -165,13 +175,99 @@ def record_differs(line, shown):
     wanted = told_reading(line)
     if line["kind"] in ("full", "compact"):
         if wanted is None and reading.startswith("states 0x"):
-            wanted = f"states 0x{line['states']:04x}"
+            # Of a sensor with thresholds, the text form shows the reserved bits too.
+            mask = 0x3F if line["event_type"] == 1 else 0x7FFF
+            wanted, reading = line["states"], int(reading.removeprefix("states "), 16) & mask
         if wanted is None and reading.startswith("raw 0x"):
             wanted = f"raw 0x{line['reading_raw']:02x}"
             reading = reading[: len(wanted)]
         if status != line["status"]:
             return True
-    return line["name"].strip()[:16] != name.strip()[: len(line["name"].strip())][:16] or (wanted is not None and reading != wanted)
+    return name_of(line)[:16] != name.strip()[:16] or (wanted is not None and reading != wanted)
+
+
+# ---- sensors
+
+# The thresholds in the order of the columns of `sensor`.
+THRESHOLDS = (
+    "lower_non_recoverable", "lower_critical", "lower_non_critical", "upper_non_critical", "upper_critical", "upper_non_recoverable",
+)
+
+
+def is_raw(shown):
+    """The text form has the byte itself where readings have no value."""
+    return re.fullmatch(r"raw 0x[0-9a-f]{2}", shown) is not None
+
+
+def words_of_reading(line, shown):
+    """The column of the text form in words, or what it shows where an object has no such value."""
+    if line["status"] not in ("na", "ns") and line["state_words"] is not None and line["reading"] is None and not is_raw(shown):
+        return ", ".join(line["state_words"]) or "no state"
+    wanted = told_reading(line)
+    if wanted is not None:
+        return wanted
+    if shown.startswith("states 0x") and line["event_type"] == 1:
+        return shown if int(shown[7:], 16) & 0x3F == line["states"] else None
+    return f"raw 0x{line['reading_raw']:02x}"
+
+
+def thresholds_differ(line, columns):
+    if line["kind"] != "full":
+        return any(column != "-" for column in columns)
+    for key, column in zip(THRESHOLDS, columns):
+        if column != str(line[key]) and not (line[key] is None and (column == "-" or is_raw(column))):
+            return True
+    return False
+
+
+def sensor_differs(line, shown):
+    """A line of `sensor`."""
+    if line["kind"] not in ("full", "compact"):
+        return record_differs(line, shown)
+    cells = cells_of(shown)
+    if len(cells) != 11:
+        return True
+    name, number, entity, reading, status, *columns = cells
+    return thresholds_differ(line, columns) or [name, number, entity, reading, status] != [
+        name_of(line),
+        f"{line['sensor_number']:02X}h",
+        f"{line['entity_name']} {line['entity_instance']}",
+        words_of_reading(line, reading),
+        line["status_words"],
+    ]
+
+
+def block_differs(line, rows):
+    """A block of `sensor get`."""
+    shown = dict(row.split(": ", 1) for row in rows)
+    wanted = {
+        "Record": f"{line['record_id']:04X}h",
+        "Name": line["name"],
+        "Sensor": f"{line['sensor_number']:02X}h",
+        "Owner": f"{line['owner_id']:02X}h LUN {line['owner_lun']}",
+        "Entity": f"{line['entity_name']} {line['entity_instance']}",
+        "Kind": line["sensor_type_name"],
+        "Reading": words_of_reading(line, shown.get("Reading", "")),
+        "Status": line["status_words"],
+    }
+    shown.pop("Shared by", None)
+    for key in THRESHOLDS if line["kind"] == "full" else ():
+        label = key.replace("_", " ", 1).replace("_", "-").capitalize()
+        if line[key] is not None:
+            wanted[label] = with_unit(line, line[key])
+        elif is_raw(shown.get(label, "")):
+            del shown[label]
+    return shown != wanted
+
+
+def blocks_differ(lines, text):
+    blocks = [block.split("\n") for block in text.split("\n\n") if block]
+    pairs = [(line, rows) for line, rows in zip(lines, blocks) if line["kind"] in ("full", "compact")]
+    return len(blocks) != len(lines) or any(block_differs(line, rows) for line, rows in pairs)
+
+
+# ---- entries
+
 
 
 def entry_differs(line, shown):
@@ -180,15 +276,48 @@ def entry_differs(line, shown):
         return True
     if line["kind"] != "event":
         return f"0x{line['record_type']:02x}" not in cells[-1 if line["kind"] != "oem_timestamped" else 2] and f"0x{line['record_type']:02x}" not in shown
-    if line["timestamp"] is not None and cells[1] != line["timestamp"].replace("T", " ").rstrip("Z"):
-        return True
-    if line["timestamp"] is None and re.match(r"\d{4}-", cells[1]):
-        return True
-    return cells[2:] != [
+    return cells[1:] != [
+        time_of(line["timestamp"], line["timestamp_raw"]),
         f"{line['sensor_type_name']} #0x{line['sensor_number']:02x}",
         line["event"],
-        {"asserted": "Asserted", "deasserted": "Deasserted"}[line["direction"]],
+        line["direction"].capitalize(),
     ]
+
+
+def time_of(time, stamp):
+    """The text form of a time and its stamp."""
+    if time is not None:
+        return time.replace("T", " ").rstrip("Z")
+    return "unspecified" if stamp == 0xFFFFFFFF else f"+{stamp} s"
+
+
+def event_differs(line, shown):
+    """A line of `sel elist`."""
+    if line["kind"] != "event":
+        return entry_differs(line, shown)
+    offset = int(line["event_data"][:2], 16) % 16
+    wanted = [
+        f"{line['record_id']:04x}",
+        time_of(line["timestamp"], line["timestamp_raw"]),
+        (line["sensor_name"] or f"{line['sensor_type_name']} #0x{line['sensor_number']:02x}").strip(),
+        line["event_words"] or f"offset {offset} of type 0x{line['event_type']:02x}",
+        line["direction"].capitalize(),
+    ]
+    return cells_of(shown) != wanted + ([] if line["event_details"] is None else [line["event_details"]])
+
+
+# ---- infos
+
+
+def info_differs(lines, text):
+    wanted = "".join(
+        f"Version: 0x{line['version']:02x}\nRecords: {line['record_count']}\nFree Space: {line['free_space']}\n"
+        f"Last Addition: {time_of(line['last_addition'], line['last_addition_raw'])}\n"
+        f"Last Erase: {time_of(line['last_erase'], line['last_erase_raw'])}\n"
+        f"Overflow: {'yes' if line['overflow'] else 'no'}\nSupport: 0x{line['operation_support']:02x}\n"
+        for line in lines
+    )
+    return text != wanted
 
 
 # ---- inventories
@@ -209,7 +338,7 @@ LABELS = {
 def inventory_lines(line):
     """The lines of the text form that an object means, but for multirecords."""
     if line["state"] == "elsewhere":
-        return [f"FRU ({line['name']}): elsewhere, not read"]
+        return [f"FRU ({line['name'] or ''}): elsewhere, not read"]
     # The text form prints device 0 before it meets its locator, and so without a name.
     name = "" if line["name"] is None or line["fru_device_id"] == 0 else f" ({line['name']})"
     found = [f"FRU {line['fru_device_id']}{name}"]
@@ -242,7 +371,8 @@ def inventories_differ(lines, text):
     if len(shown) != len(lines):
         return True
     return any(
-        inventory_lines(line) != [row for row in rows if not is_of_records(row)] for line, rows in zip(lines, shown)
+        inventory_lines(line) != [row.replace(" ()", "", 1) if ":" not in row else row for row in rows if not is_of_records(row)]
+        for line, rows in zip(lines, shown)
     )
 
 
@@ -253,14 +383,34 @@ def objects(text):
     return [json.loads(line, parse_float=str) for line in text.splitlines()]
 
 
+def raw_rows_differ(lines, text):
+    rows = [f"sdr {line['record_id']:04x} {line['next_record_id']:04x} {line['raw']}" for line in lines]
+    return rows != text.split("\n")[1:-1] and rows != text.split("\n")[:-1]
+
+
+def lists_differ(differs):
+    """The comparison of a listing by one of its lines."""
+    return lambda lines, text: text.count("\n") != len(lines) or any(
+        differs(line, row) for line, row in zip(lines, text.split("\n"))
+    )
+
+
+COMMANDS = (
+    (("sdr", "list", "all"), lists_differ(record_differs)), (("sensor",), lists_differ(sensor_differs)),
+    (("sel", "list"), lists_differ(entry_differs)), (("sel", "elist"), lists_differ(event_differs)), (("fru",), inventories_differ),
+    (("sdr", "hex"), raw_rows_differ), (("sdr", "info"), info_differs), (("sel", "info"), info_differs),
+)
+
+
 def compare(name):
-    told, kinds = [], set()
-    for words, differs in (
-        (("sdr", "list", "all"), record_differs), (("sel", "list"), entry_differs), (("fru",), None), (("sdr", "hex"), None),
-        (("sdr", "info"), None), (("sel", "info"), None),
-    ):
+    """Compares the two forms of one image. Gives the differences, the kinds of objects with their keys, and the objects."""
+    told, kinds, outs = [], set(), {}
+    commands = list(COMMANDS)
+    while commands:
+        words, differ = commands.pop(0)
         status, text, message = run(name, *words)
         json_status, out, json_message = run(name, "--json", *words)
+        outs[words[:2]] = out
         lines = objects(out)
         kinds |= {(line["object"], line.get("kind"), tuple(line)) for line in lines}
         end = lines.pop() if lines else {}
@@ -269,18 +419,26 @@ def compare(name):
             told.append(f"{what}: {status} {message!r} {json_status} {json_message!r}")
         if end.get("count") != len(lines) or end["status"] != json_status or (end["message"] or "") != json_message.rstrip("\n"):
             told.append(f"{what}: {end}")
-        if differs:
-            shown = text.split("\n")[:-1]
-            if len(shown) != len(lines):
-                told.append(f"{what}: {len(lines)} objects and {len(shown)} lines")
-            told += [f"{what}: {line}\n  {row}" for line, row in zip(lines, shown) if differs(line, row)]
-        elif words == ("fru",) and inventories_differ(lines, text):
+        if differ(lines, text):
             told.append(f"{what}:\n{text}\n{out}")
-        elif words == ("sdr", "hex"):
-            rows = [f"sdr {line['record_id']:04x} {line['next_record_id']:04x} {line['raw']}" for line in lines]
-            if rows != text.split("\n")[1:-1] and rows != text.split("\n")[:-1]:
-                told.append(f"{what}:\n{text}\n{out}")
-    return told, kinds
+        if words == ("sensor",):
+            # one sensor by its name, if there is one
+            names = [line["name"] for line in lines if line["kind"] == "full" and line["name"]]
+            commands += [(("sensor", "get", name), blocks_differ) for name in names[:1]]
+    return told, kinds, outs
+
+
+def read_by_jq(outs):
+    """The differences between jq and Python on the objects of each command, which jq reads in one run."""
+    told = []
+    for words in sorted(set().union(*outs)) if shutil.which("jq") else ():
+        text = "".join(out.get(words, "") for out in outs)
+        done = subprocess.run(["jq", "-c", "."], input=text.encode(), capture_output=True)
+        ours, theirs = text.splitlines(), done.stdout.decode().splitlines()
+        same = len(ours) == len(theirs) and all(json.loads(a) == json.loads(b) for a, b in zip(ours, theirs))
+        if done.returncode or not same:
+            told.append(f"{' '.join(words)}: jq reads other values: {done.stderr.decode()}")
+    return told
 
 
 def main():
@@ -293,9 +451,9 @@ def main():
                 file.write(image(rng))
         with multiprocessing.Pool(4) as pool:
             found = pool.map(compare, names, chunksize=20)
-    told = [text for texts, _ in found for text in texts]
+    told = [text for texts, _, _ in found for text in texts] + read_by_jq([outs for _, _, outs in found])
     orders = {}
-    for object_, kind, keys in sorted(set().union(*(kinds for _, kinds in found)), key=str):
+    for object_, kind, keys in sorted(set().union(*(kinds for _, kinds, _ in found)), key=str):
         if orders.setdefault((object_, kind), keys) != keys:
             told.append(f"keys of {object_} {kind}: {keys} and {orders[object_, kind]}")
     for text in told[:MOST_TOLD]:

@@ -7,7 +7,7 @@ use Rattle.std.proofs.Math.ListN.{get_or-map}
 use Rattle.ipmi_capture.specs.Below.{Cycle, CycleAt, MissingAt, Ended, EndsBy, First, GaveUp, IsWalk, Malformed, Missing, Refused, Row, Seen, Shelf, Stalled, StaysHonest, WalkEnd, info_of, inventory_of, IsHonest, IsStore, reading_of, reading_in, rows_of, Sdr, Sel, SensorReading, stays_trans, Store, with_info, with_rows}
 use Rattle.ipmi_capture.specs.Capture.{devices_of, HasWalk, InventoryOrLeft, IsCaptureBut, IsCaptureOf, NoneOrSame, OwnInventories, OwnReadings, ReadingOrLeft, SameWalk, sensors_of, WalkOrLeft}
 use Rattle.ipmi_capture.specs.Named.{AreMarks, IsSensorKey, Names, sensor_place}
-use Rattle.ipmi_capture.specs.Phases.{Adds, AreRowsOf, AreWalk, CameOf, Captures, HasInventories, HasReadings, IsUnkept, IsUnread, PlainEnds, Walks}
+use Rattle.ipmi_capture.specs.Phases.{Adds, AreRowsOf, AreWalk, CameOf, Captures, HasInventories, HasReadings, IsUnkept, IsUnread, NoneIsFaulty, PlainEnds, Walks}
 use Rattle.ipmi_capture.specs.Left.{EndIsNoted, IsLeftOut, IsTrueOf, NotesEnd, LacksInfo, LacksInventory, LacksReading, LacksRecords, leaves_nothing, PlainLeaves, SameOrLeft}
 use Rattle.ipmi_capture.specs.declared.left.Left.{Left}
 use Rattle.std.specs.List.{Any, list_all}
@@ -92,6 +92,7 @@ module _ (left : List Left) (nothing : IsTrue (list_all leaves_nothing left)) wh
   no_records shelf (Left.Reading l n unread) lacks = refl
   no_records shelf (Left.Size i code) lacks = refl
   no_records shelf (Left.Empty i) lacks = refl
+  no_records shelf (Left.CutOff i) lacks = refl
   no_records shelf (Left.Inventory i ended) lacks = refl
 
   no_info : (shelf : Shelf) (l : Left) → LacksInfo shelf l → leaves_nothing l ≡ false
@@ -100,6 +101,7 @@ module _ (left : List Left) (nothing : IsTrue (list_all leaves_nothing left)) wh
   no_info shelf (Left.Reading l n unread) lacks = refl
   no_info shelf (Left.Size i code) lacks = refl
   no_info shelf (Left.Empty i) lacks = refl
+  no_info shelf (Left.CutOff i) lacks = refl
   no_info shelf (Left.Inventory i ended) lacks = refl
 
   no_reading : (lun number : ℕ) (l : Left) → LacksReading lun number l → leaves_nothing l ≡ false
@@ -108,6 +110,7 @@ module _ (left : List Left) (nothing : IsTrue (list_all leaves_nothing left)) wh
   no_reading lun number (Left.Reading l n unread) lacks = refl
   no_reading lun number (Left.Size i code) lacks = refl
   no_reading lun number (Left.Empty i) lacks = refl
+  no_reading lun number (Left.CutOff i) lacks = refl
   no_reading lun number (Left.Inventory i ended) lacks = refl
 
   no_inventory : (id : ℕ) (l : Left) → LacksInventory id l → leaves_nothing l ≡ false
@@ -116,6 +119,7 @@ module _ (left : List Left) (nothing : IsTrue (list_all leaves_nothing left)) wh
   no_inventory id (Left.Reading l n unread) lacks = refl
   no_inventory id (Left.Size i code) lacks = refl
   no_inventory id (Left.Empty i) lacks = refl
+  no_inventory id (Left.CutOff i) lacks = refl
   no_inventory id (Left.Inventory i ended) lacks = refl
 
   walk_of : (shelf : Shelf) (image store : Store) → WalkOrLeft shelf left image store
@@ -155,7 +159,7 @@ captures_walk {s = s} {s' = s'} shelf rows ended stays walks = record {
   grows = refl;
   counts = walks.counts;
   fact = λ same walk end is ends. by walk end ended (walks.along same walk end is ends);
-  told = λ same. All-cons (IsTrueOf s.store) (Left.Records shelf ended) [] (told ended (walks.along same)) (All-nil (IsTrueOf s.store));
+  told = λ same. All-cons (IsTrueOf s.store) (Left.Records shelf ended) [] (told ended (walks.none_faulty same) (walks.along same)) (All-nil (IsTrueOf s.store));
   plain = λ p all. All-cons (PlainLeaves s.store) (Left.Records shelf ended) []
       (fine ended (walks.plain p) (λ walk end is ends. walks.along (stays.plain_store p) walk end is ends)) (All-nil (PlainLeaves s.store));
 }
@@ -174,15 +178,15 @@ captures_walk {s = s} {s' = s'} shelf rows ended stays walks = record {
     by walk end (Stalled n) came = inr (came, any_of_one (LacksRecords shelf) (Left.Records shelf (Stalled n)) refl)
     by walk end (Malformed n) came = inr (came, any_of_one (LacksRecords shelf) (Left.Records shelf (Malformed n)) refl)
 
-    told : (e : Ended) → ((walk : List Row) (end : WalkEnd)
+    told : (e : Ended) → NoneIsFaulty (Some e) → ((walk : List Row) (end : WalkEnd)
         → IsWalk (rows_of shelf s.store) First walk → EndsBy (rows_of shelf s.store) First walk end
         → CameOf walk end rows (Some e)) → IsTrueOf s.store (Left.Records shelf e)
-    told (Cycle n) came = λ walk end is ends. (came walk end is ends).1
-    told (Missing n) came = λ walk end is ends. (came walk end is ends).1
-    told (GaveUp n) came = tt
-    told (Refused n code) came = tt
-    told (Stalled n) came = tt
-    told (Malformed n) came = tt
+    told (Cycle n) none came = λ walk end is ends. (came walk end is ends).1
+    told (Missing n) none came = λ walk end is ends. (came walk end is ends).1
+    told (GaveUp n) none came = tt
+    told (Refused n code) none came = tt
+    told (Stalled n) none came = none
+    told (Malformed n) none came = none
 
     fine : (e : Ended) → PlainEnds (Some e) → ((walk : List Row) (end : WalkEnd)
         → IsWalk (rows_of shelf s.store) First walk → EndsBy (rows_of shelf s.store) First walk end
@@ -325,6 +329,7 @@ out_info shelf image (Left.Info s unread) lacks none = rw lacks none
 out_info shelf image (Left.Reading l n unread) lacks none = absurd lacks
 out_info shelf image (Left.Size i code) lacks none = absurd lacks
 out_info shelf image (Left.Empty i) lacks none = absurd lacks
+out_info shelf image (Left.CutOff i) lacks none = absurd lacks
 out_info shelf image (Left.Inventory i ended) lacks none = absurd lacks
 
 out_reading : (lun number : ℕ) (image : Store) (l : Left) → LacksReading lun number l
@@ -334,6 +339,7 @@ out_reading lun number image (Left.Info s unread) lacks none = absurd lacks
 out_reading lun number image (Left.Reading l n unread) lacks none = rw (lacks.0, lacks.1) none
 out_reading lun number image (Left.Size i code) lacks none = absurd lacks
 out_reading lun number image (Left.Empty i) lacks none = absurd lacks
+out_reading lun number image (Left.CutOff i) lacks none = absurd lacks
 out_reading lun number image (Left.Inventory i ended) lacks none = absurd lacks
 
 out_inventory : (id : ℕ) (image : Store) (l : Left) → LacksInventory id l
@@ -343,6 +349,7 @@ out_inventory id image (Left.Info s unread) lacks none = absurd lacks
 out_inventory id image (Left.Reading l n unread) lacks none = absurd lacks
 out_inventory id image (Left.Size i code) lacks none = rw lacks none
 out_inventory id image (Left.Empty i) lacks none = rw lacks none
+out_inventory id image (Left.CutOff i) lacks none = rw lacks none
 out_inventory id image (Left.Inventory i ended) lacks none = rw lacks none
 
 module _ (image : Store) where

@@ -1,5 +1,5 @@
 -- Putting the readings of marked sensors and the inventories of marked devices into an image, one by one.
-use Rattle.std.proofs.Common.{◌≡◌, ℕ, ◌+◌, ◌*◌, ◌<◌, ◌≤◌, Bool, true, false, cond, IsTrue, ◌&&◌, ◌||◌, ◌==◌, nat_eq, Option, None, Some, Result, Ok, Err, IfOk, IfSome, OnOk, MatchOption, List, [], ◌∷◌, ◌++◌, length, slice_index_or, ◌⊎◌, inl, inr, All, refl, sym, ap, subst, ◌∙◌, arith}
+use Rattle.std.proofs.Common.{◌≡◌, ℕ, ◌+◌, ◌*◌, ◌<◌, ◌≤◌, Bool, true, false, cond, IsTrue, ◌&&◌, ◌||◌, ◌==◌, nat_eq, Option, None, Some, Result, Ok, Err, IfOk, IfSome, IsSome, OnOk, MatchOption, List, [], ◌∷◌, ◌++◌, length, slice_index_or, ◌⊎◌, inl, inr, All, refl, sym, ap, subst, ◌∙◌, arith, true≢false}
 use Rattle.std.specs.declared.alloc.AllocError.{AllocError}
 use Rattle.std.specs.List.{Any}
 use Rattle.std.specs.Option.{option_or, option_to_list}
@@ -11,7 +11,7 @@ use Rattle.ipmi_capture.specs.Below.{AsksAtMost, Cycle, Ended, GaveUp, Malformed
 use Rattle.ipmi_capture.specs.Capture.{InventoryOrLeft, NoneOrSame, OwnInventories, OwnReadings, ReadingOrLeft}
 use Rattle.ipmi_capture.specs.Left.{AreCounted, EndIsNoted, IsTrueOf, LacksInventory, LacksReading, LacksRecords, NotesEnd, PlainLeaves, refusals_for, refusals_in, SameOrLeft, unread_in, unread_of}
 use Rattle.ipmi_capture.specs.Named.{IsSensorKey, sensor_place}
-use Rattle.ipmi_capture.specs.Phases.{Adds, AreRowsOf, AreWalk, Captures, HasInventories, HasInventory, HasRead, HasReadings, IsNotPlain, IsRefusedAgain, IsUnkept, IsUnread, most_for_inventory}
+use Rattle.ipmi_capture.specs.Phases.{Adds, AreRowsOf, AreWalk, Captures, HasInventories, HasInventory, HasRead, HasReadings, CutOffIsIn, IsLeftBy, IsNotPlain, IsRefusedAgain, IsUnkept, IsUnread, most_for_inventory}
 use Rattle.ipmi_capture.specs.declared.left.Left.{Left}
 use Rattle.ipmi_capture.specs.declared.left.Unread.{Unread}
 use Rattle.ipmi_capture.proofs.CountLemmas.{counted_inventory, counted_less, counted_none, counted_nothing, counted_then, counted_value, counted_within}
@@ -80,13 +80,18 @@ told_unread store (Left.Records shelf (Cycle n)) unread is = absurd (none-some u
 told_unread store (Left.Records shelf (Missing n)) unread is = absurd (none-some unread is)
 told_unread store (Left.Records shelf (GaveUp n)) unread is = tt
 told_unread store (Left.Records shelf (Refused n code)) unread is = tt
-told_unread store (Left.Records shelf (Stalled n)) unread is = tt
-told_unread store (Left.Records shelf (Malformed n)) unread is = tt
+told_unread store (Left.Records shelf (Stalled n)) unread is = absurd (none-some unread is)
+told_unread store (Left.Records shelf (Malformed n)) unread is = absurd (none-some unread is)
 told_unread store (Left.Info shelf u) unread is = tt
 told_unread store (Left.Reading lun number u) unread is = tt
 told_unread store (Left.Size id code) unread is = tt
 told_unread store (Left.Empty id) unread is = absurd (none-some unread is)
-told_unread store (Left.Inventory id ended) unread is = tt
+told_unread store (Left.CutOff id) unread is = absurd (none-some unread is)
+told_unread store (Left.Inventory id FruEnded.Memory) unread is = absurd (none-some unread is)
+told_unread store (Left.Inventory id (FruEnded.Refused code)) unread is = tt
+told_unread store (Left.Inventory id FruEnded.GaveUp) unread is = tt
+told_unread store (Left.Inventory id FruEnded.Stalled) unread is = absurd (none-some unread is)
+told_unread store (Left.Inventory id FruEnded.Words) unread is = absurd (none-some unread is)
 
 one_told : (store : Store) (l : Left) → IsTrueOf store l → All (IsTrueOf store) (l ∷ [])
 one_told store l is = All-cons (IsTrueOf store) l [] is (All-nil (IsTrueOf store))
@@ -680,49 +685,126 @@ came_empty {s = s} {s' = s'} id bytes image none no_bytes reads = record {
     empty same = (reads.is same).1 ∙ ap Some no_bytes
 
 -- an inventory that was not read is left out, unless there is none
-pub left_inventory : {tries : ℕ} {s s' s'' : Seen} (id : ℕ) (ended : FruEnded)
+module _ {tries : ℕ} {s s' s'' : Seen} (id : ℕ) (ended : FruEnded) (image : Store)
+    (none : inventory_of id image ≡ None) (reads : ReadsInventory id tries s s' (Err ended))
+    (later : StaysHonest s' s'') (after : AreCounted 0 [] s' s'') where
+  -- CBh was answered, and the store has no such inventory
+  absent : ended ≡ FruEnded.Refused not_present → WithinTries tries s s'
+      × (s''.stores_added ≡ s.stores_added → inventory_of id s.store ≡ None)
+  absent is = (
+    within (rw is at reads.counts),
+    λ same. lacks (rw is at (reads.is (between s s' s'' reads.stays later same).0)),
+  )
+    where
+      within : InventoryCounts id tries s s' (Err (FruEnded.Refused not_present)) → WithinTries tries s s'
+      within counts = counts.0
+
+      lacks : InventoryIs id tries s s' (Err (FruEnded.Refused not_present)) → inventory_of id s.store ≡ None
+      lacks is = is.1
+
+  -- it was refused or given up
+  left_unread : (lacks : Left) → LacksInventory id lacks → IsNotPlain ended
+      → unread_in lacks ≡ unread_in (Left.Inventory id ended) → IsRefusedAgain s' s'' lacks
+      → Captures tries s s'' [] (lacks ∷ []) (InventoryOrLeft (lacks ∷ []) image s.store id)
+  left_unread lacks of_id not_plain unread again = record {
+    more = lacks ∷ [];
+    grows = refl;
+    counts = counted_inventory id lacks ended unread not_plain reads.counts after again;
+    fact = λ same. inr (none, any_of_one (LacksInventory id) lacks of_id);
+    told = λ same. one_told s.store lacks (told ended unread not_plain reads.counts);
+    plain = λ p all. absurd (not_plain (reads.plain p).0);
+  }
+    where
+      told : (e : FruEnded) → unread_in lacks ≡ unread_in (Left.Inventory id e) → IsNotPlain e
+          → InventoryCounts id tries s s' (Err e) → IsTrueOf s.store lacks
+      told FruEnded.Memory is not counts = absurd (not tt)
+      told FruEnded.GaveUp is not counts = told_unread s.store lacks Unread.GaveUp is
+      told (FruEnded.Refused code) is not counts = told_unread s.store lacks (Unread.Refused code) is
+      told FruEnded.Stalled is not counts = absurd counts
+      told FruEnded.Words is not counts = absurd counts
+
+  -- from a store that stays, an inventory that is absent is not cut off
+  never_cut : ended ≡ FruEnded.Refused not_present → IsSome (inventory_of id s''.store)
+      → s''.stores_added ≡ s.stores_added → ⊥
+  never_cut is there same =
+      let parts = between s s' s'' reads.stays later same in
+      let store : s''.store ≡ s.store = later.store.stays parts.1 ∙ reads.stays.store.stays parts.0 in
+      no_some (inventory_of id s''.store) there (ap (inventory_of id) store ∙ (absent is).1 same)
+    where
+      no_some : (o : Option (List ℕ)) → IsSome o → o ≡ None → ⊥
+      no_some None is none = absurd (true≢false (sym is))
+      no_some (Some bytes) is none = none-some bytes (sym none)
+
+  left_cut : ended ≡ FruEnded.Refused not_present → IsSome (inventory_of id s''.store)
+      → Captures tries s s'' [] (Left.CutOff id ∷ []) (InventoryOrLeft (Left.CutOff id ∷ []) image s.store id)
+  left_cut is there = record {
+    more = Left.CutOff id ∷ [];
+    grows = refl;
+    counts = counted_nothing (Left.CutOff id) refl refl (counted_then [] [] (counted_within (absent is).0) (counted_less after));
+    fact = λ same. inr (none, any_of_one (LacksInventory id) (Left.CutOff id) refl);
+    told = λ same. absurd (never_cut is there same);
+    plain = λ p all.
+        let once = reads.stays.plain_store p in
+        let twice = later.plain_store (reads.stays.plain p) in
+        absurd (never_cut is there (twice ∙ once));
+  }
+
+  left_one : (failure : Option ℕ) (lacks : Left) → IsLeftBy id ended failure lacks → IsRefusedAgain s' s'' lacks
+      → CutOffIsIn s''.store lacks
+      → Captures tries s s'' [] (lacks ∷ []) (InventoryOrLeft (lacks ∷ []) image s.store id)
+  left_one failure (Left.Records shelf e) left again there = absurd left
+  left_one failure (Left.Info shelf unread) left again there = absurd left
+  left_one failure (Left.Reading lun number unread) left again there = absurd left
+  left_one failure (Left.Empty i) left again there = absurd left
+  left_one failure (Left.CutOff i) left again there =
+      subst (λ (x : ℕ). Captures tries s s'' [] (Left.CutOff x ∷ []) (InventoryOrLeft (Left.CutOff x ∷ []) image s.store id)) (sym left.0)
+      (left_cut left.1 (subst (λ (x : ℕ). IsSome (inventory_of x s''.store)) left.0 there))
+  left_one failure (Left.Size i code) left again there =
+      left_unread (Left.Size i code) left.0 left.1 (ap (λ (e : FruEnded). unread_in (Left.Inventory id e)) (sym left.2)) again
+  left_one failure (Left.Inventory i e) left again there =
+      left_unread (Left.Inventory i e) left.0 left.1 (same_unread e ended left.2) again
+    where
+      by_end : (a : FruEnded) → unread_in (Left.Inventory i a) ≡ unread_in (Left.Inventory id a)
+      by_end FruEnded.Memory = refl
+      by_end (FruEnded.Refused code) = refl
+      by_end FruEnded.GaveUp = refl
+      by_end FruEnded.Stalled = refl
+      by_end FruEnded.Words = refl
+
+      same_unread : (a b : FruEnded) → a ≡ b → unread_in (Left.Inventory i a) ≡ unread_in (Left.Inventory id b)
+      same_unread a b is = by_end a ∙ ap (λ (e : FruEnded). unread_in (Left.Inventory id e)) is
+
+pub left_inventory : {tries : ℕ} {s s' s'' : Seen} (id : ℕ) (ended : FruEnded) (failure : Option ℕ)
     (result : Result (Option Left) AllocError) (image : Store) → inventory_of id image ≡ None
     → ReadsInventory id tries s s' (Err ended) → StaysHonest s' s'' → AreCounted 0 [] s' s''
-    → IfOk result (λ o. MatchOption o (ended ≡ FruEnded.Refused not_present)
-    (λ left. LacksInventory id left × IsNotPlain ended × (unread_in left ≡ unread_in (Left.Inventory id ended))))
-    → IfOk result (λ o. IfSome o (IsRefusedAgain s' s'')) → IfOk result (λ o. Captures tries s s'' [] (option_to_list o)
+    → IfOk result (λ o. MatchOption o (ended ≡ FruEnded.Refused not_present) (IsLeftBy id ended failure))
+    → IfOk result (λ o. IfSome o (IsRefusedAgain s' s'')) → IfOk result (λ o. IfSome o (CutOffIsIn s''.store))
+    → IfOk result (λ o. Captures tries s s'' [] (option_to_list o)
     (InventoryOrLeft (option_to_list o) image s.store id))
-left_inventory id ended (Err e) image none reads later after left again = tt
-left_inventory {tries = tries} {s = s} {s' = s'} {s'' = s''} id ended (Ok None) image none reads later after left again =
-    nothing_left [] (counted_then [] [] (counted_within (counts (rw left at reads.counts))) (counted_less after))
-    (λ same. inl (none ∙ sym (absent (rw left at ((reads.is (between s s' s'' reads.stays later same).0))))))
-  where
-    absent : InventoryIs id tries s s' (Err (FruEnded.Refused not_present)) → inventory_of id s.store ≡ None
-    absent is = is.1
+left_inventory id ended failure (Err e) image none reads later after left again there = tt
+left_inventory id ended failure (Ok None) image none reads later after left again there =
+    let gone = absent id ended image none reads later after left in
+    nothing_left [] (counted_then [] [] (counted_within gone.0) (counted_less after)) (λ same. inl (none ∙ sym (gone.1 same)))
+left_inventory id ended failure (Ok (Some lacks)) image none reads later after left again there =
+    left_one id ended image none reads later after failure lacks left again there
 
-    counts : InventoryCounts id tries s s' (Err (FruEnded.Refused not_present)) → WithinTries tries s s'
-    counts is = is.0
-left_inventory {tries = tries} {s = s} {s' = s'} id ended (Ok (Some lacks)) image none reads later after left again = record {
-  more = lacks ∷ [];
-  grows = refl;
-  counts = counted_inventory id lacks ended left.2 left.1 reads.counts after again;
-  fact = λ same. inr (none, any_of_one (LacksInventory id) lacks left.0);
-  told = λ same. one_told s.store lacks (told ended left.2 left.1 reads.counts);
-  plain = λ p all. absurd (left.1 (reads.plain p).0);
-}
-  where
-    told : (e : FruEnded) → unread_in lacks ≡ unread_in (Left.Inventory id e) → IsNotPlain e
-        → InventoryCounts id tries s s' (Err e) → IsTrueOf s.store lacks
-    told FruEnded.Memory is not counts = absurd (not tt)
-    told FruEnded.GaveUp is not counts = told_unread s.store lacks Unread.GaveUp is
-    told (FruEnded.Refused code) is not counts = told_unread s.store lacks (Unread.Refused code) is
-    told FruEnded.Stalled is not counts = absurd counts
-    told FruEnded.Words is not counts = absurd counts
+lacks_by : (id : ℕ) (ended : FruEnded) (failure : Option ℕ) (l : Left) → IsLeftBy id ended failure l → LacksInventory id l
+lacks_by id ended failure (Left.Records shelf e) left = absurd left
+lacks_by id ended failure (Left.Info shelf unread) left = absurd left
+lacks_by id ended failure (Left.Reading lun number unread) left = absurd left
+lacks_by id ended failure (Left.Size i code) left = left.0
+lacks_by id ended failure (Left.Empty i) left = absurd left
+lacks_by id ended failure (Left.CutOff i) left = left.0
+lacks_by id ended failure (Left.Inventory i e) left = left.0
 
 -- the item left out is of this device, and is not in the image
-pub lacks_left : (id : ℕ) (ended : FruEnded) (result : Result (Option Left) AllocError)
+pub lacks_left : (id : ℕ) (ended : FruEnded) (failure : Option ℕ) (result : Result (Option Left) AllocError)
     (image : Store) → inventory_of id image ≡ None
-    → IfOk result (λ o. MatchOption o (ended ≡ FruEnded.Refused not_present)
-    (λ left. LacksInventory id left × IsNotPlain ended × (unread_in left ≡ unread_in (Left.Inventory id ended))))
+    → IfOk result (λ o. MatchOption o (ended ≡ FruEnded.Refused not_present) (IsLeftBy id ended failure))
     → IfOk result (λ o. IfSome o (λ l. LacksInventory id l × (inventory_of id image ≡ None)))
-lacks_left id ended (Err e) image none left = tt
-lacks_left id ended (Ok None) image none left = tt
-lacks_left id ended (Ok (Some l)) image none left = (left.0, none)
+lacks_left id ended failure (Err e) image none left = tt
+lacks_left id ended failure (Ok None) image none left = tt
+lacks_left id ended failure (Ok (Some l)) image none left = (lacks_by id ended failure l left, none)
 
 -- ---- all phases
 

@@ -13,7 +13,7 @@ use Rattle.ipmi_bus.proofs.ShelfLemmas.{look_row}
 use Rattle.ipmi_bus.proofs.WalkLaws.{has_walk}
 use Rattle.ipmi_capture.specs.Below.{asked_at, AsksAtMost, Cycle, cycle_at, CursorHoldsCurrent, CursorState, digits, End, Id, id_in, has_id, handed_id, may_follow, NotGivenUpOrRefused, Place, place_after, place_after_rows, StepAnswers, StepIsHonest, StepIsPlain, store_shelf, whole_len, Ended, EndsBy, First, first_row, GaveUp, HandsOut, IsHonest, IsStep, IsWalk, largest_len, Malformed, Missing, Refused, Row, rows_of, Sdr, Seen, Sel, Shelf, StandsAt, Stalled, stays_refl, stays_trans, StaysHonest, step_call_bound, Store, WalkEnd, WalkStep, with_rows, WithinTries}
 use Rattle.ipmi_capture.specs.Left.{AreCounted}
-use Rattle.ipmi_capture.specs.Phases.{CameOf, most_on_walk, PlainEnds, Walks}
+use Rattle.ipmi_capture.specs.Phases.{CameOf, most_on_walk, NoneIsFaulty, PlainEnds, Walks}
 use Rattle.ipmi_capture.specs.declared.left.Left.{Left}
 use Rattle.std.specs.Option.{option_to_list}
 use Rattle.ipmi_capture.proofs.CountLemmas.{counted_less, counted_none, counted_nothing, counted_record, counted_then, counted_within}
@@ -195,10 +195,19 @@ module _ {shelf : Shelf} {part tries : ℕ} {s s' s'' : Seen} {now next : Cursor
       → Walks shelf tries s s'' (rows_of shelf new) (Some ended)
   came_ended ended is h = record {
     along = λ same walk end walks ends. by walk end ended (stepped h same walk end walks ends).0 (rw is at (stepped h same walk end walks ends).1);
+    none_faulty = λ same. well ended (rw is at (step_honest h).answers);
     plain = λ p. fine ended (rw is at (step_honest h).answers) (rw is at (step_plain h p).fine);
     counts = counted_then [] (Left.Records shelf ended ∷ []) (walked.counts h) (counted_record shelf now ended walked.tries_are (rw is at (step_honest h).answers));
   }
     where
+      well : (e : Ended) → StepAnswers now s' s'' (Err e) → NoneIsFaulty (Some e)
+      well (Cycle n) answers = tt
+      well (Missing n) answers = tt
+      well (GaveUp n) answers = tt
+      well (Refused n code) answers = tt
+      well (Stalled n) answers = answers
+      well (Malformed n) answers = answers
+
       fine : (e : Ended) → StepAnswers now s' s'' (Err e) → NotGivenUpOrRefused {V = Option Row} (Err e) → PlainEnds (Some e)
       fine (Cycle n) answers given = tt
       fine (Missing n) answers given = tt
@@ -224,6 +233,7 @@ module _ {shelf : Shelf} {part tries : ℕ} {s s' s'' : Seen} {now next : Cursor
         let at = stepped h same walk end walks ends in
         let step = rw is at at.1 in
         (all_rows walk (rows_of shelf new) at.0 step.0, step.1);
+    none_faulty = λ same. tt;
     plain = λ p. tt;
     counts = counted_then [] [] (walked.counts h) (counted_within (none (rw is at (step_honest h).answers)));
   }
@@ -238,16 +248,16 @@ module _ {shelf : Shelf} {part tries : ℕ} {s s' s'' : Seen} {now next : Cursor
       one : StepAnswers now s' s'' (Ok (Some row)) → WithinTries now.tries s' s''
       one answers = answers.0
 
-  -- over a plain controller the record may follow the earlier ones
-  may_put : IsHonest s → IsTrue s.plain → (row : Row) → result ≡ Ok (Some row)
+  -- from a store that stays, the record may follow the earlier ones
+  may_put : IsHonest s → s''.stores_added ≡ s.stores_added → (row : Row) → result ≡ Ok (Some row)
       → may_follow shelf (rows_of shelf new) row ≡ true
-  may_put h p row is =
+  may_put h same row is =
       let before = walked.stays h in
+      let later = step_honest h in
       let there = has_walk shelf (rows_of shelf s.store) First (store_shelf shelf s.store h.store) in
-      let at = walked.along h (before.plain_store p) there.0 there.1 there.2 there.3 in
+      let at = walked.along h (between s s' s'' before later.stays same).0 there.0 there.1 there.2 there.3 in
       let hands = (rw is at step.leaves).1 in
       let none = (rw is at step.leaves).0 in
-      let later = step_honest h in
       let looked = rw is at later.answers in
       let row_is = look_row shelf (rows_of shelf s''.store) (asked_at now.place) row (store_shelf shelf s''.store later.stays.honest.store) (rw walked.shelf_is at looked.1) in
       let place = place_now (rows_of shelf s.store) now.place (place_after_rows First (rows_of shelf new)) (rw (sym at.0) at at.1.place) hands.not_at_end in
@@ -261,7 +271,11 @@ module _ {shelf : Shelf} {part tries : ℕ} {s s' s'' : Seen} {now next : Cursor
       → IsHonest s → Walks shelf tries s s'' (rows_of shelf new) (Some (Malformed n))
   came_malformed n {row = row} is left h = record {
     along = λ same walk end walks ends. (stepped h same walk end walks ends).0;
-    plain = λ p. absurd (true≢false (sym (may_put h p row is) ∙ left));
+    none_faulty = λ same. absurd (true≢false (sym (may_put h same row is) ∙ left));
+    plain = λ p.
+        let before = walked.stays h in
+        let same = (step_honest h).stays.plain_store (before.plain p) ∙ before.plain_store p in
+        absurd (true≢false (sym (may_put h same row is) ∙ left));
     counts = counted_nothing (Left.Records shelf (Malformed n)) refl refl (came_record is h);
   }
 
@@ -358,6 +372,9 @@ module _ {shelf : Shelf} {part tries times : ℕ} {s s' s'' : Seen} {old now new
         let parts = between s s' s'' before (stays before.honest) same in
         let rows : rows_of shelf s'.store ≡ rows_of shelf s.store = ap (rows_of shelf) (before.store.stays parts.0) in
         (rw rows at ((walks before.honest).along parts.1 walk end)) is ends;
+    none_faulty = λ same.
+        let before = again.stays h in
+        (walks before.honest).none_faulty (between s s' s'' before (stays before.honest) same).1;
     plain = λ p. let before = again.stays h in (walks before.honest).plain (before.plain p);
     counts = counted_then [] (map (Left.Records shelf) (option_to_list ended)) (again.counts h) (walks (again.stays h).honest).counts;
   }

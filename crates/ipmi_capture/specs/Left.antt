@@ -2,7 +2,7 @@
 -- their lines.
 use Rattle.std.specs.Prelude.{◌≡◌, ℕ, ◌+◌, ◌≤◌, All, Bool, true, false, codes, decimal, Option, None, Some, List, [], ◌++◌, ◌⊎◌}
 use Rattle.std.specs.List.{Any, sum_by}
-use Rattle.ipmi_capture.specs.Below.{byte_h, Cycle, CycleAt, Done, Ended, ended_text, EndsBy, First, FruEnded, GaveUp, hex_byte, info_of, inventory_of, IsWalk, Missing, MissingAt, reading_of, Refused, Row, rows_of, Sdr, Seen, Sel, Shelf, Store, WalkEnd}
+use Rattle.ipmi_capture.specs.Below.{byte_h, Cycle, CycleAt, Done, Ended, ended_text, EndsBy, First, FruEnded, GaveUp, hex_byte, info_of, inventory_of, IsWalk, Malformed, Missing, MissingAt, reading_of, Refused, Row, rows_of, Sdr, Seen, Sel, Shelf, Stalled, Store, WalkEnd}
 use Rattle.ipmi_capture.specs.declared.left.Left.{Left}
 use Rattle.ipmi_capture.specs.declared.left.Unread.{Unread}
 
@@ -41,6 +41,7 @@ LacksReading lun number _ = ⊥
 abbrev pub LacksInventory : ℕ → Left → Type 0
 LacksInventory id (Left.Size i code) = i ≡ id
 LacksInventory id (Left.Empty i) = i ≡ id
+LacksInventory id (Left.CutOff i) = i ≡ id
 LacksInventory id (Left.Inventory i ended) = i ≡ id
 LacksInventory id _ = ⊥
 
@@ -51,6 +52,7 @@ IsLeftOut image (Left.Info shelf unread) = info_of shelf image ≡ None
 IsLeftOut image (Left.Reading lun number unread) = reading_of lun number image ≡ None
 IsLeftOut image (Left.Size id code) = inventory_of id image ≡ None
 IsLeftOut image (Left.Empty id) = inventory_of id image ≡ None
+IsLeftOut image (Left.CutOff id) = inventory_of id image ≡ None
 IsLeftOut image (Left.Inventory id ended) = inventory_of id image ≡ None
 
 -- the item only notes an end, and no records are missing
@@ -81,11 +83,18 @@ WalkEndsBy shelf store by = (walk : List Row) (end : WalkEnd)
     → IsWalk (rows_of shelf store) First walk → EndsBy (rows_of shelf store) First walk end
     → end ≡ by
 
--- an end noted of a walk, and an inventory noted as empty, is true of the store
+-- An end noted of a walk, and an inventory noted as empty, is true of the store. From a store that stays, no record stalls or is
+-- malformed, and no inventory is cut off, stalls, uses words, or is noted as out of memory.
 abbrev pub IsTrueOf : Store → Left → Type 0
 IsTrueOf store (Left.Records shelf (Cycle n)) = WalkEndsBy shelf store (CycleAt n)
 IsTrueOf store (Left.Records shelf (Missing n)) = WalkEndsBy shelf store (MissingAt n)
+IsTrueOf store (Left.Records shelf (Stalled n)) = ⊥
+IsTrueOf store (Left.Records shelf (Malformed n)) = ⊥
 IsTrueOf store (Left.Empty id) = inventory_of id store ≡ Some []
+IsTrueOf store (Left.CutOff id) = ⊥
+IsTrueOf store (Left.Inventory id FruEnded.Stalled) = ⊥
+IsTrueOf store (Left.Inventory id FruEnded.Words) = ⊥
+IsTrueOf store (Left.Inventory id FruEnded.Memory) = ⊥
 IsTrueOf store _ = Unit {0}
 
 -- over a plain controller, the only items are true ends of walks and empty inventories
@@ -126,13 +135,18 @@ abbrev pub HasCode : ℕ → Option Unread → Type 0
 HasCode last (Some (Unread.Refused code)) = code.0 ≡ last
 HasCode last _ = Unit {0}
 
--- The counts include the troubles of each item given up, and each refusal, two for a size. Without a refusal the last code is
--- unchanged. After exactly one refusal, the refused item has the last code.
+abbrev pub SizeHasCode : ℕ → Left → Type 0
+SizeHasCode last (Left.Size id code) = code.0 ≡ last
+SizeHasCode last _ = Unit {0}
+
+-- The counts include the troubles of all items given up, and all their refusals, two for a size. Without a refusal the last code
+-- is unchanged. After exactly one refusal, the refused item has the last code. After exactly two, a size has it.
 pub record AreCounted (tries : ℕ) (left : List Left) (s s' : Seen) : Type 0 where
   pub troubles : s.troubles + sum_by (λ l. troubles_for tries (unread_in l)) left ≤ s'.troubles
   pub refusals : s.refusals + sum_by refusals_in left ≤ s'.refusals
   pub none : s'.refusals ≡ s.refusals → s'.last_code ≡ s.last_code
   pub one : s'.refusals ≡ s.refusals + 1 → All (λ l. HasCode s'.last_code (unread_in l)) left
+  pub two : s'.refusals ≡ s.refusals + 2 → All (SizeHasCode s'.last_code) left
 
 -- ---- lines
 
@@ -161,4 +175,5 @@ left_text (Left.Reading lun number unread) =
 left_text (Left.Size id code) =
     codes "fru " ++ (hex_byte id ++ (codes ": size " ++ unread_text (Unread.Refused code)))
 left_text (Left.Empty id) = codes "fru " ++ (hex_byte id ++ codes ": empty")
+left_text (Left.CutOff id) = codes "fru " ++ (hex_byte id ++ codes ": cut off")
 left_text (Left.Inventory id ended) = codes "fru " ++ (hex_byte id ++ (codes ": " ++ fru_ended_text ended))

@@ -1,10 +1,10 @@
 -- The effect of each phase of a capture, for the contracts of private functions.
-use Rattle.std.specs.Prelude.{◌≡◌, ◌≢◌, ℕ, ◌+◌, ◌*◌, ◌<◌, ◌≤◌, ◌==◌, ◌||◌, IsTrue, Bool, false, true, Option, Some, None, Err, List, ◌++◌, All, map, take, length, slice_index_or, ◌⊎◌}
+use Rattle.std.specs.Prelude.{◌≡◌, ◌≢◌, ℕ, ◌+◌, ◌*◌, ◌<◌, ◌≤◌, ◌==◌, ◌||◌, IsSome, IsTrue, Bool, false, true, Option, Some, None, Err, List, ◌++◌, All, map, take, length, slice_index_or, ◌⊎◌}
 use Rattle.std.specs.List.{Any}
 use Rattle.std.specs.Option.{option_to_list}
-use Rattle.ipmi_capture.specs.Below.{Code, Cycle, CycleAt, Done, Ended, EndsBy, First, FruEnded, fru_call_bound, inventory_of, IsWalk, largest_len, Missing, MissingAt, PlainMayAnswer, Reading, reading_of, Row, rows_of, Sdr, Seen, Sel, Shelf, step_call_bound, Store, WalkEnd, with_inventory, with_reading}
+use Rattle.ipmi_capture.specs.Below.{Code, Cycle, CycleAt, Done, Ended, EndsBy, First, FruEnded, fru_call_bound, inventory_of, IsWalk, largest_len, Malformed, Missing, MissingAt, not_present, PlainMayAnswer, Reading, reading_of, Row, rows_of, Sdr, Seen, Sel, Shelf, Stalled, step_call_bound, Store, WalkEnd, with_inventory, with_reading}
 use Rattle.ipmi_capture.specs.Capture.{InventoryOrLeft, OwnInventories, OwnReadings, ReadingOrLeft}
-use Rattle.ipmi_capture.specs.Left.{AreCounted, EndIsNoted, IsTrueOf, LacksInventory, LacksReading, LacksRecords, PlainLeaves, refusals_for, refusals_in, unread_in}
+use Rattle.ipmi_capture.specs.Left.{AreCounted, EndIsNoted, IsTrueOf, LacksInventory, LacksReading, LacksRecords, PlainLeaves, refusals_for, refusals_in, SizeHasCode, unread_in}
 use Rattle.ipmi_capture.specs.Named.{IsSensorKey, sensor_place}
 use Rattle.ipmi_capture.specs.declared.left.Left.{Left}
 
@@ -65,11 +65,18 @@ PlainEnds (Some (Cycle n)) = Unit {0}
 PlainEnds (Some (Missing n)) = Unit {0}
 PlainEnds (Some ended) = ⊥
 
+-- from a store that stays, no record stalls or is malformed
+abbrev pub NoneIsFaulty : Option Ended → Type 0
+NoneIsFaulty (Some (Stalled n)) = ⊥
+NoneIsFaulty (Some (Malformed n)) = ⊥
+NoneIsFaulty ended = Unit {0}
+
 -- a shelf was read; if no store is added, along its walk
 pub record Walks (shelf : Shelf) (tries : ℕ) (s s' : Seen) (rows : List Row) (ended : Option Ended) : Type 0 where
   pub along : s'.stores_added ≡ s.stores_added → (walk : List Row) (end : WalkEnd)
       → IsWalk (rows_of shelf s.store) First walk → EndsBy (rows_of shelf s.store) First walk end
       → CameOf walk end rows ended
+  pub none_faulty : s'.stores_added ≡ s.stores_added → NoneIsFaulty ended
   pub plain : IsTrue s.plain → PlainEnds ended
   pub counts : AreCounted tries (map (Left.Records shelf) (option_to_list ended)) s s'
 
@@ -96,21 +103,33 @@ pub record HasInventories (marks : List Bool) (left : List Left) (image store : 
       → InventoryOrLeft left image store id
   pub own : OwnInventories image store
 
--- the item left out after an inventory was refused with this code and its size was requested again: the size, if that call failed
--- with the same code; otherwise the inventory
-abbrev pub IsLeftByRefusal : Code → Option ℕ → Left → Type 0
-IsLeftByRefusal code failure (Left.Size id c) = (c ≡ code) × (failure ≡ Some code.0)
-IsLeftByRefusal code failure (Left.Inventory id ended) =
-    (ended ≡ FruEnded.Refused code) × (failure ≢ Some code.0)
-IsLeftByRefusal code failure left = ⊥
-
--- there were as many refusals as the item stands for, besides the one already counted
-abbrev pub IsRefusedAgain : Seen → Seen → Left → Type 0
-IsRefusedAgain s s' left = s.refusals + refusals_in left ≤ s'.refusals + refusals_for (unread_in left)
-
 -- over a plain controller, reading an inventory does not end this way
 abbrev pub IsNotPlain : FruEnded → Type 0
 IsNotPlain ended = PlainMayAnswer (Err ended) → ⊥
+
+-- The item left out if reading the inventory ended this way, and the failure of the last call. After a refusal the size was
+-- requested again: it is refused if that call failed with the same code, and after CBh the inventory is cut off if it succeeded.
+abbrev pub IsLeftBy : ℕ → FruEnded → Option ℕ → Left → Type 0
+IsLeftBy id ended failure (Left.Size i code) =
+    (i ≡ id) × IsNotPlain ended × (ended ≡ FruEnded.Refused code) × (failure ≡ Some code.0)
+IsLeftBy id ended failure (Left.CutOff i) = (i ≡ id) × (ended ≡ FruEnded.Refused not_present) × (failure ≡ None)
+IsLeftBy id ended failure (Left.Inventory i e) = (i ≡ id) × IsNotPlain ended × (e ≡ ended)
+IsLeftBy id ended failure left = ⊥
+
+-- the inventory was refused with this code, and its size was not
+abbrev pub IsNotSize : Code → Option ℕ → Left → Type 0
+IsNotSize code failure (Left.Inventory id ended) = failure ≢ Some code.0
+IsNotSize code failure left = Unit {0}
+
+-- there were as many refusals as the item counts, besides the one already counted, and a size has the code of the last one
+abbrev pub IsRefusedAgain : Seen → Seen → Left → Type 0
+IsRefusedAgain s s' left = (s.refusals + refusals_in left ≤ s'.refusals + refusals_for (unread_in left))
+    × SizeHasCode s'.last_code left
+
+-- an inventory that is cut off is in the store
+abbrev pub CutOffIsIn : Store → Left → Type 0
+CutOffIsIn store (Left.CutOff id) = IsSome (inventory_of id store)
+CutOffIsIn store left = Unit {0}
 
 -- ---- calls, over any controller
 

@@ -89,10 +89,11 @@ fn note_info<C: Controller>(
 /// device 0, and once each the readings of the sensors and the inventories of the devices that records name. A request is
 /// for at most `part` bytes. Each item may have `tries` troubles. After a refusal it continues with the next item.
 ///
-/// Over any controller, an item left out is not in the image. An honest controller counted `tries` + 1 troubles for each
-/// item given up, one refusal for each refused item, and two for a size. If it adds no store meanwhile, the image has exactly
-/// the controller's items, except those left out. A walk that does not end with FFFFh is noted with its end. Such an end is
-/// true of the store, and so is an inventory noted as empty. If nothing was left out, the image is a capture. Over a plain
+/// Over any controller, an item left out is not in the image; of a shelf, the first records may be. In all, an honest controller
+/// counted at least `tries` + 1 troubles for each item given up, one refusal for each refused item, and two for a size. If it adds
+/// no store meanwhile, the image has exactly the controller's items, except those left out. A walk that does not end with FFFFh is
+/// noted with its end. Such an end is true of the store, and so is an inventory noted as empty; nothing stalls, is malformed, cut
+/// off, or uses words. If nothing was left out, the image is a capture. Over a plain
 /// controller only inventories without bytes are left out. If stores are added, the contract of `Cursor::step` says that the
 /// controller had each record when it was returned; that the image has exactly these records is only tested.
 pub fn capture<C: Controller, P: Progress>(

@@ -3,10 +3,8 @@ ghost use Rattle.std.specs.Prelude.{◌≡◌, ◌≢◌, ◌+◌, ◌*◌, ◌<
 ghost use Rattle.std.specs.Option.{option_to_list};
 ghost use Rattle.ipmi_capture.specs.Below.{AsksAtMost, FruEnded, inventory_of, IsHonest, LastFruCallSays, not_present, StaysHonest};
 ghost use Rattle.ipmi_capture.specs.Capture.{InventoryOrLeft};
-ghost use Rattle.ipmi_capture.specs.Left.{AreCounted, LacksInventory, unread_in};
-ghost use Rattle.ipmi_capture.specs.declared.left.Left.{Left};
-ghost use Rattle.ipmi_capture.specs.declared.left.Unread.{Unread};
-ghost use Rattle.ipmi_capture.specs.Phases.{Adds, Captures, IsLeftByRefusal, IsNotPlain, IsRefusedAgain, IsUnkept, HasInventories, HasInventory, most_for_inventory};
+ghost use Rattle.ipmi_capture.specs.Left.{AreCounted, LacksInventory};
+ghost use Rattle.ipmi_capture.specs.Phases.{Adds, Captures, CutOffIsIn, IsLeftBy, IsNotSize, IsRefusedAgain, IsUnkept, HasInventories, HasInventory, most_for_inventory};
 
 use crate::capturing::Asking;
 use crate::left::{Left, note};
@@ -20,20 +18,25 @@ use std::alloc::AllocError;
 const NO_DEVICE: u8 = LAST_FRU_DEVICE_ID + 1;
 
 /// The item left out after a refusal with this code; None if there is no inventory. Either the size or a part may have been
-/// refused, so the size is requested once more.
+/// refused, so the size is requested once more. If it is given after CBh, the inventory was cut off.
 fn left_by_refusal<C: Controller>(ctl: &mut C, id: u8, code: Code) -> Option<Left>
     ensures calls { (C.seen ctl.new).calls ≤ (C.seen ctl.old).calls + 1 }
     ensures asked { AsksAtMost 0 (C.seen ctl.old) (C.seen ctl.new) }
     ensures stays { IsHonest (C.seen ctl.old) → StaysHonest (C.seen ctl.old) (C.seen ctl.new) }
     ensures counts { IsHonest (C.seen ctl.old) → AreCounted 0 [] (C.seen ctl.old) (C.seen ctl.new) }
-    ensures left { MatchOption result (code ≡ not_present) (λ left.
-        LacksInventory id left × (code ≢ not_present) × (unread_in left ≡ Some (Unread.Refused code))) }
-    ensures why { IfSome result (IsLeftByRefusal code (C.seen ctl.new).last_failure) }
+    ensures left { MatchOption result (code ≡ not_present)
+        (IsLeftBy id (FruEnded.Refused code) (C.seen ctl.new).last_failure) }
+    ensures why { MatchOption result ((C.seen ctl.new).last_failure ≢ None)
+        (IsNotSize code (C.seen ctl.new).last_failure) }
     ensures again { IsHonest (C.seen ctl.old) → LastFruCallSays (FruEnded.Refused code) (C.seen ctl.old) →
         IfSome result (IsRefusedAgain (C.seen ctl.old) (C.seen ctl.new)) }
+    ensures cut { IsHonest (C.seen ctl.old) → IfSome result (CutOffIsIn (C.seen ctl.new).store) }
 {
     if code == Code::NOT_PRESENT {
-        return None;
+        return match ctl.fru_size(id) {
+            Ok(_) => Some(Left::CutOff(id)),
+            Err(_) => None,
+        };
     }
     match ctl.fru_size(id) {
         Err(again) if again == code => Some(Left::Size(id, code)),
@@ -48,9 +51,10 @@ fn left_by<C: Controller>(ctl: &mut C, id: u8, ended: FruEnded) -> Result<Option
     ensures stays { IsHonest (C.seen ctl.old) → StaysHonest (C.seen ctl.old) (C.seen ctl.new) }
     ensures counts { IsHonest (C.seen ctl.old) → AreCounted 0 [] (C.seen ctl.old) (C.seen ctl.new) }
     ensures left { IfOk result (λ o. MatchOption o (ended ≡ FruEnded.Refused not_present)
-        (λ left. LacksInventory id left × IsNotPlain ended × (unread_in left ≡ unread_in (Left.Inventory id ended)))) }
+        (IsLeftBy id ended (C.seen ctl.new).last_failure)) }
     ensures again { IsHonest (C.seen ctl.old) → LastFruCallSays ended (C.seen ctl.old) →
         IfOk result (λ o. IfSome o (IsRefusedAgain (C.seen ctl.old) (C.seen ctl.new))) }
+    ensures cut { IsHonest (C.seen ctl.old) → IfOk result (λ o. IfSome o (CutOffIsIn (C.seen ctl.new).store)) }
 {
     match ended {
         FruEnded::Memory => Err(AllocError),

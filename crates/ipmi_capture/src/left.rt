@@ -59,6 +59,8 @@ pub enum Left {
     Size(u8, Code),
     /// The inventory of the FRU device with this id: it has no bytes, and an image has no empty inventory.
     Empty(u8),
+    /// The inventory of the FRU device with this id: the controller answered that there is none, and then gave its size.
+    CutOff(u8),
     /// The inventory of the FRU device with this id.
     Inventory(u8, FruEnded),
 }
@@ -122,6 +124,10 @@ impl fmt::Display for Left {
                 let id = HexByte(*id);
                 write!(f, "fru {id}: empty")
             }
+            Left::CutOff(id) => {
+                let id = HexByte(*id);
+                write!(f, "fru {id}: cut off")
+            }
             Left::Inventory(id, ended) => {
                 let id = HexByte(*id);
                 let why = Why(*ended);
@@ -143,7 +149,7 @@ impl Left {
                 matches!(unread, Unread::Refused(_))
             }
             Left::Size(_, _) | Left::Empty(_) => true,
-            Left::Inventory(_, _) => false,
+            Left::CutOff(_) | Left::Inventory(_, _) => false,
         }
     }
 }

@@ -70,7 +70,8 @@ pub(crate) fn capture_shelf<C: Controller, P: Progress>(
     'walks: for _ in 0..TIMES_AGAIN {
         match walk_shelf(asking, ctl, shelf, image, progress) {
             Ok(Some(Ended::Missing(_))) => image.clear_records(asking.alloc, shelf),
-            ended => return ended,
+            Ok(ended) => return Ok(ended),
+            Err(_) => return Err(AllocError),
         }
     }
     walk_shelf(asking, ctl, shelf, image, progress)

@@ -104,8 +104,9 @@ fn assert_capture<C: Controller>(
     came
 }
 
-/// `plain` plain moods, and then the moods of these words: `busy`, `cancel`, `plain`, `grant` for parts of 3 bytes,
-/// `refuse` with C1h, `none` for CCh, and `change` to `WITHOUT_READING`.
+/// `plain` plain moods, and then the moods of these words: `busy`, `cancel`, `plain`, `grant` for parts of 3 bytes, `byte` for
+/// one of a byte, `refuse` with C1h, `none` for CCh, `change` to `WITHOUT_READING`, `lose` to `WITHOUT_INVENTORY`, and `restore`
+/// to `SAVED`.
 fn moods(rt: &impl Abort, alloc: Global, plain: u8, words: &str) -> Vec<Mood> {
     let mut list = Vec::new(alloc);
     for _ in 0..plain {
@@ -118,7 +119,10 @@ fn moods(rt: &impl Abort, alloc: Global, plain: u8, words: &str) -> Vec<Mood> {
             "grant" => Mood::Grant(3),
             "refuse" => Mood::Refuse(Code(0xC1)),
             "none" => Mood::Refuse(Code(0xCC)),
+            "byte" => Mood::Grant(1),
             "change" => Mood::Change(image(rt, alloc, WITHOUT_READING)),
+            "lose" => Mood::Change(image(rt, alloc, WITHOUT_INVENTORY)),
+            "restore" => Mood::Change(image(rt, alloc, SAVED)),
             _ => Mood::Grant(254),
         };
         list.push(mood).ok().expect(rt, "memory");
@@ -222,6 +226,20 @@ fn an_inventory_that_breaks_off_is_missed(rt: HostRuntime) {
     let alloc = rt.alloc();
     let left = "fru 00: refused with code C1h\nnot whole\n";
     assert_capture_in_moods(&rt, alloc, 11, "refuse", WITHOUT_INVENTORY, left);
+}
+
+#[test]
+fn an_inventory_that_is_cut_off_is_missed(rt: HostRuntime) {
+    let alloc = rt.alloc();
+    let left = "fru 00: cut off\nnot whole\n";
+    assert_capture_in_moods(&rt, alloc, 11, "byte lose restore", WITHOUT_INVENTORY, left);
+}
+
+#[test]
+fn an_inventory_that_is_gone_is_absent(rt: HostRuntime) {
+    let alloc = rt.alloc();
+    assert_capture_in_moods(&rt, alloc, 11, "byte lose", WITHOUT_INVENTORY, "");
+    assert_capture_in_moods(&rt, alloc, 11, "byte lose refuse", WITHOUT_INVENTORY, "");
 }
 
 #[test]
@@ -372,6 +390,7 @@ fn each_value_and_inventory_left_out_has_its_line(rt: HostRuntime) {
         "fru fe: size refused with code D4h",
     );
     assert_line(&rt, alloc, Left::Empty(0), "fru 00: empty");
+    assert_line(&rt, alloc, Left::CutOff(10), "fru 0a: cut off");
     let fru = |ended| Left::Inventory(9, ended);
     assert_line(
         &rt,

@@ -1,6 +1,8 @@
 -- The tokens that the code writes for members, and the object of these tokens.
 use Rattle.std.proofs.Common.{◌≡◌, ◌≤◌, ◌+◌, ℕ, ℤ, Some, List, [], ◌∷◌, ◌++◌, refl, sym, ap, ◌∙◌, append_assoc, append-nil, option_and_then, arith, map, rules, string_bytes}
 use Rattle.std.specs.Borrow.{Bor}
+use Rattle.std.specs.Str.{IsUtf8}
+use Rattle.std.proofs.lemmas.Str.{IsUtf8-append, IsUtf8-from_ascii}
 use Rattle.json.proofs.Printed.Trees.{value-json_tokens}
 use Rattle.json.specs.Json.{Json, document, if_last, max_depth, null, number, string, value}
 use Rattle.json.specs.Lex.{tokens}
@@ -160,6 +162,9 @@ pub read_back : (j : Json) → depth j ≤ max_depth → tokens (print (json_tok
 read_back j flat same =
     ap (option_and_then (λ p. if_last p.0 p.1))
     (ap (value max_depth) (same ∙ sym (append-nil (json_tokens j))) ∙ value-json_tokens j max_depth [] flat)
+
+pub utf8_line : (text : List ℕ) → IsUtf8 text → IsUtf8 (text ++ 10 ∷ [])
+utf8_line text is = IsUtf8-append text (10 ∷ []) is (IsUtf8-from_ascii (10 ∷ []) (search rules))
 
 pub object_depth : (ms : List Pair) → AreWithin 3 ms → depth (object_in ms) ≤ max_depth
 object_depth ms within = omega (arith, within)

@@ -11,7 +11,7 @@ use Rattle.ipmi_fru.specs.declared.multirecord.MultiFault.{MultiFault}
 use Rattle.ipmi_json.specs.declared.object.Label.{Label}
 use Rattle.ipmi_json.specs.Areas.{AreAreaMembers}
 use Rattle.ipmi_json.specs.Multirecords.{AreRecordMembers}
-use Rattle.ipmi_json.specs.Object.{integer_or_null, IsLineOf, Pair, text_or_null}
+use Rattle.ipmi_json.specs.Object.{integer_or_null, IsLineOf, Pair, text_if_any, text_or_null}
 
 -- the words for faults of the header
 abbrev pub header_fault_word : FruFault → List ℕ
@@ -19,12 +19,12 @@ header_fault_word FruFault.Short = codes "header_short"
 header_fault_word FruFault.HeaderVersion = codes "header_version"
 header_fault_word FruFault.HeaderSum = codes "header_checksum"
 
--- a device: its id if it is this controller's, its name if it has a locator, its state, and the fault of its inventory's header
+-- a device: its id if it is this controller's, its name if it has a locator with one, its state, and the fault of its inventory's header
 abbrev pub device_members : Option ℕ → Option (List ℕ) → List ℕ → Option (List ℕ) → List Pair
 device_members id name state fault =
     (codes "object", string (codes "fru"))
     ∷ (codes "fru_device_id", integer_or_null id)
-    ∷ (codes "name", text_or_null name)
+    ∷ (codes "name", text_if_any name)
     ∷ (codes "state", string state)
     ∷ (codes "fault", text_or_null fault)
     ∷ []

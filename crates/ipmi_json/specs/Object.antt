@@ -1,6 +1,7 @@
 -- A JSON object as a list of members, and its line: RFC 8259 without spaces, in UTF-8.
 use Rattle.std.specs.Prelude.{◌≡◌, ℕ, ◌≤◌, ℤ, Option, Some, None, List, [], ◌∷◌, ◌++◌, codes, decimal, flat_map, map, string_bytes}
 use Rattle.std.specs.Borrow.{Bor}
+use Rattle.std.specs.Str.{IsUtf8}
 use Rattle.json.specs.Json.{Json, Items, Members, array, boolean, document, item, member, no_items, no_members, null, number, object, string}
 use Rattle.json.specs.Print.{print}
 use Rattle.json.specs.Token.{Token, begin_object, key}
@@ -30,9 +31,10 @@ members_in (m ∷ ms) = member m.0 m.1 (members_in ms)
 abbrev pub object_in : List Pair → Json
 object_in ms = object (members_in ms)
 
--- the text of a value, then a line feed; the grammar of RFC 8259 reads the text before the line feed as that value
+-- the text of a value, then a line feed, in UTF-8; the grammar of RFC 8259 reads the text before the line feed as that value
 pub record IsLineOfJson (j : Json) (text : List ℕ) : Type 0 where
   pub line_is : text ≡ print (json_tokens j) ++ codes "\n"
+  pub is_utf8 : IsUtf8 text
   pub reads_back : document (print (json_tokens j)) ≡ Some j
 
 -- ---- values
@@ -52,6 +54,11 @@ text_or_null (Some text) = string text
 abbrev pub text_unless_empty : List ℕ → Json
 text_unless_empty [] = null
 text_unless_empty (c ∷ text) = string (c ∷ text)
+
+-- null if there is no text, or it is empty
+abbrev pub text_if_any : Option (List ℕ) → Json
+text_if_any None = null
+text_if_any (Some text) = text_unless_empty text
 
 abbrev pub texts : List (List ℕ) → Json
 texts ts = array_in (map string ts)

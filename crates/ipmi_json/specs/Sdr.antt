@@ -1,6 +1,6 @@
 -- The object of a sensor data record with its reading. Each kind always has the same keys, and a value never changes its type,
 -- except to null.
-use Rattle.std.specs.Prelude.{◌≡◌, ℕ, ◌/◌, ◌%◌, ℤ, ◌&&◌, if◌then◌else◌, Option, Some, None, List, [], ◌∷◌, ◌++◌, codes, map, slice_get}
+use Rattle.std.specs.Prelude.{◌≡◌, ℕ, ◌*◌, ◌/◌, ◌%◌, ℤ, Bool, ◌&&◌, if◌then◌else◌, Option, Some, None, List, [], ◌∷◌, ◌++◌, codes, map, slice_get}
 use Rattle.json.specs.Json.{Json, boolean, null, string}
 use Rattle.ipmi_text.specs.FieldText.{binary_text}
 use Rattle.ipmi_text.specs.ReadingValue.{reading_value}
@@ -10,6 +10,7 @@ use Rattle.ipmi_text.specs.declared.reading.Reading.{Reading}
 use Rattle.ipmi_text.specs.declared.units.Units.{Units}
 use Rattle.ipmi_records.specs.Prelude.{byte_at, event_only_sensor, factors_in, has_bit, has_thresholds, is_readable, locator_in, name_of, record_bytes, record_type, sensor_in, shown_of, states_of, status_of, threshold_in, units_in}
 use Rattle.ipmi_records.specs.declared.column.Shown.{Shown}
+use Rattle.ipmi_records.specs.declared.entity.Entity.{Entity}
 use Rattle.ipmi_records.specs.declared.locator.Locator.{Locator}
 use Rattle.ipmi_records.specs.declared.sdr.SdrFault.{SdrFault}
 use Rattle.ipmi_records.specs.declared.sdr.SdrView.{SdrView}
@@ -19,7 +20,7 @@ use Rattle.ipmi_events.specs.Entities.{entity_words}
 use Rattle.ipmi_events.specs.States.{set_states, state_words}
 use Rattle.ipmi_events.specs.Status.{status_in_words}
 use Rattle.ipmi_json.specs.declared.object.Label.{Label}
-use Rattle.ipmi_json.specs.Object.{integer, integer_or_null, IsDecimalOrNull, IsLineOf, Pair, texts}
+use Rattle.ipmi_json.specs.Object.{integer, integer_or_null, IsDecimalOrNull, IsLineOf, Pair, text_unless_empty, texts}
 use Rattle.ipmi_json.specs.Record.{head_members, raw_members}
 
 -- ---- every record
@@ -33,10 +34,10 @@ kind_word (SdrView.Fru bytes) = codes "fru_locator"
 kind_word (SdrView.Controller bytes) = codes "mc_locator"
 kind_word (SdrView.Other bytes) = codes "other"
 
--- a record of another type has no name
+-- a record of another type has no name; an empty name is null
 abbrev pub name_members : Option (List ℕ) → List Pair
 name_members None = []
-name_members (Some name) = (codes "name", string name) ∷ []
+name_members (Some name) = (codes "name", text_unless_empty name) ∷ []
 
 -- ---- sensors
 
@@ -55,14 +56,20 @@ sensor_members sensor =
 
 -- ---- readings
 
--- the raw byte of a reading and its states, one bit for each, if there is a reading
+-- the raw byte of a reading, if there is one
 abbrev pub raw_shown : Shown → Option ℕ
 raw_shown (Shown.Value reading) = Some reading.raw
 raw_shown _ = None
 
-abbrev pub states_shown : Shown → Option ℕ
-states_shown (Shown.Value reading) = Some (states_of reading)
-states_shown _ = None
+-- the states, one bit for each (IPMI v2.0, table 35-15): with thresholds, bits 5:0 of the first byte; else bits 14:0 of both
+abbrev pub states_in : Sensor → Reading → ℕ
+states_in sensor reading =
+    if has_thresholds sensor then reading.status % 64 else states_of reading
+
+-- the states of a reading, if there is one
+abbrev pub states_shown : Sensor → Shown → Option ℕ
+states_shown sensor (Shown.Value reading) = Some (states_in sensor reading)
+states_shown sensor _ = None
 
 -- the words of the states that are set
 abbrev pub texts_of_states : Sensor → ℕ → List (List ℕ)
@@ -80,20 +87,20 @@ abbrev pub value_shown : List ℕ → Shown → Option ℤ
 value_shown bytes (Shown.Value reading) = reading_value (factors_in bytes) reading.raw
 value_shown bytes _ = None
 
--- a value and its unit
+-- a value and its unit, null without one
 pub record AreValueMembers (value : Option ℤ) (units : Units) (ms : List Pair) : Type 0 where
   pub number : Json
   pub is_number : IsDecimalOrNull value number
   pub are : ms ≡
       (codes "reading", number)
-      ∷ (codes "unit", string (unit_text_of units.units1 units.base units.modifier))
+      ∷ (codes "unit", text_unless_empty (unit_text_of units.units1 units.base units.modifier))
       ∷ []
 
 -- what else a sensor shows
 abbrev pub shown_members : Sensor → Shown → List ℕ → List Pair
 shown_members sensor shown status =
     (codes "reading_raw", integer_or_null (raw_shown shown))
-    ∷ (codes "states", integer_or_null (states_shown shown))
+    ∷ (codes "states", integer_or_null (states_shown sensor shown))
     ∷ (codes "state_words", state_words_shown sensor shown)
     ∷ (codes "status", string status)
     ∷ (codes "status_words", string (status_in_words sensor shown))
@@ -130,22 +137,51 @@ pub record AreThresholdMembers (bytes : List ℕ) (ms : List Pair) : Type 0 wher
       ∷ (codes "lower_non_critical", lower_non_critical)
       ∷ []
 
--- ---- locators
+-- ---- locators (IPMI v2.0, tables 43-7 to 43-9)
 
-abbrev pub locator_members : Locator → List Pair
-locator_members locator =
-    (codes "device_address", integer locator.address)
-    ∷ (codes "entity_id", integer locator.entity.id)
-    ∷ (codes "entity_name", string (entity_words locator.entity.id))
-    ∷ (codes "entity_instance", integer locator.entity.instance)
+abbrev pub entity_members : Entity → List Pair
+entity_members entity =
+    (codes "entity_id", integer entity.id)
+    ∷ (codes "entity_name", string (entity_words entity.id))
+    ∷ (codes "entity_instance", integer entity.instance)
     ∷ []
 
+-- bits 7:1 of a byte are a slave address
+abbrev pub slave_address : ℕ → ℕ
+slave_address byte = byte / 2 * 2
+
+-- byte 6 is the address of the controller through which a device is reached; byte 7 is the device's own
+abbrev pub generic_members : List ℕ → List Pair
+generic_members bytes =
+    (codes "device_access_address", integer (locator_in bytes).address)
+    ∷ (codes "device_slave_address", integer (slave_address (byte_at 7 bytes)))
+    ∷ entity_members (locator_in bytes).entity
+
+-- byte 7 is the FRU device id of a logical device, and the slave address of another
+abbrev pub fru_id : Bool → ℕ → Option ℕ
+fru_id is_logical byte = if is_logical then Some byte else None
+
+abbrev pub fru_address : Bool → ℕ → Option ℕ
+fru_address is_logical byte = if is_logical then None else Some (slave_address byte)
+
+-- bit 7 of byte 8 is set for a logical device; bits 4:3 are the LUN
 abbrev pub fru_members : List ℕ → List Pair
 fru_members bytes =
-    (codes "fru_device_id", integer (byte_at 7 bytes))
+    (codes "device_access_address", integer (locator_in bytes).address)
+    ∷ (codes "fru_device_id", integer_or_null (fru_id (has_bit 7 (byte_at 8 bytes)) (byte_at 7 bytes)))
+    ∷ (codes "device_slave_address", integer_or_null (fru_address (has_bit 7 (byte_at 8 bytes)) (byte_at 7 bytes)))
     ∷ (codes "is_logical", boolean (has_bit 7 (byte_at 8 bytes)))
     ∷ (codes "access_lun", integer (byte_at 8 bytes / 8 % 4))
     ∷ []
+
+-- a FRU device
+abbrev pub fru_locator_members : List ℕ → List Pair
+fru_locator_members bytes = fru_members bytes ++ entity_members (locator_in bytes).entity
+
+-- byte 6 is the controller's own address
+abbrev pub controller_members : Locator → List Pair
+controller_members locator =
+    (codes "device_slave_address", integer locator.address) ∷ entity_members locator.entity
 
 -- ---- records
 
@@ -174,10 +210,9 @@ AreTold (SdrView.Full bytes) reading ms =
 AreTold (SdrView.Compact bytes) reading ms =
     AreCompactMembers bytes reading (status_of (SdrView.Compact bytes) reading) ms
 AreTold (SdrView.EventOnly bytes) reading ms = ms ≡ sensor_members (event_only_sensor bytes)
-AreTold (SdrView.Generic bytes) reading ms = ms ≡ locator_members (locator_in bytes)
-AreTold (SdrView.Fru bytes) reading ms =
-    ms ≡ locator_members (locator_in bytes) ++ fru_members bytes
-AreTold (SdrView.Controller bytes) reading ms = ms ≡ locator_members (locator_in bytes)
+AreTold (SdrView.Generic bytes) reading ms = ms ≡ generic_members bytes
+AreTold (SdrView.Fru bytes) reading ms = ms ≡ fru_locator_members bytes
+AreTold (SdrView.Controller bytes) reading ms = ms ≡ controller_members (locator_in bytes)
 AreTold (SdrView.Other bytes) reading ms = ms ≡ []
 
 -- the line of a record, with its id

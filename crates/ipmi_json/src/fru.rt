@@ -6,7 +6,7 @@ ghost use Rattle.ipmi_json.specs.Object.{Adds, AddsSome, integer_or_null, IsLine
 
 use crate::areas::write_area;
 use crate::multirecords::write_records;
-use crate::object::{Label, Value, begin, finish, text_or_null, write_members};
+use crate::object::{Label, Value, begin, finish, text_if_any, text_or_null, write_members};
 use ipmi_fru::{FruFault, FruView};
 use json::Writer;
 use std::alloc::{AllocError, Global};
@@ -37,7 +37,7 @@ fn write_device(
         &[
             ("object", Value::Text("fru")),
             ("fru_device_id", id_or_null(id)),
-            ("name", text_or_null(name)),
+            ("name", text_if_any(name)),
             ("state", Value::Text(state)),
             ("fault", text_or_null(fault)),
         ],

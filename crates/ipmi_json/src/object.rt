@@ -2,7 +2,7 @@
 ghost use Rattle.std.specs.Prelude.{◌≡◌, ◌++◌, ◌∷◌, [], List, IfOk, IfSome, OnOk, map, option_map, string_bytes};
 ghost use Rattle.json.specs.Json.{string};
 ghost use Rattle.json.specs.Tree.{json_tokens};
-ghost use Rattle.ipmi_json.specs.Object.{Adds, integer_or_null, IsLineOf, IsOpen, json_of, labels_of, Pair, pairs_of, text_or_null, text_unless_empty, texts};
+ghost use Rattle.ipmi_json.specs.Object.{Adds, integer_or_null, IsLineOf, IsOpen, json_of, labels_of, Pair, pairs_of, text_if_any, text_or_null, text_unless_empty, texts};
 
 use json::Writer;
 use std::alloc::{AllocError, Global};
@@ -51,6 +51,16 @@ pub(crate) fn text_unless_empty(text: &str) -> Value<'_>
         Value::Null
     } else {
         Value::Text(text)
+    }
+}
+
+/// A text, or null if there is none or it is empty.
+pub(crate) fn text_if_any(text: Option<&str>) -> Value<'_>
+    ensures { json_of result ≡ text_if_any (option_map (λ s. s.now) text.entry) }
+{
+    match text {
+        Some(text) => text_unless_empty(text),
+        None => Value::Null,
     }
 }
 
@@ -117,6 +127,21 @@ pub(crate) fn write_printed<D: Display + Drop>(
     text.clear();
     text.write(value)?;
     write_member(out, key, Value::Text(text.as_str()))
+}
+
+/// Writes what a value prints as the text under a key, or null if it prints nothing. `text` is used for it.
+pub(crate) fn write_printed_or_null<D: Display + Drop>(
+    out: &mut Writer,
+    text: &mut String,
+    key: &'static str,
+    value: D,
+) -> Result<(), AllocError>
+    ensures { OnOk result (IfSome (D.output value) (λ printed.
+        Adds 1 ((key.entry.now, text_unless_empty printed) ∷ []) out.old out.new)) }
+{
+    text.clear();
+    text.write(value)?;
+    write_member(out, key, text_unless_empty(text.as_str()))
 }
 
 /// Writes members, without brackets.

@@ -1,21 +1,21 @@
 //! The objects of sensor data records.
 ghost use Rattle.std.specs.Prelude.{◌≡◌, ◌++◌, IfOk, OnOk, option_map, slice_get};
-ghost use Rattle.ipmi_records.specs.Prelude.{locator_in, name_of, shown_of};
+ghost use Rattle.ipmi_records.specs.Prelude.{byte_at, has_bit, locator_in, name_of, shown_of};
 ghost use Rattle.ipmi_json.specs.Object.{Adds, AddsDecimal, AddsSome, IsLineOf};
-ghost use Rattle.ipmi_json.specs.Sdr.{AreCompactMembers, AreFullMembers, AreThresholdMembers, AreTold, AreValueMembers, IsSdrLine, bytes_members, fault_members, fault_word, fru_members, kind_word, locator_members, name_members, raw_shown, sensor_members, shown_members, states_shown, threshold_value, value_shown};
+ghost use Rattle.ipmi_json.specs.Sdr.{AreCompactMembers, AreFullMembers, AreThresholdMembers, AreTold, AreValueMembers, IsSdrLine, bytes_members, controller_members, entity_members, fault_members, fault_word, fru_address, fru_id, fru_locator_members, fru_members, generic_members, kind_word, name_members, raw_shown, sensor_members, shown_members, slave_address, states_in, states_shown, threshold_value, value_shown};
 
 use crate::number::write_decimal_or_null;
 use crate::object::{
-    Label, Value, begin, finish, integer_or_null, object_line, write_member, write_members,
-    write_printed,
+    Label, Value, begin, finish, integer_or_null, object_line, text_unless_empty, write_member,
+    write_members, write_printed, write_printed_or_null,
 };
 use crate::record::{write_head, write_raw};
 use crate::states::write_state_words;
 use ipmi_events::{EntityWords, status_in_words};
 use ipmi_records::SdrView::{Compact, Controller, EventOnly, Fru, Full, Generic, Other};
 use ipmi_records::{
-    CompactSensor, FruLocator, FullSensor, Locator, SdrFault, SdrView, Sensor, Shown, Threshold,
-    has_thresholds, shown_of, states_in, status_of,
+    CompactSensor, Entity, FruLocator, FullSensor, Locator, SdrFault, SdrView, Sensor, Shown,
+    Threshold, has_thresholds, shown_of, states_in, status_of,
 };
 use ipmi_text::{Fixed, Reading, SensorType, Units, convert, push_sdr_text};
 use json::Writer;
@@ -26,6 +26,12 @@ const TEXT_CAPACITY: usize = 64;
 
 /// The offset of the record type, counted from 0.
 const RECORD_TYPE: usize = 3;
+
+/// The offset of a generic device's own address.
+const SLAVE_ADDRESS: usize = 6;
+
+/// Bits 5:0 of a status, one for each threshold.
+const THRESHOLD_STATES: u8 = 0x40;
 
 /// The word for the kind of a record.
 fn kind_word(view: &SdrView) -> &'static str
@@ -55,7 +61,7 @@ fn write_name(
         Some(id) => {
             text.clear();
             push_sdr_text(alloc, text, id.type_length, id.rest)?;
-            write_member(out, "name", Value::Text(text.as_str()))
+            write_member(out, "name", text_unless_empty(text.as_str()))
         }
         None => write_members(out, &[]),
     }
@@ -100,12 +106,23 @@ fn raw_shown(shown: Shown) -> Option<u64>
     }
 }
 
+/// The states of a sensor by a reading: those of a sensor with thresholds are in the first byte.
+fn states_by(sensor: &Sensor, reading: Reading) -> u64
+    ensures { result ≡ states_in sensor.now reading }
+{
+    if has_thresholds(sensor) {
+        u64::from(reading.status % THRESHOLD_STATES)
+    } else {
+        u64::from(states_in(reading))
+    }
+}
+
 /// The states of the reading, if there is one.
-fn states_shown(shown: Shown) -> Option<u64>
-    ensures { result ≡ states_shown shown }
+fn states_shown(sensor: &Sensor, shown: Shown) -> Option<u64>
+    ensures { result ≡ states_shown sensor.now shown }
 {
     match shown {
-        Shown::Value(reading) => Some(u64::from(states_in(reading))),
+        Shown::Value(reading) => Some(states_by(sensor, reading)),
         Shown::OtherOwner | Shown::NoReading => None,
     }
 }
@@ -131,7 +148,7 @@ fn write_value(
         out.old out.new) }
 {
     write_decimal_or_null(out, text, "reading", value)?;
-    write_printed(out, text, "unit", units)
+    write_printed_or_null(out, text, "unit", units)
 }
 
 /// Writes what else a sensor shows.
@@ -148,7 +165,7 @@ fn write_shown(
 {
     let shown = shown_of(sensor, reading);
     write_member(out, "reading_raw", integer_or_null(raw_shown(shown)))?;
-    write_member(out, "states", integer_or_null(states_shown(shown)))?;
+    write_member(out, "states", integer_or_null(states_shown(sensor, shown)))?;
     write_state_words(alloc, out, sensor, shown)?;
     write_member(out, "status", Value::Text(status))?;
     write_member(
@@ -223,33 +240,86 @@ fn write_thresholds(
     )
 }
 
-/// Writes what a locator tells of its device. `text` is used for the entity.
-fn write_locator(out: &mut Writer, text: &mut String, locator: &Locator) -> Result<(), AllocError>
-    ensures { OnOk result (Adds 1 (locator_members locator.now) out.old out.new) }
+/// Writes the entity of a device. `text` is used for it.
+fn write_entity(out: &mut Writer, text: &mut String, entity: Entity) -> Result<(), AllocError>
+    ensures { OnOk result (Adds 1 (entity_members entity) out.old out.new) }
 {
-    let instance = u64::from(locator.entity.instance);
+    write_member(out, "entity_id", Value::Integer(u64::from(entity.id)))?;
+    write_printed(out, text, "entity_name", EntityWords(entity.id))?;
     write_member(
         out,
-        "device_address",
+        "entity_instance",
+        Value::Integer(u64::from(entity.instance)),
+    )
+}
+
+/// The slave address in a byte. The lowest bit is not part of it.
+fn slave_address(byte: u8) -> u64
+    ensures { result ≡ slave_address byte }
+{
+    u64::from(byte) / 2 * 2
+}
+
+/// The byte with a generic device's own address. Each generic locator has it.
+fn slave_byte(bytes: &[u8]) -> u8
+    ensures { result ≡ byte_at 7 bytes.now }
+{
+    bytes.get(SLAVE_ADDRESS).copied().unwrap_or(0)
+}
+
+/// Writes what a generic locator tells of its device. `text` is used for the entity, `bytes` are the record.
+fn write_generic(
+    out: &mut Writer,
+    text: &mut String,
+    locator: &Locator,
+    bytes: &[u8],
+) -> Result<(), AllocError>
+    requires { locator.now ≡ locator_in bytes.now }
+    ensures { OnOk result (Adds 1 (generic_members bytes.now) out.old out.new) }
+{
+    let own = slave_address(slave_byte(bytes));
+    write_member(
+        out,
+        "device_access_address",
         Value::Integer(u64::from(locator.address)),
     )?;
-    write_member(
-        out,
-        "entity_id",
-        Value::Integer(u64::from(locator.entity.id)),
-    )?;
-    write_printed(out, text, "entity_name", EntityWords(locator.entity.id))?;
-    write_member(out, "entity_instance", Value::Integer(instance))
+    write_member(out, "device_slave_address", Value::Integer(own))?;
+    write_entity(out, text, locator.entity)
+}
+
+/// The FRU device id of a logical device.
+fn fru_id(fru: &FruLocator) -> Option<u64>
+    ensures { result ≡ fru_id (has_bit 7 (byte_at 8 fru.now)) (byte_at 7 fru.now) }
+{
+    if fru.is_logical() {
+        Some(u64::from(fru.fru_id()))
+    } else {
+        None
+    }
+}
+
+/// The slave address of a device that is not logical.
+fn fru_address(fru: &FruLocator) -> Option<u64>
+    ensures { result ≡ fru_address (has_bit 7 (byte_at 8 fru.now)) (byte_at 7 fru.now) }
+{
+    if fru.is_logical() {
+        None
+    } else {
+        Some(slave_address(fru.fru_id()))
+    }
 }
 
 /// Writes the members for reaching a FRU device.
 fn write_fru(out: &mut Writer, fru: &FruLocator) -> Result<(), AllocError>
     ensures { OnOk result (Adds 1 (fru_members fru.now) out.old out.new) }
 {
+    let access = u64::from(fru.locator().address);
+    write_member(out, "device_access_address", Value::Integer(access))?;
+    write_member(out, "fru_device_id", integer_or_null(fru_id(fru)))?;
     write_member(
         out,
-        "fru_device_id",
-        Value::Integer(u64::from(fru.fru_id())),
+        "device_slave_address",
+        integer_or_null(fru_address(fru)),
     )?;
     write_member(out, "is_logical", Value::Bool(fru.is_logical()))?;
     write_member(out, "access_lun", Value::Integer(u64::from(fru.lun())))
@@ -261,11 +331,26 @@ fn write_fru_locator(
     text: &mut String,
     fru: &FruLocator,
 ) -> Result<(), AllocError>
-    ensures { OnOk result
-        (Adds 1 (locator_members (locator_in fru.now) ++ fru_members fru.now) out.old out.new) }
+    ensures { OnOk result (Adds 1 (fru_locator_members fru.now) out.old out.new) }
 {
-    write_locator(out, text, &fru.locator())?;
-    write_fru(out, fru)
+    write_fru(out, fru)?;
+    write_entity(out, text, fru.locator().entity)
+}
+
+/// Writes what the locator of a controller tells. `text` is used for the entity.
+fn write_controller(
+    out: &mut Writer,
+    text: &mut String,
+    locator: &Locator,
+) -> Result<(), AllocError>
+    ensures { OnOk result (Adds 1 (controller_members locator.now) out.old out.new) }
+{
+    write_member(
+        out,
+        "device_slave_address",
+        Value::Integer(u64::from(locator.address)),
+    )?;
+    write_entity(out, text, locator.entity)
 }
 
 /// Writes what a full record tells. `text` is used for its texts.
@@ -321,9 +406,9 @@ fn write_told(
         Full(full) => write_full(alloc, out, text, full, reading, status),
         Compact(compact) => write_compact(alloc, out, text, compact, reading, status),
         EventOnly(event_only) => write_sensor(out, text, &event_only.sensor()),
-        Generic(generic) => write_locator(out, text, &generic.locator()),
+        Generic(generic) => write_generic(out, text, &generic.locator(), view.bytes()),
         Fru(fru) => write_fru_locator(out, text, fru),
-        Controller(controller) => write_locator(out, text, &controller.locator()),
+        Controller(controller) => write_controller(out, text, &controller.locator()),
         Other(_) => write_members(out, &[]),
     }
 }

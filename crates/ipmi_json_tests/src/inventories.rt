@@ -56,6 +56,11 @@ fn devices_that_tell_nothing(rt: HostRuntime) {
         fru_line(alloc, 2, None, Some(&bytes), &[]),
         FAULTY_LINE,
     );
+    assert_line(
+        &rt,
+        fru_line(alloc, 2, Some(""), Some(&bytes), &[]),
+        FAULTY_LINE,
+    );
     assert_line(&rt, fru_line(alloc, 255, Some("é"), None, &[]), ABSENT_LINE);
     assert_line(
         &rt,

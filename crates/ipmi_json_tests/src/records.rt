@@ -14,19 +14,20 @@ pub(crate) const READ_LINE: &str =
 const UNREAD_LINE: &str =
     r#"{"object":"sdr_record","record_id":1,"record_type":1,"kind":"full","name":"CPU Temp","owner_id":32,"owner_lun":0,"sensor_number":1,"entity_id":3,"entity_name":"processor","entity_instance":1,"sensor_type":1,"sensor_type_name":"Temperature","event_type":1,"reading":null,"unit":"degrees C","reading_raw":null,"states":null,"state_words":null,"status":"ns","status_words":"ns","upper_non_recoverable":9.5,"upper_critical":9,"upper_non_critical":8.5,"lower_non_recoverable":null,"lower_critical":null,"lower_non_critical":null,"raw":"010051013320000103017f680101000000003838000100000100000000f00000000000005f5a550000000202000000c84350552054656d70"}"#;
 
-/// A reading of the full record's sensor, above the upper critical threshold.
+/// A reading of the full record's sensor, above the upper critical threshold. Bits 7:6 of the status, and the byte after it,
+/// mean nothing for a sensor with thresholds.
 pub(crate) const HOT: Reading = Reading {
     raw: 92,
     flags: 0xc0,
-    status: 0x18,
-    more: 0,
+    status: 0xd8,
+    more: 0x85,
 };
 
 /// A compact record of a discrete sensor with states 1, 3 and 14. The standard has a name only for the first.
 const COMPACT: &str = "030051021f200305070100000503000000000000c000000000000000000000c4446f6f72";
 
 const COMPACT_LINE: &str =
-    r#"{"object":"sdr_record","record_id":163,"record_type":2,"kind":"compact","name":"Door","owner_id":32,"owner_lun":3,"sensor_number":5,"entity_id":7,"entity_name":"system board","entity_instance":1,"sensor_type":5,"sensor_type_name":"Physical Security","event_type":3,"reading":null,"unit":"","reading_raw":0,"states":16394,"state_words":["State Asserted","state 3","state 14"],"status":"ok","status_words":"ok","raw":"030051021f200305070100000503000000000000c000000000000000000000c4446f6f72"}"#;
+    r#"{"object":"sdr_record","record_id":163,"record_type":2,"kind":"compact","name":"Door","owner_id":32,"owner_lun":3,"sensor_number":5,"entity_id":7,"entity_name":"system board","entity_instance":1,"sensor_type":5,"sensor_type_name":"Physical Security","event_type":3,"reading":null,"unit":null,"reading_raw":0,"states":16394,"state_words":["State Asserted","state 3","state 14"],"status":"ok","status_words":"ok","raw":"030051021f200305070100000503000000000000c000000000000000000000c4446f6f72"}"#;
 
 const DOOR: Reading = Reading {
     raw: 0,
@@ -36,14 +37,15 @@ const DOOR: Reading = Reading {
 };
 
 /// Records without a reading, each with its line after `record_id`: an event-only one; a generic locator, whose name has
-/// quotes, a backslash, a control character and letters of Latin-1; a FRU locator; a locator of a controller; and one of
-/// another type.
+/// quotes, a backslash, a control character and letters of Latin-1; one without a name, whose address has bit 0 set; FRU
+/// locators of a logical device and of one that is not; a locator of a controller; and one of another type.
 const OTHERS: &str =
     r#"05005103102000302281126f00000000c445565431 "record_type":3,"kind":"event_only","name":"EVT1","owner_id":32,"owner_lun":0,"sensor_number":48,"entity_id":34,"entity_name":"system firmware","entity_instance":1,"sensor_type":18,"sensor_type_name":"System Event","event_type":111,"raw":"05005103102000302281126f00000000c445565431"}
-060051101120a00000000000070200c6225ce901ff20 "record_type":16,"kind":"generic_locator","name":"\"\\é.ÿ ","device_address":32,"entity_id":7,"entity_name":"system board","entity_instance":2,"raw":"060051101120a00000000000070200c6225ce901ff20"}
-020051110f200180000000000a0100c450535531 "record_type":17,"kind":"fru_locator","name":"PSU1","device_address":32,"entity_id":10,"entity_name":"power supply","entity_instance":1,"fru_device_id":1,"is_logical":true,"access_lun":0,"raw":"020051110f200180000000000a0100c450535531"}
-020051110f22a118000000000a0100c450535531 "record_type":17,"kind":"fru_locator","name":"PSU1","device_address":34,"entity_id":10,"entity_name":"power supply","entity_instance":1,"fru_device_id":161,"is_logical":false,"access_lun":3,"raw":"020051110f22a118000000000a0100c450535531"}
-070051120f24000000000000900100c4424d4331 "record_type":18,"kind":"mc_locator","name":"BMC1","device_address":36,"entity_id":144,"entity_name":"entity 0x90","entity_instance":1,"raw":"070051120f24000000000000900100c4424d4331"}
+060051101120a00000000000070200c6225ce901ff20 "record_type":16,"kind":"generic_locator","name":"\"\\é.ÿ ","device_access_address":32,"device_slave_address":160,"entity_id":7,"entity_name":"system board","entity_instance":2,"raw":"060051101120a00000000000070200c6225ce901ff20"}
+060051100b00a50000000000070200c0 "record_type":16,"kind":"generic_locator","name":null,"device_access_address":0,"device_slave_address":164,"entity_id":7,"entity_name":"system board","entity_instance":2,"raw":"060051100b00a50000000000070200c0"}
+020051110f200180000000000a0100c450535531 "record_type":17,"kind":"fru_locator","name":"PSU1","device_access_address":32,"fru_device_id":1,"device_slave_address":null,"is_logical":true,"access_lun":0,"entity_id":10,"entity_name":"power supply","entity_instance":1,"raw":"020051110f200180000000000a0100c450535531"}
+020051110f22a118000000000a0100c450535531 "record_type":17,"kind":"fru_locator","name":"PSU1","device_access_address":34,"fru_device_id":null,"device_slave_address":160,"is_logical":false,"access_lun":3,"entity_id":10,"entity_name":"power supply","entity_instance":1,"raw":"020051110f22a118000000000a0100c450535531"}
+070051120f24000000000000900100c4424d4331 "record_type":18,"kind":"mc_locator","name":"BMC1","device_slave_address":36,"entity_id":144,"entity_name":"entity 0x90","entity_instance":1,"raw":"070051120f24000000000000900100c4424d4331"}
 080051c003570100 "record_type":192,"kind":"other","raw":"080051c003570100"}"#;
 
 /// A record with a fault.

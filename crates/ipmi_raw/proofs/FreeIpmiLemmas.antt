@@ -10,7 +10,7 @@ use Rattle.ipmi_raw.specs.declared.request.Request.TheVariants.{Reserve, Get, In
 use Rattle.ipmi_raw.specs.declared.tool.Tool.TheVariants.{FreeIpmi}
 use Rattle.ipmi_raw.specs.Words.{word, words_from, AreData}
 use Rattle.ipmi_raw.specs.Request.{for_shelf, command_of}
-use Rattle.ipmi_raw.specs.FreeIpmi.{IsReplyText}
+use Rattle.ipmi_raw.specs.FreeIpmi.{IsReplyText, IsSilence}
 
 for_shelf_lt : (shelf : Shelf) (sdr sel : ℕ) → sdr < 256 → sel < 256 → for_shelf shelf sdr sel < 256
 for_shelf_lt Sdr sdr sel lt lt2 = lt
@@ -25,7 +25,7 @@ command_lt (ReadInventory part) = omega arith
 command_lt (Reading lun number) = omega arith
 
 -- a text that begins like a reply, but does not continue with a code and bytes
-pub no_reply : (request : Request) (text rest : List ℕ) → text ≢ codes "ipmi_cmd_raw: session timeout\n"
+pub no_reply : (request : Request) (text rest : List ℕ) → ¬ IsSilence text
     → text ≡ codes "rcvd:" ++ rest
     → ((code : ℕ) (bytes : List ℕ) → code < 256 → AreData bytes
     → rest ≢ word FreeIpmi (command_of request) ++ (word FreeIpmi code ++ words_from FreeIpmi 0 bytes))

@@ -50,8 +50,14 @@ same_received request a b xs ys lta ltb are are2 e =
     let same = same_word FreeIpmi a b (words_from FreeIpmi 0 xs) (words_from FreeIpmi 0 ys) lta ltb codes_are in
     (same.0, same_words FreeIpmi 0 xs ys are are2 same.1)
 
-not_received : (request : Request) (code : ℕ) (bytes : List ℕ) → codes "ipmi_cmd_raw: session timeout\n" ≢ freeipmi_text.received request code bytes
-not_received request code bytes e = absurd (unequal 105 114 (inl (omega arith)) cc)
+other_front : (request : Request) (code : ℕ) (bytes rest : List ℕ) → 105 ∷ rest ≢ freeipmi_text.received request code bytes
+other_front request code bytes rest e = absurd (unequal 105 114 (inl (omega arith)) cc)
+
+not_received : (request : Request) (code : ℕ) (bytes text : List ℕ) → freeipmi_text.IsSilence text → text ≢ freeipmi_text.received request code bytes
+not_received request code bytes text (inl is) e = other_front request code bytes _ (sym is ∙ e)
+not_received request code bytes text (inr (inl is)) e = other_front request code bytes _ (sym is ∙ e)
+not_received request code bytes text (inr (inr (inl is))) e = other_front request code bytes _ (sym is ∙ e)
+not_received request code bytes text (inr (inr (inr is))) e = other_front request code bytes _ (sym is ∙ e)
 
 pub one_reply_of_freeipmi : OneReply freeipmi_text.IsReplyText
 one_reply_of_freeipmi request (Data xs) (Data ys) text is is2 =
@@ -59,15 +65,15 @@ one_reply_of_freeipmi request (Data xs) (Data ys) text is is2 =
 one_reply_of_freeipmi request (Data xs) (Refused b) text is is2 =
     let same = same_received request 0 b xs is2.2.0 (omega arith) is2.1 is.0.1 is2.2.1.1 (sym is.1 ∙ is2.2.2) in
     absurd (omega (arith, same.0, is2.0))
-one_reply_of_freeipmi request (Data xs) Silent text is is2 = absurd (not_received request 0 xs (sym is2 ∙ is.1))
+one_reply_of_freeipmi request (Data xs) Silent text is is2 = absurd (not_received request 0 xs text is2 is.1)
 one_reply_of_freeipmi request (Refused a) (Data ys) text is is2 =
     let same = same_received request a 0 is.2.0 ys is.1 (omega arith) is.2.1.1 is2.0.1 (sym is.2.2 ∙ is2.1) in
     absurd (omega (arith, same.0, is.0))
 one_reply_of_freeipmi request (Refused a) (Refused b) text is is2 =
     ap Refused (same_received request a b is.2.0 is2.2.0 is.1 is2.1 is.2.1.1 is2.2.1.1 (sym is.2.2 ∙ is2.2.2)).0
-one_reply_of_freeipmi request (Refused a) Silent text is is2 = absurd (not_received request a is.2.0 (sym is2 ∙ is.2.2))
-one_reply_of_freeipmi request Silent (Data ys) text is is2 = absurd (not_received request 0 ys (sym is ∙ is2.1))
-one_reply_of_freeipmi request Silent (Refused b) text is is2 = absurd (not_received request b is2.2.0 (sym is ∙ is2.2.2))
+one_reply_of_freeipmi request (Refused a) Silent text is is2 = absurd (not_received request a is.2.0 text is2 is.2.2)
+one_reply_of_freeipmi request Silent (Data ys) text is is2 = absurd (not_received request 0 ys text is is2.1)
+one_reply_of_freeipmi request Silent (Refused b) text is is2 = absurd (not_received request b is2.2.0 text is is2.2.2)
 one_reply_of_freeipmi request Silent Silent text is is2 = refl
 
 -- ---- ipmitool

@@ -71,8 +71,9 @@ says_unreserved (InventorySize id) code = false
 says_unreserved (ReadInventory part) code = false
 says_unreserved (Reading lun number) code = false
 
--- The data, or a code; C3h if the controller was silent. If there are no reservations, the number
--- is 0000h, and requests for parts have that number (sections 31.5 and 33.12).
+-- The data, or a code; C3h if the controller was silent. If there are no reservations (sections 31.2
+-- and 33.9 have a bit for that), the number is 0000h, and requests for parts have that number (section
+-- 31.5).
 abbrev pub given : Request → Reply → Result (List ℕ) Code
 given request (Data bytes) = Ok bytes
 given request (Refused code) = if says_unreserved request code then Ok (0 ∷ 0 ∷ []) else Err (code_given request code)

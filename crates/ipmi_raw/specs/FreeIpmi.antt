@@ -1,5 +1,5 @@
 -- The input of FreeIPMI's `ipmi-raw` for a request, and its output for a reply.
-use Rattle.std.specs.Prelude.{ℕ, ◌≡◌, ◌<◌, ◌++◌, List, codes}
+use Rattle.std.specs.Prelude.{ℕ, ◌≡◌, ◌<◌, ◌++◌, List, codes, ◌⊎◌}
 use Rattle.ipmi_raw.specs.declared.reply.Reply.{Reply}
 use Rattle.ipmi_raw.specs.declared.reply.Reply.TheVariants.{Data, Refused, Silent}
 use Rattle.ipmi_raw.specs.declared.request.Request.{Request}
@@ -16,10 +16,17 @@ abbrev pub received : Request → ℕ → List ℕ → List ℕ
 received request code bytes =
     codes "rcvd:" ++ (word FreeIpmi (command_of request) ++ (word FreeIpmi code ++ words_from FreeIpmi 0 bytes))
 
+-- a message of the tool that no answer came in time, or that the controller was too busy for one
+abbrev pub IsSilence : List ℕ → Type 0
+IsSilence text = (text ≡ codes "ipmi_cmd_raw: session timeout\n")
+    ⊎ ((text ≡ codes "ipmi_cmd_raw: message timeout\n")
+    ⊎ ((text ≡ codes "ipmi_cmd_raw: driver timeout\n")
+    ⊎ (text ≡ codes "ipmi_cmd_raw: BMC busy\n")))
+
 -- The whole text of a reply to the request. Bytes after a completion code other than 00h are
 -- ignored.
 abbrev pub IsReplyText : Request → Reply → List ℕ → Type 0
 IsReplyText request (Data bytes) text = AreData bytes × (text ≡ received request 0 bytes)
 IsReplyText request (Refused code) text =
     (0 < code) × (code < 256) × ((bytes : List ℕ) × AreData bytes × (text ≡ received request code bytes))
-IsReplyText request Silent text = text ≡ codes "ipmi_cmd_raw: session timeout\n"
+IsReplyText request Silent text = IsSilence text

@@ -1,6 +1,7 @@
 //! The dialect of FreeIPMI's `ipmi-raw`, which reads one line per request and prints one line per reply.
 ghost use Rattle.std.specs.Prelude.{◌≡◌};
-ghost use Rattle.ipmi_raw.specs.FreeIpmi.{IsReplyText, request_text};
+ghost use Rattle.std.specs.Bool.{Decides};
+ghost use Rattle.ipmi_raw.specs.FreeIpmi.{IsReplyText, IsSilence, request_text};
 ghost use Rattle.ipmi_raw.specs.Reply.{ReadsReply};
 
 use crate::line::{Line, push, push_bytes, push_digits};
@@ -9,8 +10,15 @@ use crate::request::Request;
 use crate::tool::Tool;
 use crate::words::{first_word, strip};
 
-/// The output of the tool after a timeout.
-const SILENCE: &[u8] = b"ipmi_cmd_raw: session timeout\n";
+/// Whether the text is a message of the tool that no answer came in time, or that the controller was too busy for one.
+fn is_silence(text: &[u8]) -> bool
+    ensures { Decides result (IsSilence text.now) }
+{
+    text == b"ipmi_cmd_raw: session timeout\n".as_slice()
+        || text == b"ipmi_cmd_raw: message timeout\n".as_slice()
+        || text == b"ipmi_cmd_raw: driver timeout\n".as_slice()
+        || text == b"ipmi_cmd_raw: BMC busy\n".as_slice()
+}
 
 /// The line that sends the request.
 pub fn request_text(request: Request) -> Line
@@ -33,7 +41,7 @@ pub fn request_text(request: Request) -> Line
 pub fn read_reply(request: Request, text: &[u8]) -> Option<Reply>
     ensures { ReadsReply (IsReplyText request) text.now result }
 {
-    if text == SILENCE {
+    if is_silence(text) {
         return Some(Reply::Silent);
     }
     let rest = strip(b"rcvd:", text)?;

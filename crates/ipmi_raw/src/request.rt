@@ -162,8 +162,7 @@ impl Request {
     }
 
     /// Whether a completion code of the reply says that the shelf has no reservations: C1h, if the controller does
-    /// not know the command that reserves it. Parts are then requested with reservation 0000h (sections 31.5 and
-    /// 33.12).
+    /// not know the command that reserves it. Parts are then requested with reservation 0000h (section 31.5).
     pub fn says_unreserved(self, code: u8) -> bool
         ensures { result ≡ says_unreserved self code }
     {

@@ -11,7 +11,10 @@ rcvd: 23 00 00 01 02 03 04 05 06 07 08 09 0A 0B 0C 0D 0E 0F 10 ;|data 0001020304
 rcvd: 23 CB ;|code cb
 rcvd: 23 01 ;|code 01
 rcvd: 23 C5 02 00 ;|code c5
-ipmi_cmd_raw: session timeout;|silent";
+ipmi_cmd_raw: session timeout;|silent
+ipmi_cmd_raw: message timeout;|silent
+ipmi_cmd_raw: driver timeout;|silent
+ipmi_cmd_raw: BMC busy;|silent";
 
 /// `text|reply`. A semicolon is a line feed.
 const OTHERS: &str = "|none
@@ -29,6 +32,10 @@ rcvd:23 00 02 ;|none
 rcvd: 23 00 ;rcvd: 23 00 ;|none
 sent: 23 00 ;|none
 ipmi_cmd_raw: session timeout|none
+ipmi_cmd_raw: BMC busy|none
+ipmi_cmd_raw: session timeout;;|none
+ipmi_cmd_raw: connection timeout;|none
+ipmi_ctx_open_outofband: BMC busy;|none
 ipmi_cmd_raw: driver busy;|none";
 
 #[test]

@@ -1,5 +1,7 @@
 -- What is saved of a capture, by whether the connection was lost.
-use Rattle.std.proofs.Common.{◌≡◌, ℕ, IfOk, List, MatchOption, None, Option, option_map, refl, Result, Ok, Err, Some, sym}
+use Rattle.std.proofs.Common.{◌≡◌, ◌++◌, [], ℕ, append-nil, IfOk, inl, inr, List, MatchOption, None, Option, option_map, refl, Result, Ok, Err, Some, sym}
+use Rattle.ipmi_output.specs.Failure.{line_text}
+use Rattle.ipmi_output.specs.Received.{Received, ReceivesText, WritesAll}
 
 module _ (Saves : Type 0) (Says : List ℕ → Type 0) (lost : Option (List ℕ)) where
   pub was_lost : (said : List ℕ) → lost ≡ Some said → Says said → MatchOption lost Saves Says
@@ -17,3 +19,9 @@ pub captured : {E : Type 0} {P Q : ℕ → Type 0} (result : Result ℕ E) → I
     → ((status : ℕ) → P status → Q status) → IfOk result Q
 captured (Ok status) is to = to status is
 captured (Err e) is to = tt
+
+-- a line that ends in a name
+pub said_name : {T E : Type 0} (result : Result T E) (old new : Received) (front name : List ℕ)
+    → WritesAll old new result (line_text (front ++ (name ++ []))) → ReceivesText old new (line_text (front ++ name))
+said_name (Ok done) old new front name says = inl (rw (append-nil name) at says)
+said_name (Err fault) old new front name says = inr (rw (append-nil name) at says)

@@ -1,7 +1,10 @@
 pub mod AskedLemmas
 pub mod CapturedLemmas
+pub mod ImageLemmas
+pub mod LabelLemmas
 pub mod ObjectLemmas
 pub mod OwnLemmas
 pub mod ProblemLemmas
 pub mod RunLemmas
 pub mod ScanLemmas
+pub mod WatchLemmas

@@ -1,13 +1,17 @@
 -- The output and the exit status of a capture.
-use Rattle.std.specs.Prelude.{◌≡◌, ◌⊎◌, ◌-◌, ℕ, Bool, true, false, codes, IsTrue, length, List, MatchOption, Option, take}
+use Rattle.std.specs.Prelude.{◌≡◌, ◌⊎◌, ◌≤◌, ◌+◌, ◌-◌, ◌++◌, [], ◌∷◌, ℕ, All, Bool, true, false, codes, IsTrue, length, List, map, MatchOption, Option, take}
 use Rattle.std.specs.List.{list_all}
 use Rattle.std.specs.Io.KnownBytes.{Appends}
-use Rattle.ipmi_bus.specs.Seen.{AsksAtMost, IsHonest, Seen}
+use Rattle.ipmi_bus.specs.Seen.{AsksAtMost, IsHonest, IsPlain, Seen, StaysHonest}
 use Rattle.ipmi_bus.specs.Store.{Store}
 use Rattle.ipmi_capture.specs.Capture.{IsCaptureBut, IsCaptureOf}
-use Rattle.ipmi_capture.specs.Left.{leaves_nothing, leaves_whole}
+use Rattle.ipmi_capture.specs.Left.{AreCounted, IsLeftOut, IsTrueOf, leaves_nothing, leaves_whole, left_text, PlainLeaves}
+use Rattle.ipmi_capture.specs.Phases.{most_calls}
 use Rattle.ipmi_capture.specs.declared.left.Left.{Left}
 use Rattle.ipmi_image.specs.Rewritten.{image_text_of}
+use Rattle.ipmi_output.specs.Failure.{escaped_name, failure_text, line_text}
+use Rattle.ipmi_output.specs.Received.{Received, ReceivesText}
+use Rattle.ipmi_output.specs.declared.failure.Failure.{Failure}
 
 -- the text of a whole image; for any other, the text without its last line, `end`, so that it is not an image
 abbrev pub printed_text : Bool → List ℕ → List ℕ
@@ -18,30 +22,57 @@ abbrev pub status_of_image : Bool → ℕ
 status_of_image true = 0
 status_of_image false = 1
 
--- the text was written to the output; or the output was closed by its reader, or accepted no more
-abbrev pub PrintsText : Bool → List ℕ → Option (List ℕ) → Option (List ℕ) → ℕ → Type 0
-PrintsText is_whole text old new status =
-    ((status ≡ status_of_image is_whole) × Appends old new (printed_text is_whole text))
-    ⊎ ((status ≡ 141) ⊎ (status ≡ 4))
+-- The text was written to the output; or the output was closed by its reader; or it accepted no more, and a message says so.
+abbrev pub PrintsText : Bool → List ℕ → Option (List ℕ) → Option (List ℕ) → Received → Received → ℕ → Type 0
+PrintsText is_whole text old new said said' status =
+    ((status ≡ status_of_image is_whole) × Appends old new (printed_text is_whole text) × (said' ≡ said))
+    ⊎ (((status ≡ 141) × (said' ≡ said))
+    ⊎ ((status ≡ 4) × ReceivesText said said' (line_text (failure_text Failure.WriteFault))))
 
--- the image was written to a file, if it is whole; or the file can't be written
-abbrev pub WritesText : Bool → ℕ → Type 0
-WritesText is_whole status = (status ≡ status_of_image is_whole) ⊎ ((is_whole ≡ true) × (status ≡ 4))
+-- A whole image was written to the file with this name, or the file can't be written. Another image is not written.
+abbrev pub WritesText : Bool → List ℕ → Received → Received → ℕ → Type 0
+WritesText false name said said' status =
+    (status ≡ 1) × ReceivesText said said' (line_text (escaped_name name ++ codes " is not written: the image is not whole"))
+WritesText true name said said' status =
+    ((status ≡ 0) × (said' ≡ said))
+    ⊎ ((status ≡ 4) × ReceivesText said said' (line_text (codes "cannot write " ++ escaped_name name)))
 
 -- to a file with this name, if there is one
-abbrev pub SavesText : Option (List ℕ) → Bool → List ℕ → Option (List ℕ) → Option (List ℕ) → ℕ → Type 0
-SavesText file is_whole text old new status =
-    MatchOption file (PrintsText is_whole text old new status) (λ name. (new ≡ old) × WritesText is_whole status)
+abbrev pub SavesText : Option (List ℕ) → Bool → List ℕ → Option (List ℕ) → Option (List ℕ) → Received → Received → ℕ → Type 0
+SavesText file is_whole text old new said said' status =
+    MatchOption file (PrintsText is_whole text old new said said' status)
+    (λ name. (new ≡ old) × WritesText is_whole name said said' status)
 
--- The controller was captured, as the contract of `capture` says, and the text of the image was saved. If the connection was
--- lost, nothing is saved, and the status is 1.
-pub record Captures (part : ℕ) (seen seen' : Seen) (lost file old new : Option (List ℕ)) (status : ℕ) : Type 0 where
+-- messages, one after another
+abbrev pub SaysLines : List (List ℕ) → Received → Received → Type 0
+SaysLines [] said said' = said' ≡ said
+SaysLines (text ∷ texts) said said'' = (said' : Received) × ReceivesText said said' (line_text text) × SaysLines texts said' said''
+
+-- each item left out is said, and the text is saved
+abbrev pub SavesImage : Option (List ℕ) → Store → List Left → Option (List ℕ) → Option (List ℕ) → Received → Received → ℕ → Type 0
+SavesImage file image left old new said said'' status =
+    (said' : Received) × SaysLines (map left_text left) said said'
+    × SavesText file (list_all leaves_whole left) (image_text_of image) old new said' said'' status
+
+-- nothing is saved, and a message has the tool's output on a line
+abbrev pub SaysLost : Option (List ℕ) → Option (List ℕ) → Received → Received → ℕ → Type 0
+SaysLost old new said said' status =
+    (new ≡ old) × (status ≡ 1)
+    × ((text : List ℕ) × ReceivesText said said' (line_text (codes "no reply from the controller: " ++ escaped_name text)))
+
+-- The controller was captured, as the contract of `capture` says, and the image was saved, unless the connection was lost.
+pub record Captures (part tries : ℕ) (seen seen' : Seen) (lost file old new : Option (List ℕ)) (said said' : Received)
+    (status : ℕ) : Type 0 where
   pub image : Store
   pub left : List Left
+  pub calls : seen'.calls ≤ seen.calls + most_calls tries
   pub asked : AsksAtMost part seen seen'
+  pub lacks : All (IsLeftOut image) left
+  pub stays : IsHonest seen → StaysHonest seen seen'
+  pub counts : IsHonest seen → AreCounted tries left seen seen'
   pub but : IsHonest seen → seen'.stores_added ≡ seen.stores_added → IsCaptureBut left image seen.store
   pub all : IsHonest seen → seen'.stores_added ≡ seen.stores_added → IsTrue (list_all leaves_nothing left)
       → IsCaptureOf image seen.store
-  pub saves : MatchOption lost
-      (SavesText file (list_all leaves_whole left) (image_text_of image) old new status)
-      (λ said. (new ≡ old) × (status ≡ 1))
+  pub told : IsHonest seen → seen'.stores_added ≡ seen.stores_added → All (IsTrueOf seen.store) left
+  pub plain : IsPlain seen → All (PlainLeaves seen.store) left
+  pub saves : MatchOption lost (SavesImage file image left old new said said' status) (λ text. SaysLost old new said said' status)

@@ -1,5 +1,7 @@
 pub mod Asked
 pub mod Captured
+pub mod Labels
+pub mod Live
 pub mod Looks
 pub mod Misplaced
 pub mod Objects

@@ -119,32 +119,36 @@ faults_of_problem _ = 0
 abbrev pub taken_of : {W : Type 0} {write : Ghosts W} → Written W write → List ℕ
 taken_of {write = write} out = unwrap_or (write.contents out.begun.value) [] ++ out.history.taken
 
+-- the number of its faults
+abbrev pub faults_of : {W : Type 0} {write : Ghosts W} → Written W write → ℕ
+faults_of out = out.history.faults
+
 -- the bytes still in its buffer
-abbrev pub held_by : {W : Type 0} {write : Ghosts (BufWriter (Watch W) Global)}
-    → Written (BufWriter (Watch W) Global) write → List ℕ
+abbrev pub held_by : {W : Type 0} {inner : Ghosts W} {write : Ghosts (BufWriter (Watch W inner) Global)}
+    → Written (BufWriter (Watch W inner) Global) write → List ℕ
 held_by out = writer_buffer (writer_of out)
 
 -- what left its buffer, and how many lines that is; how many with faults its watch counted, and whether it noted that the output
 -- was closed
-abbrev pub handed_on : {W : Type 0} {write : Ghosts (BufWriter (Watch W) Global)}
-    → Written (BufWriter (Watch W) Global) write → List ℕ
+abbrev pub handed_on : {W : Type 0} {inner : Ghosts W} {write : Ghosts (BufWriter (Watch W inner) Global)}
+    → Written (BufWriter (Watch W inner) Global) write → List ℕ
 handed_on out = (writer_inner (writer_of out)).taken.bytes
 
-abbrev pub lines_seen : {W : Type 0} {write : Ghosts (BufWriter (Watch W) Global)}
-    → Written (BufWriter (Watch W) Global) write → ℕ
+abbrev pub lines_seen : {W : Type 0} {inner : Ghosts W} {write : Ghosts (BufWriter (Watch W inner) Global)}
+    → Written (BufWriter (Watch W inner) Global) write → ℕ
 lines_seen out = lines_in (handed_on out)
 
-abbrev pub faults_seen : {W : Type 0} {write : Ghosts (BufWriter (Watch W) Global)}
-    → Written (BufWriter (Watch W) Global) write → ℕ
+abbrev pub faults_seen : {W : Type 0} {inner : Ghosts W} {write : Ghosts (BufWriter (Watch W inner) Global)}
+    → Written (BufWriter (Watch W inner) Global) write → ℕ
 faults_seen out = faults_in (writer_inner (writer_of out)).fault_lines
 
-abbrev pub is_closed : {W : Type 0} {write : Ghosts (BufWriter (Watch W) Global)}
-    → Written (BufWriter (Watch W) Global) write → Bool
+abbrev pub is_closed : {W : Type 0} {inner : Ghosts W} {write : Ghosts (BufWriter (Watch W inner) Global)}
+    → Written (BufWriter (Watch W inner) Global) write → Bool
 is_closed out = (writer_inner (writer_of out)).is_closed
 
 -- a line with a fault was counted since then
-abbrev pub is_faulty : {W : Type 0} {write : Ghosts (BufWriter (Watch W) Global)}
-    → Written (BufWriter (Watch W) Global) write → Written (BufWriter (Watch W) Global) write → Bool
+abbrev pub is_faulty : {W : Type 0} {inner : Ghosts W} {write : Ghosts (BufWriter (Watch W inner) Global)}
+    → Written (BufWriter (Watch W inner) Global) write → Written (BufWriter (Watch W inner) Global) write → Bool
 is_faulty old new = not (faults_seen new == faults_seen old)
 
 -- ---- one input
@@ -157,9 +161,9 @@ Prints Leaves Idle faulty closed (Ok image) problem =
     (ending : Ending) × Leaves image.items ending × (problem ≡ problem_of ending (looks_of image.items ending) faulty closed)
 
 -- the output of a command over it
-abbrev pub PrintsInput : {W : Type 0} {write : Ghosts (BufWriter (Watch W) Global)} → Wording
-    → Result (Vec ℕ Global) InputFault → CommandState → Written (BufWriter (Watch W) Global) write
-    → Written (BufWriter (Watch W) Global) write → Option Problem → Type 0
+abbrev pub PrintsInput : {W : Type 0} {inner : Ghosts W} {write : Ghosts (BufWriter (Watch W inner) Global)} → Wording
+    → Result (Vec ℕ Global) InputFault → CommandState → Written (BufWriter (Watch W inner) Global) write
+    → Written (BufWriter (Watch W inner) Global) write → Option Problem → Type 0
 PrintsInput wording input command old new problem =
     Prints (λ image ending. EndsBy (λ done. AnswersJob (job_of_command_in wording command)
     (store_of_image image) (taken_of old) (taken_of new) done) ending × IsHandedOn (held_by new) ending)
@@ -178,8 +182,8 @@ live_state seen lost out = record { seen = seen; lost = lost; out = out }
 
 -- the output of a command over it: no part requested is too long, and it ends as the run did; the tool's output is reported only
 -- if the connection was lost
-abbrev pub PrintsLive : {W : Type 0} {write : Ghosts (BufWriter (Watch W) Global)} → Wording → CommandState
-    → LiveState (Written (BufWriter (Watch W) Global) write) → LiveState (Written (BufWriter (Watch W) Global) write)
+abbrev pub PrintsLive : {W : Type 0} {inner : Ghosts W} {write : Ghosts (BufWriter (Watch W inner) Global)} → Wording → CommandState
+    → LiveState (Written (BufWriter (Watch W inner) Global) write) → LiveState (Written (BufWriter (Watch W inner) Global) write)
     → Option Problem → Type 0
 PrintsLive wording command old new problem =
     (ending : Ending) × (said : Option (String Global)) × AsksAtMost command.part old.seen new.seen

@@ -1,8 +1,12 @@
 //! Saves the contents of a live controller as an image.
-ghost use Rattle.std.specs.Prelude.{◌≡◌, IfOk, OnErr, option_map};
+ghost use Rattle.std.specs.Prelude.{◌≡◌, ◌++◌, ℕ, codes, IfOk, List, map, OnErr, OnOk, Option, option_map, true};
+ghost use Rattle.ipmi_bus.specs.Seen.{Seen};
+ghost use Rattle.ipmi_capture.specs.Left.{left_text};
 ghost use Rattle.ipmi_image.specs.Rewritten.{image_text_of};
+ghost use Rattle.ipmi_output.specs.Failure.{escaped_name, line_text};
+ghost use Rattle.ipmi_output.specs.Received.{ReceivesText};
 ghost use Rattle.ipmi_raw.specs.Controller.{last_words, seen_of};
-ghost use Rattle.serdimko.specs.Captured.{Captures, printed_text, PrintsText, SavesText, status_of_image, WritesText};
+ghost use Rattle.serdimko.specs.Captured.{Captures, printed_text, PrintsText, SavesText, SaysLines, status_of_image, WritesText};
 
 use crate::live::{Live, controller_of, lost_line};
 use crate::problem::CLOSED;
@@ -84,13 +88,24 @@ impl<W: Write> Progress for Counter<W> {
 }
 
 /// Reports the items that are not in the image, one line each.
-fn say_left<E: MessageSink>(alloc: Global, left: &[Left], err: &mut E) -> Result<(), AllocError> {
+fn say_left<E: MessageSink>(alloc: Global, left: &[Left], err: &mut E) -> Result<(), AllocError>
+    ensures { OnOk result (SaysLines (map left_text left.now) (E.received err.old) (E.received err.new)) }
+{
     for left in left {
         let line = format!(in alloc; "{left}")?;
         // there is nowhere left to report that this failed
         let _ = say_line(err, &[Text(line.as_str())]);
     }
     Ok(())
+}
+
+/// Reports that the connection was lost, with the tool's last output on a line.
+fn say_lost<E: MessageSink>(line: &str, err: &mut E)
+    ensures { ReceivesText (E.received err.old) (E.received err.new)
+        (line_text (codes "no reply from the controller: " ++ escaped_name line.now)) }
+{
+    // there is nowhere left to report that this failed
+    let _ = say_line(err, &[Text("no reply from the controller: "), Name(line)]);
 }
 
 /// Writes the file in one step: writes another file, then renames it.
@@ -127,7 +142,8 @@ fn status_of_image(is_whole: bool) -> u8
 
 /// Writes the text of an image, or its part to print, to the output, and returns the exit status.
 fn print_text<W: Write, E: MessageSink>(text: &[u8], is_whole: bool, out: &mut W, err: &mut E) -> u8
-    ensures { PrintsText is_whole text.now (W.contents out.old) (W.contents out.new) result }
+    ensures { PrintsText is_whole text.now (W.contents out.old) (W.contents out.new)
+        (E.received err.old) (E.received err.new) result }
 {
     match out.write_all(printed_text(text, is_whole)) {
         Ok(()) => status_of_image(is_whole),
@@ -140,6 +156,22 @@ fn print_text<W: Write, E: MessageSink>(text: &[u8], is_whole: bool, out: &mut W
     }
 }
 
+/// Writes the text of a whole image to a file, and returns the exit status.
+fn write_whole<R: Files + AllocGlobal, E: MessageSink>(
+    rt: &R,
+    text: &[u8],
+    name: &str,
+    err: &mut E,
+) -> u8
+    ensures { WritesText true name.now (E.received err.old) (E.received err.new) result }
+{
+    if write_file(rt, name, text).is_err() {
+        let _ = say_line(err, &[Text("cannot write "), Name(name)]);
+        return UNWRITTEN;
+    }
+    0
+}
+
 /// Writes the text of an image to a file, if it is whole, and returns the exit status.
 fn write_text<R: Files + AllocGlobal, E: MessageSink>(
     rt: &R,
@@ -148,20 +180,14 @@ fn write_text<R: Files + AllocGlobal, E: MessageSink>(
     name: &str,
     err: &mut E,
 ) -> u8
-    ensures { WritesText is_whole result }
+    ensures { WritesText is_whole name.now (E.received err.old) (E.received err.new) result }
 {
-    if !is_whole {
-        let _ = say_line(
-            err,
-            &[Name(name), Text(" is not written: the image is not whole")],
-        );
-        return NOT_WHOLE;
+    if is_whole {
+        return write_whole(rt, text, name, err);
     }
-    if write_file(rt, name, text).is_err() {
-        let _ = say_line(err, &[Text("cannot write "), Name(name)]);
-        return UNWRITTEN;
-    }
-    status_of_image(is_whole)
+    let why = Text(" is not written: the image is not whole");
+    let _ = say_line(err, &[Name(name), why]);
+    NOT_WHOLE
 }
 
 /// Writes the image, whole or in part, and returns the exit status.
@@ -173,7 +199,8 @@ fn write_captured<R: Files + AllocGlobal, W: Write, E: MessageSink>(
     err: &mut E,
 ) -> Result<u8, AllocError>
     ensures saves { IfOk result (λ status. SavesText (option_map (λ word. word.now) output.entry) captured.now.is_whole
-        (image_text_of captured.now.image) (W.contents out.old) (W.contents out.new) status) }
+        (image_text_of captured.now.image) (W.contents out.old) (W.contents out.new)
+        (E.received err.old) (E.received err.new) status) }
     ensures err { OnErr result (out.new ≡ out.old) }
 {
     let text = image_text(rt.alloc(), &captured.image)?;
@@ -200,16 +227,16 @@ fn capture_from<
     out: &mut W,
     err: &mut E,
 ) -> Result<u8, AllocError>
-    ensures { IfOk result (Captures command.now.part (seen_of P.seen controller.old) (seen_of P.seen controller.new)
-        (last_words controller.new) (option_map (λ word. word.now) output.entry) (W.contents out.old) (W.contents out.new)) }
+    ensures { IfOk result (Captures command.now.part command.now.tries (seen_of P.seen controller.old)
+        (seen_of P.seen controller.new) (last_words controller.new) (option_map (λ word. word.now) output.entry)
+        (W.contents out.old) (W.contents out.new) (E.received err.old) (E.received err.new)) }
 {
     let (part, tries) = (command.part(), command.tries());
     let captured = capture(rt.alloc(), controller, part, tries, counter)?;
     counter.clear();
     if let Some(text) = controller.lost() {
         let line = lost_line(rt.alloc(), text)?;
-        let parts = [Text("no reply from the controller: "), Name(line.as_str())];
-        let _ = say_line(err, &parts);
+        say_lost(line.as_str(), err);
         return Ok(NOT_WHOLE);
     }
     say_left(rt.alloc(), captured.left.as_slice(), err)?;
@@ -230,7 +257,11 @@ pub(crate) fn capture_live<
     terminal: Option<T>,
     out: &mut W,
     err: &mut E,
-) -> Result<u8, AllocError> {
+) -> Result<u8, AllocError>
+    ensures { IfOk result (λ status. (seen seen' : Seen) × (lost : Option (List ℕ)) × Captures command.now.part command.now.tries
+        seen seen' lost (option_map (λ word. word.now) output.entry) (W.contents out.old) (W.contents out.new)
+        (E.received err.old) (E.received err.new) status) }
+{
     let mut counter = Counter::new(terminal);
     let mut controller = controller_of(rt, live);
     capture_from(rt, &mut controller, command, output, &mut counter, out, err)

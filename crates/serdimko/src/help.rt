@@ -36,7 +36,7 @@ Commands (more on each: serdimko COMMAND --help):
 
 Options, anywhere, also after the command:
   --image FILE    the image is in this file; - or no option: standard input;
-                  several: one after another, each after a line '== FILE'
+                  several: one after another, texts after a line '== FILE'
   --live TOOL:DIR a live controller; serdimko-live gives this option
   --from HEX4     start at this record id (sdr list, elist, hex, get; sensor;
                   sel list, elist)
@@ -115,7 +115,7 @@ const FRU: &str = "Prints inventories of field replaceable units.
                   present, and the product's name, part number and serial
 
 ID is 0 to 254, decimal, or hex after 0x.
-With --strict the status is 1 if an inventory has a fault or is not present.
+With --strict the status is 1 if a fault is printed or a device not present.
 ";
 
 const IMAGE: &str = "Prints the image as version 2, in a fixed order and spelling.
@@ -130,9 +130,9 @@ their infos, the readings of the sensors and the inventories that records name.
 
   serdimko-live -I lanplus -H HOST -U USER -E -- capture -o server.image
 
-What the controller refuses to tell is not in the image, and is said. Where
-records are missing, the image is not whole: the status is 1, and -o writes
-nothing; standard output gets what came, without the last line, 'end'.
+What the image lacks is said. If it lacks more than refused values and sizes,
+or empty inventories, it is not whole: the status is 1, and -o writes nothing;
+standard output gets what came, without the last line, 'end'.
 --part N and --tries N are those of the listings; --quiet shows no progress.
 ";
 

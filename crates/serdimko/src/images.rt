@@ -1,8 +1,11 @@
 //! Runs commands over each image, one after another.
-ghost use Rattle.std.specs.Prelude.{◌≡◌, ◌+◌, ◌++◌, Some, if◌then◌else◌};
-ghost use Rattle.ipmi_commands.specs.declared.job.Wording.{Wording};
-ghost use Rattle.serdimko.specs.Objects.{PrintsRun};
-ghost use Rattle.serdimko.specs.Problem.{faults_of_problem, handed_on, held_by, lines_seen, looks_of, PrintsInput, RunsEach, taken_of, Tells};
+ghost use Rattle.std.specs.Prelude.{◌≡◌, ◌+◌, ◌++◌, ◌∷◌, [], codes, false, map, OnErr, OnOk, option_map, Some};
+ghost use Rattle.ipmi_output.specs.Failure.{escaped_name, line_text};
+ghost use Rattle.ipmi_output.specs.Sink.{TakesPart};
+ghost use Rattle.ipmi_output.specs.Writer.{flush_faults};
+ghost use Rattle.ipmi_program.specs.Input.{input_name};
+ghost use Rattle.serdimko.specs.Objects.{file_of, PrintsEach, PrintsImage, PrintsObjects, PrintsRun, PrintsRuns, PrintsTexts, text_wording};
+ghost use Rattle.serdimko.specs.Problem.{faults_of, faults_of_problem, handed_on, held_by, lines_seen, looks_of, PrintsInput, RunsEach, taken_of, Tells};
 
 use crate::asked::Commands;
 use crate::labels::labels_of;
@@ -31,7 +34,9 @@ pub(crate) fn lines_of<W: Write + Drop>(out: &Output<W>) -> usize
 }
 
 /// The file; None for `-`, which is standard input.
-pub(crate) fn file_of(image: Option<&Word>) -> Option<&Word> {
+pub(crate) fn file_of(image: Option<&Word>) -> Option<&Word>
+    ensures { option_map (λ file. file.now) result ≡ file_of (option_map (λ file. file.now) image.entry) }
+{
     image.filter(|file| file.as_str() != "-")
 }
 
@@ -122,7 +127,12 @@ pub(crate) fn say_problem<E: MessageSink>(
 }
 
 /// Prints `== NAME` before the output for one of several images.
-fn print_name<W: Write + Drop>(out: &mut Output<W>, name: &str) -> Result<(), SinkFault> {
+fn print_name<W: Write + Drop>(out: &mut Output<W>, name: &str) -> Result<(), SinkFault>
+    ensures ok { OnOk result ((taken_of out.new ≡ taken_of out.old ++ line_text (codes "== " ++ escaped_name name.now))
+        × (held_by out.new ≡ [])) }
+    ensures err { OnErr result (TakesPart (taken_of out.old) (taken_of out.new) (line_text (codes "== " ++ escaped_name name.now))) }
+    ensures faults { faults_of out.new ≡ faults_of out.old + flush_faults result }
+{
     say_line(out, &[Text("== "), Name(name)])?;
     out.flush()
 }
@@ -155,12 +165,62 @@ fn print_each<W: Write + Drop, E: MessageSink>(
 
 /// The wording of texts, in words or in codes.
 pub(crate) fn wording_of<'a>(in_words: bool) -> Wording<'a>
-    ensures { result ≡ (if in_words then Wording.Words else Wording.Codes) }
+    ensures { result ≡ text_wording in_words }
 {
     if in_words {
         Wording::Words
     } else {
         Wording::Codes
+    }
+}
+
+/// Runs the commands over the file, or standard input, in this wording ([`print_each`]).
+fn print_file<W: Write + Drop, E: MessageSink>(
+    rt: &HostRuntime,
+    commands: &[Command],
+    wording: Wording<'_>,
+    file: Option<&Word>,
+    is_one: bool,
+    out: &mut Output<W>,
+    err: &mut E,
+) -> (u8, bool)
+    ensures { PrintsRuns wording.entry (input_name (option_map (λ file. file.now) file.entry)) is_one commands.now
+        out.old out.new (E.received err.old) (E.received err.new) result }
+{
+    let input = read_input(rt, file);
+    let name = input_name(file);
+    print_each(
+        rt.alloc(),
+        commands,
+        wording,
+        &input,
+        name,
+        is_one,
+        out,
+        err,
+    )
+}
+
+/// Prints the name of one of several images, and then its texts.
+fn print_named<W: Write + Drop, E: MessageSink>(
+    rt: &HostRuntime,
+    commands: &[Command],
+    wording: Wording<'_>,
+    file: Option<&Word>,
+    out: &mut Output<W>,
+    err: &mut E,
+) -> (u8, bool)
+    ensures { PrintsTexts wording.entry (input_name (option_map (λ file. file.now) file.entry)) false commands.now
+        out.old out.new (E.received err.old) (E.received err.new) result }
+{
+    let name = input_name(file);
+    match print_name(out, name) {
+        Ok(()) => print_file(rt, commands, wording, file, false, out, err),
+        Err(fault) => {
+            let is_closed = out.get_ref().get_ref().is_closed();
+            let problem = Problem::of(Err(Failure::from(fault)), Looks::Unknown, false, is_closed);
+            (say_problem(&problem, name, false, err), false)
+        }
     }
 }
 
@@ -172,18 +232,15 @@ fn print_texts<W: Write + Drop, E: MessageSink>(
     is_one: bool,
     out: &mut Output<W>,
     err: &mut E,
-) -> (u8, bool) {
-    let name = input_name(file);
-    if !is_one {
-        if let Err(fault) = print_name(out, name) {
-            let is_closed = out.get_ref().get_ref().is_closed();
-            let problem = Problem::of(Err(Failure::from(fault)), Looks::Unknown, false, is_closed);
-            return (say_problem(&problem, name, false, err), false);
-        }
-    }
-    let input = read_input(rt, file);
+) -> (u8, bool)
+    ensures { PrintsTexts (text_wording commands.now.in_words) (input_name (option_map (λ file. file.now) file.entry)) is_one
+        commands.now.all.items out.old out.new (E.received err.old) (E.received err.new) result }
+{
     let (all, wording) = (commands.all.as_slice(), wording_of(commands.in_words));
-    print_each(rt.alloc(), all, wording, &input, name, is_one, out, err)
+    if is_one {
+        return print_file(rt, all, wording, file, true, out, err);
+    }
+    print_named(rt, all, wording, file, out, err)
 }
 
 /// Runs the commands over an image and prints objects, each with the image's name if it is one of several.
@@ -195,7 +252,10 @@ fn print_objects<W: Write + Drop, E: MessageSink>(
     is_one: bool,
     out: &mut Output<W>,
     err: &mut E,
-) -> (u8, bool) {
+) -> (u8, bool)
+    ensures { PrintsObjects own.now.labels (input_name (option_map (λ file. file.now) file.entry)) is_one
+        commands.now.all.items out.old out.new (E.received err.old) (E.received err.new) result }
+{
     let name = input_name(file);
     let image = if is_one { None } else { Some(name) };
     let Ok(labels) = labels_of(rt.alloc(), own, image) else {
@@ -203,17 +263,7 @@ fn print_objects<W: Write + Drop, E: MessageSink>(
         return (say_problem(&problem, name, is_one, err), true);
     };
     let json = Wording::Json(labels.as_slice());
-    let input = read_input(rt, file);
-    print_each(
-        rt.alloc(),
-        commands.all.as_slice(),
-        json,
-        &input,
-        name,
-        is_one,
-        out,
-        err,
-    )
+    print_file(rt, commands.all.as_slice(), json, file, is_one, out, err)
 }
 
 /// Runs the commands over an image.
@@ -222,11 +272,14 @@ fn print_image<W: Write + Drop, E: MessageSink>(
     commands: &Commands,
     own: &Own,
     image: Option<&Word>,
-    is_one: bool,
     out: &mut Output<W>,
     err: &mut E,
-) -> (u8, bool) {
+) -> (u8, bool)
+    ensures { PrintsImage own.now commands.now (option_map (λ image. image.now) image.entry) out.old out.new
+        (E.received err.old) (E.received err.new) result }
+{
     let file = file_of(image);
+    let is_one = own.images.as_slice().is_empty();
     if own.json {
         print_objects(rt, commands, own, file, is_one, out, err)
     } else {
@@ -239,29 +292,25 @@ fn print_image<W: Write + Drop, E: MessageSink>(
 pub(crate) fn print_images<W: Write + Drop, E: MessageSink>(
     rt: &HostRuntime,
     commands: &Commands,
-    image: Option<&Word>,
+    first: Option<&Word>,
     own: &Own,
     out: &mut Output<W>,
     err: &mut E,
-) -> u8 {
-    let more = own.images.as_slice();
-    let is_one = more.is_empty();
-    let (mut highest, mut has_room) = print_image(rt, commands, own, image, is_one, out, err);
-    for image in more {
-        if !has_room {
-            break;
-        }
-        let (status, still_has_room) = print_image(
-            rt,
-            commands,
-            own,
-            Some(image),
-            is_one,
-            out,
-            err,
-        );
+) -> u8
+    ensures { PrintsEach (PrintsImage own.now commands.now)
+        (option_map (λ image. image.now) first.entry ∷ map Some own.now.images) out.old out.new
+        (E.received err.old) (E.received err.new) result }
+{
+    let (mut highest, has_room) = print_image(rt, commands, own, first, out, err);
+    if !has_room {
+        return highest;
+    }
+    for image in own.images.as_slice() {
+        let (status, has_room) = print_image(rt, commands, own, Some(image), out, err);
         highest = highest.max(status);
-        has_room = still_has_room;
+        if !has_room {
+            return highest;
+        }
     }
     highest
 }

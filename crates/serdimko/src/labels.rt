@@ -1,6 +1,12 @@
 //! The labels that `--label` adds to the objects of `--json`.
+ghost use Rattle.std.specs.List.{list_any};
+ghost use Rattle.std.specs.Prelude.{◌≡◌, [], bytes_eq, IfOk, map, OnOk, option_map};
+ghost use Rattle.ipmi_output.specs.Failure.{joined_parts};
+ghost use Rattle.serdimko.specs.Labels.{fault_of_label, key_value, label_of, labels_of, with_label, wrong_label};
+
 use crate::mistake::{Line, line};
 use crate::own::Own;
+use crate::scan::name_and_value;
 use ipmi_json::Label;
 use ipmi_output::Part::{Name, Text};
 use std::alloc::{AllocError, Global};
@@ -9,7 +15,7 @@ use std::alloc::{AllocError, Global};
 const IMAGE: &str = "image";
 
 /// The keys that a label can't have: those of all objects, and that of the image's name.
-const KEYS: [&str; 68] = [
+const KEYS: [&str; 69] = [
     "object",
     "record_id",
     "record_type",
@@ -38,7 +44,8 @@ const KEYS: [&str; 68] = [
     "lower_non_recoverable",
     "lower_critical",
     "lower_non_critical",
-    "device_address",
+    "device_access_address",
+    "device_slave_address",
     "fru_device_id",
     "is_logical",
     "access_lun",
@@ -81,26 +88,53 @@ const KEYS: [&str; 68] = [
 ];
 
 /// The label in the value of `--label`. None if it is malformed.
-fn label_of(value: &str) -> Option<Label<'_>> {
-    let (key, value) = value.split_once('=')?;
+fn label_of(text: &str) -> Option<Label<'_>>
+    ensures { option_map key_value result ≡ label_of text.entry.now }
+{
+    let (key, value) = name_and_value(text);
     if key.is_empty() {
         return None;
     }
-    Some(Label { key, value })
+    Some(Label { key, value: value? })
+}
+
+/// Whether a label has the key.
+fn has_key(labels: &[Label<'_>], key: &str) -> bool
+    ensures { result ≡ list_any (λ label. bytes_eq label.key key.now) (map key_value labels.now) }
+{
+    for label in labels {
+        if label.key == key {
+            return true;
+        }
+    }
+    false
 }
 
 /// What is wrong with the value of `--label`, given the labels before it.
-fn fault_of(value: &str, before: &[Label<'_>]) -> Option<&'static str> {
-    let Some(label) = label_of(value) else {
+fn fault_of(label: Option<Label<'_>>, before: &[Label<'_>]) -> Option<&'static str>
+    ensures { option_map (λ fault. fault.now) result ≡ fault_of_label (option_map key_value label.entry) (map key_value before.now) }
+{
+    let Some(label) = label else {
         return Some("' is not KEY=VALUE");
     };
     if KEYS.contains(&label.key) {
         return Some("': objects have this key themselves");
     }
-    if before.iter().any(|other| other.key == label.key) {
+    if has_key(before, label.key) {
         return Some("': an earlier label has this key");
     }
     None
+}
+
+/// Adds the label, if there is one.
+fn add<'a>(labels: &mut Vec<Label<'a>>, label: Option<Label<'a>>) -> Result<(), AllocError>
+    ensures { OnOk result (map key_value labels.new.items ≡
+        with_label (map key_value labels.old.items) (option_map key_value label.entry)) }
+{
+    if let Some(label) = label {
+        labels.push(label)?;
+    }
+    Ok(())
 }
 
 /// The labels of all objects: the image's name if it is one of several, and those of `--label`.
@@ -108,31 +142,30 @@ pub(crate) fn labels_of<'a>(
     alloc: Global,
     own: &'a Own,
     image: Option<&'a str>,
-) -> Result<Vec<Label<'a>>, AllocError> {
+) -> Result<Vec<Label<'a>>, AllocError>
+    ensures { IfOk result (λ labels. map key_value labels.items ≡
+        labels_of (option_map (λ name. name.now) image.entry) own.now.labels) }
+{
     let mut labels = Vec::new(alloc);
-    if let Some(value) = image {
-        labels.push(Label { key: IMAGE, value })?;
-    }
-    for value in own.labels.as_slice() {
-        if let Some(label) = label_of(value.as_str()) {
-            labels.push(label)?;
-        }
+    add(&mut labels, image.map(|value| Label { key: IMAGE, value }))?;
+    for text in own.labels.as_slice() {
+        add(&mut labels, label_of(text.as_str()))?;
     }
     Ok(labels)
 }
 
 /// What is wrong with the first wrong value of `--label`.
-pub(crate) fn wrong_label<'a>(alloc: Global, own: &'a Own) -> Result<Option<Line<'a>>, AllocError> {
+pub(crate) fn wrong_label<'a>(alloc: Global, own: &'a Own) -> Result<Option<Line<'a>>, AllocError>
+    ensures { IfOk result (λ found. option_map (λ line. joined_parts line.items) found ≡ wrong_label [] own.now.labels) }
+{
     let mut labels = Vec::new(alloc);
-    for value in own.labels.as_slice() {
-        let value = value.as_str();
-        if let Some(fault) = fault_of(value, labels.as_slice()) {
-            let parts = [Text("--label '"), Name(value), Text(fault)];
-            return line(alloc, &parts).map(Some);
+    for text in own.labels.as_slice() {
+        let text = text.as_str();
+        let label = label_of(text);
+        if let Some(fault) = fault_of(label, labels.as_slice()) {
+            return line(alloc, &[Text("--label '"), Name(text), Text(fault)]).map(Some);
         }
-        if let Some(label) = label_of(value) {
-            labels.push(label)?;
-        }
+        add(&mut labels, label)?;
     }
     Ok(None)
 }

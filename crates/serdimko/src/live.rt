@@ -1,8 +1,9 @@
 //! Runs commands over a live controller. A stock tool holds a session with it, and pipes in a folder lead to the tool.
-ghost use Rattle.std.specs.Prelude.{◌≡◌, ◌+◌, ℕ, Bool, codes, List, None, Option, true};
+ghost use Rattle.std.specs.Prelude.{◌≡◌, ◌+◌, ℕ, Bool, codes, List, None, Option, option_map, true};
 ghost use Rattle.ipmi_bus.specs.Seen.{Seen};
 ghost use Rattle.ipmi_raw.specs.Controller.{last_words, seen_of};
-ghost use Rattle.serdimko.specs.Objects.{PrintsLiveRun};
+ghost use Rattle.serdimko.specs.Live.{live_of, tool_of};
+ghost use Rattle.serdimko.specs.Objects.{PrintsLiveObjects, PrintsLiveRun, PrintsLiveRuns, text_wording};
 ghost use Rattle.serdimko.specs.Problem.{faults_of_problem, live_state, PrintsLive, RunsEach, Tells};
 
 use crate::asked::Commands;
@@ -13,7 +14,7 @@ use crate::objects::end_run;
 use crate::own::Own;
 use crate::problem::Problem;
 use ipmi_command_line::Command;
-use ipmi_commands::{Wording, report};
+use ipmi_commands::Wording;
 use ipmi_output::{Failure, MessageSink, Sink};
 use ipmi_program::print_live;
 use ipmi_raw::{Open, Peer, Piped, RawController, Tool};
@@ -40,16 +41,27 @@ pub(crate) struct Live<'a> {
     folder: &'a str,
 }
 
+/// The tool with this name.
+fn tool_of(name: &str) -> Option<Tool>
+    ensures { result ≡ tool_of name.now }
+{
+    match name {
+        "ipmitool" => Some(Tool::Ipmitool),
+        "freeipmi" => Some(Tool::FreeIpmi),
+        _ => None,
+    }
+}
+
 impl<'a> Live<'a> {
     /// The value of `--live`: the tool and the folder of its pipes.
-    pub(crate) fn of(value: &'a str) -> Option<Live<'a>> {
+    pub(crate) fn of(value: &'a str) -> Option<Live<'a>>
+        ensures { option_map (λ live. (live.tool, live.folder.now)) result ≡ live_of value.entry.now }
+    {
         let (tool, folder) = value.split_once(':')?;
-        let tool = match tool {
-            "ipmitool" => Tool::Ipmitool,
-            "freeipmi" => Tool::FreeIpmi,
-            _ => return None,
-        };
-        Some(Live { tool, folder })
+        Some(Live {
+            tool: tool_of(tool)?,
+            folder,
+        })
     }
 
     /// Whether its pipes are there: each tool is asked for logical unit 0.
@@ -199,9 +211,7 @@ fn print_live_controller<R: Files + Clock + AllocGlobal, W: Write + Drop, E: Mes
     out: &mut Output<W>,
     err: &mut E,
 ) -> u8
-    ensures { (seen seen' : Seen) × (lost : Option (List ℕ)) × (room : Bool)
-        × RunsEach (PrintsLiveRun wording.entry) (Tells (codes "the controller") true) commands.now
-        (live_state seen None out.old) (live_state seen' lost out.new) (E.received err.old) (E.received err.new) (result, room) }
+    ensures { PrintsLiveRuns wording.entry commands.now out.old out.new (E.received err.old) (E.received err.new) result }
 {
     let mut controller = controller_of(rt, live);
     print_each_over(rt.alloc(), commands, wording, &mut controller, out, err)
@@ -214,7 +224,10 @@ pub(crate) fn print_live_texts<R: Files + Clock + AllocGlobal, W: Write + Drop, 
     live: Live<'_>,
     out: &mut Output<W>,
     err: &mut E,
-) -> u8 {
+) -> u8
+    ensures { PrintsLiveRuns (text_wording commands.now.in_words) commands.now.all.items out.old out.new
+        (E.received err.old) (E.received err.new) result }
+{
     let wording = wording_of(commands.in_words);
     print_live_controller(rt, commands.all.as_slice(), wording, live, out, err)
 }
@@ -227,9 +240,13 @@ pub(crate) fn print_live_objects<R: Files + Clock + AllocGlobal, W: Write + Drop
     live: Live<'_>,
     out: &mut Output<W>,
     err: &mut E,
-) -> u8 {
+) -> u8
+    ensures { PrintsLiveObjects own.now.labels commands.now.all.items out.old out.new
+        (E.received err.old) (E.received err.new) result }
+{
     let Ok(labels) = labels_of(rt.alloc(), own, None) else {
-        return report(Err(Failure::OutOfMemory), err);
+        let problem = Some(Problem::Failed(Failure::OutOfMemory));
+        return say_problem(&problem, NAME, true, err);
     };
     let json = Wording::Json(labels.as_slice());
     print_live_controller(rt, commands.all.as_slice(), json, live, out, err)

@@ -1,4 +1,6 @@
 //! Why parsing the command line failed, and how to correct it, as the parts of one line.
+ghost use Rattle.std.specs.Prelude.{◌≡◌, IfOk};
+
 use crate::grammar::{COMMANDS, ENDS, Next, Number, next_of};
 use crate::live::Live;
 use crate::own::{Own, id_word, is_option};
@@ -35,7 +37,9 @@ pub(crate) fn mistake<'a>(
 }
 
 /// A line of these parts.
-pub(crate) fn line<'a>(alloc: Global, parts: &[Part<'a>]) -> Result<Line<'a>, AllocError> {
+pub(crate) fn line<'a>(alloc: Global, parts: &[Part<'a>]) -> Result<Line<'a>, AllocError>
+    ensures { IfOk result (λ line. line.items ≡ parts.entry.now) }
+{
     parts.to_vec(alloc)
 }
 

@@ -4,7 +4,7 @@ ghost use Rattle.std.specs.Str.Lossy.{utf8_lossy};
 ghost use Rattle.ipmi_output.specs.Sink.{TakesPart};
 ghost use Rattle.ipmi_output.specs.Writer.{flush_faults};
 ghost use Rattle.serdimko.specs.Objects.{EndsIn, IsEndLine, message_of, PrintsEnd};
-ghost use Rattle.serdimko.specs.Problem.{faults_of_problem, has_room, held_by, lines_seen, problem_text, status_of_problem, taken_of};
+ghost use Rattle.serdimko.specs.Problem.{faults_of_problem, has_room, held_by, is_closed, lines_seen, problem_text, status_of_problem, taken_of};
 
 use crate::images::{Output, lines_of};
 use crate::looks::Looks;
@@ -107,7 +107,7 @@ fn print_end<'a, W: Write + Drop>(
         ⟦<Output<W> as Sink>⟧.faults out.old + faults_of_problem result }
     ensures ends { PrintsEnd (has_room problem.entry)
         (IsEndLine labels.now (lines_seen out.old - before) name.now is_one problem.entry)
-        (taken_of out.old) (taken_of out.new) (held_by out.new) problem.entry result }
+        (taken_of out.old) (taken_of out.new) (held_by out.new) (is_closed out.new) problem.entry result }
 {
     if !Problem::has_room(&problem) {
         return problem;

@@ -280,7 +280,7 @@ fn is_valued(option: &str) -> bool
 }
 
 /// An option and the value after `=`, if there is one.
-fn name_and_value(word: &str) -> (&str, Option<&str>)
+pub(crate) fn name_and_value(word: &str) -> (&str, Option<&str>)
     ensures name { result.0.now ≡ name_in word.entry.now }
     ensures value { option_map (λ value. value.now) result.1 ≡ value_in word.entry.now }
 {

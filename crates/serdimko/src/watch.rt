@@ -1,12 +1,16 @@
 //! Counts the lines of the output, and those that tell a fault, and notes that the output was closed.
-ghost use Rattle.std.specs.Prelude.{◌≡◌, ◌==◌, ◌++◌, [], List, ℕ, Some, count_by, option_map, unwrap_or};
+ghost use Rattle.std.specs.Prelude.{◌≡◌, ◌==◌, ◌++◌, [], IsSome, List, ℕ, Some, count_by, length, option_map, unwrap_or};
 ghost use Rattle.std.specs.Borrow.{ftrue};
 ghost use Rattle.serdimko.specs.Watch.{lines_in, faults_in};
 
 use crate::fault_lines::FaultLines;
-use crate::looks::cut;
 use std::io::{ErrorKind, Result, Write};
 use std::marker::Model;
+use std::simd::prelude::*;
+use std::snapshot::Snapshot;
+
+/// As many bytes are compared at once.
+const LANES: usize = 64;
 
 /// Bytes that were taken. Only contracts see them, so they cost nothing at run time.
 #[derive(Drop)]
@@ -31,36 +35,52 @@ impl Taken {
     }
 }
 
+/// How many of 64 bytes are line feeds.
+#[inline(always)]
+fn feeds_in(lanes: u8x64) -> u32
+    requires { length lanes ≡ 64 }
+    ensures { result ≡ count_by (λ byte. byte == 10) lanes }
+{
+    lanes.simd_eq(u8x64::splat(b'\n')).to_bitmask().count_ones()
+}
+
 /// How many bytes are line feeds.
 fn line_feeds(bytes: &[u8]) -> usize
     ensures { result ≡ count_by (λ byte. byte == 10) bytes.now }
 {
     let mut rest = bytes;
     let mut count = 0;
-    'lines: while let Some((_, more)) = cut(rest, b'\n') {
-        count += 1;
-        rest = more;
+    'lanes: while rest.len() >= LANES {
+        count += feeds_in(u8x64::from_slice(rest)) as usize;
+        rest = &rest[LANES..];
     }
-    count
+    count + rest.iter().filter(|byte| **byte == b'\n').count()
 }
 
 /// A writer that counts lines among the bytes that it takes, and notes that it was closed.
 #[derive(Drop)]
-pub(crate) struct Watch<W> {
+pub(crate) struct Watch<W: Write> {
     writer: W,
+    // the writer as passed to `new`
+    begun: Snapshot<W>,
     taken: Taken,
     lines: usize,
     // only where they are counted
     fault_lines: Option<FaultLines>,
     is_closed: bool,
     ghost counted: { lines ≡ lines_in taken.bytes },
+    ghost told: { ((w : W) → IsSome (W.contents w)) → W.contents writer ≡ Some (unwrap_or (W.contents begun.value) [] ++ taken.bytes) },
 }
 
 impl<W: Write> Watch<W> {
     /// Over a writer, at the beginning of a line.
-    pub(crate) fn new(writer: W, counts_faults: bool) -> Watch<W> {
+    pub(crate) fn new(writer: W, counts_faults: bool) -> Watch<W>
+        ensures { result.taken.bytes ≡ [] }
+    {
+        let begun = Snapshot::of(&writer);
         Watch {
             writer,
+            begun,
             taken: Taken::after(&More(None, &[])),
             lines: 0,
             fault_lines: if counts_faults {

@@ -12,8 +12,8 @@ returns-in_ok-put_inventory-in-Ok-clause-honest g c = λ h.
 pub returns-in-Err-clause-honest : goal.returns-in-Err-clause-honest
 returns-in-Err-clause-honest g c = λ h.
     let read = c.in-Err.ensures.honest h in
-    left_inventory c.args.id c.in-Err.ended c.left_by.result c.args.image.now c.requires.none read (c.left_by.ensures.stays read.stays.honest) (c.left_by.ensures.counts read.stays.honest) c.left_by.ensures.left (c.left_by.ensures.again read.stays.honest c.in-Err.ensures.says)
+    left_inventory c.args.id c.in-Err.ended _ c.left_by.result c.args.image.now c.requires.none read (c.left_by.ensures.stays read.stays.honest) (c.left_by.ensures.counts read.stays.honest) c.left_by.ensures.left (c.left_by.ensures.again read.stays.honest c.in-Err.ensures.says) (c.left_by.ensures.cut read.stays.honest)
 
 pub returns-in-Err-clause-lacks : goal.returns-in-Err-clause-lacks
 returns-in-Err-clause-lacks g c =
-    lacks_left c.args.id c.in-Err.ended c.left_by.result c.args.image.now c.requires.none c.left_by.ensures.left
+    lacks_left c.args.id c.in-Err.ended _ c.left_by.result c.args.image.now c.requires.none c.left_by.ensures.left

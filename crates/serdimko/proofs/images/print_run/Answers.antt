@@ -1,4 +1,4 @@
-use Rattle.std.proofs.Common.{◌≡◌, ℕ, refl, subst}
+use Rattle.std.proofs.Common.{◌≡◌, ℕ, arith, subst}
 use Rattle.serdimko.specs.Objects.{EndsIn}
 use Rattle.serdimko.specs.Problem.{lines_seen}
 use Rattle.serdimko.proofs.images.print_run.Goals as goal
@@ -11,4 +11,5 @@ returns-clause-prints g c =
       c.print_input-problem.ensures.prints,
       subst (λ (n : ℕ). EndsIn n c.args.wording c.args.name.now c.args.is_one c.print_input-problem.new.out c.end_run.new.out c.print_input-problem.result c.end_run.result)
           before c.end_run.ensures.ends,
+      omega (arith, c.print_input-problem.ensures.faults, c.end_run.ensures.faults),
     )

@@ -1,4 +1,4 @@
-use Rattle.std.proofs.Common.{◌≡◌, ℕ, codes, refl, subst, true}
+use Rattle.std.proofs.Common.{◌≡◌, ℕ, arith, codes, subst, true}
 use Rattle.serdimko.specs.Objects.{EndsIn}
 use Rattle.serdimko.specs.Problem.{lines_seen}
 use Rattle.serdimko.proofs.live.print_run_over.Goals as goal
@@ -11,4 +11,5 @@ returns-clause-prints g c =
       c.print_over-problem.ensures.prints,
       subst (λ (n : ℕ). EndsIn n c.args.wording (codes "the controller") true c.print_over-problem.new.out c.end_run.new.out c.print_over-problem.result c.end_run.result)
           before c.end_run.ensures.ends,
+      omega (arith, c.print_over-problem.ensures.faults, c.end_run.ensures.faults),
     )

@@ -1,12 +1,11 @@
--- So far each line feed before these bytes was counted.
-use Rattle.std.proofs.Common.{◌≡◌, ◌≤◌, ◌+◌, length}
-use Rattle.ipmi_image.specs.Prelude.{pieces}
+-- So far the line feeds before the rest were counted.
+use Rattle.std.proofs.Common.{◌≡◌, ◌≤◌, ◌+◌, ◌==◌, ℕ, count_by, length}
 use Rattle.serdimko.proofs.watch.line_feeds.Given as goal
 
-abbrev pub invariant-lines : goal.invariant-lines
-invariant-lines l =
-    (l.count + length (pieces 10 l.rest) ≡ length (pieces 10 l.bytes))
+abbrev pub invariant-lanes : goal.invariant-lanes
+invariant-lanes l =
+    (l.count + count_by (λ (byte : ℕ). byte == 10) l.rest ≡ count_by (λ (byte : ℕ). byte == 10) l.bytes)
     × (l.count + length l.rest ≤ length l.bytes)
 
-abbrev pub decreases-lines : goal.decreases-lines
-decreases-lines l = length l.rest
+abbrev pub decreases-lanes : goal.decreases-lanes
+decreases-lanes l = length l.rest

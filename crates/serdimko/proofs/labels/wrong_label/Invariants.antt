@@ -1,0 +1,8 @@
+-- So far no label was wrong.
+use Rattle.std.proofs.Common.{◌≡◌, drop, map, []}
+use Rattle.serdimko.specs.Labels.{key_value, wrong_label}
+use Rattle.serdimko.proofs.labels.wrong_label.Given as goal
+
+abbrev pub invariant-loop-text : goal.invariant-loop-text
+invariant-loop-text l =
+    wrong_label [] l.own.labels ≡ wrong_label (map key_value l.labels.items) (drop l.text-index l.own.labels)

@@ -1,0 +1,53 @@
+-- The labels of objects: the name of an image that is one of several, and those of `--label`.
+use Rattle.std.specs.Prelude.{ℕ, ◌==◌, ◌∷◌, [], ◌++◌, List, Option, Some, None, codes, fold, length, option_map, if◌then◌else◌, bytes_eq}
+use Rattle.std.specs.List.{list_any}
+use Rattle.ipmi_json.specs.declared.object.Label.{Label}
+use Rattle.ipmi_output.specs.Failure.{escaped_name}
+use Rattle.serdimko.specs.declared.labels.TheConstants.{KEYS}
+use Rattle.serdimko.specs.Scan.{name_in, value_in}
+
+pub record KeyValue : Type 0 where
+  pub key : List ℕ
+  pub value : List ℕ
+
+abbrev pub key_value : Label → KeyValue
+key_value label = record { key = label.key.now; value = label.value.now }
+
+-- KEY=VALUE; None: it has no `=`, or nothing before it
+abbrev pub label_of : List ℕ → Option KeyValue
+label_of text =
+    if length (name_in text) == 0 then None
+    else option_map (λ value. record { key = name_in text; value = value }) (value_in text)
+
+abbrev pub with_label : List KeyValue → Option KeyValue → List KeyValue
+with_label labels None = labels
+with_label labels (Some label) = labels ++ label ∷ []
+
+-- after the image's name
+abbrev pub first_labels : Option (List ℕ) → List KeyValue
+first_labels None = []
+first_labels (Some name) = record { key = codes "image"; value = name } ∷ []
+
+abbrev pub labels_of : Option (List ℕ) → List (List ℕ) → List KeyValue
+labels_of image texts = fold (λ labels text. with_label labels (label_of text)) (first_labels image) texts
+
+-- ---- what is wrong with a label, given those before it
+
+-- a key of an object, or of an earlier label
+abbrev pub key_fault : List ℕ → List KeyValue → Option (List ℕ)
+key_fault key before =
+    if list_any (λ own. bytes_eq own.now key) KEYS then Some (codes "': objects have this key themselves")
+    else (if list_any (λ label. bytes_eq label.key key) before then Some (codes "': an earlier label has this key")
+    else None)
+
+abbrev pub fault_of_label : Option KeyValue → List KeyValue → Option (List ℕ)
+fault_of_label None before = Some (codes "' is not KEY=VALUE")
+fault_of_label (Some label) before = key_fault label.key before
+
+-- the message about the first that has a fault
+abbrev pub wrong_label : List KeyValue → List (List ℕ) → Option (List ℕ)
+wrong_label before [] = None
+wrong_label before (text ∷ texts) = elim (fault_of_label (label_of text) before) [
+  | Some fault ↦ Some (codes "--label '" ++ (escaped_name text ++ fault))
+  | None ↦ wrong_label (with_label before (label_of text)) texts
+]
