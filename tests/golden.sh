@@ -1,7 +1,7 @@
 #!/usr/bin/env bash
 # Each line of tests/golden/commands is FILE, a status and words: over examples/server.image these print tests/golden/FILE.txt.
-# What these files say comes from the standard and the definitions, never from what the program printed. Each command of
-# README.md has a line, but those that print nothing of an image. The examples of README.md are run too.
+# What these files say comes from the standard and the definitions, never from what the program printed. Each command of README.md
+# has a line if it prints something of an image. The examples of README.md are run too.
 # `tests/golden.sh PROGRAM` tries that program; without a word the one of this repository is built first.
 # shellcheck disable=SC2016  # backquotes in single quotes are those of Markdown
 set -uo pipefail

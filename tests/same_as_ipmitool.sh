@@ -1,6 +1,6 @@
 #!/usr/bin/env bash
-# Tests that serdimko treats each command line that the specified program, ipmitool of this repository, accepts in the same way:
-# tests/serdimko/same_as_ipmitool.py sends lines to both, and says which.
+# Tests that serdimko prints what the specified program, ipmitool of this repository, prints for each command line that it accepts.
+# tests/serdimko/same_as_ipmitool.py has the lines, and says in which messages the two may differ.
 # `tests/same_as_ipmitool.sh SERDIMKO IPMITOOL` compares these two. Without arguments, those of this repository are built first.
 set -uo pipefail
 if [ $# -gt 0 ]; then
