@@ -10,14 +10,14 @@ use Rattle.ipmi_image.specs.Prelude.{bytes_in}
 
 -- the table has the value of the digit
 abbrev is_value : List ℕ → ℕ → Bool
-is_value table digit = slice_index table digit == unwrap_or (hex_digit_value digit) 64
+is_value table digit = slice_index table digit == unwrap_or (hex_digit_value digit) 256
 
 abbrev pub are_values : List ℕ → ℕ → Bool
 are_values table zero = true
 are_values table (suc n) = is_value table n && are_values table n
 
 pub value_at : (table : List ℕ) (n digit : ℕ) → are_values table n ≡ true → digit < n
-    → slice_index table digit ≡ unwrap_or (hex_digit_value digit) 64
+    → slice_index table digit ≡ unwrap_or (hex_digit_value digit) 256
 value_at table zero digit are lt = absurd (omega (arith, lt))
 value_at table (suc n) digit are lt =
     let parts = and_parts (is_value table n) (are_values table n) are in

@@ -139,6 +139,8 @@ fn three_at_places(fields: &[u8]) -> Option<(&[u8], &[u8], &[u8])>
 }
 
 /// Reads `ID NEXT HEX`, cut at its spaces.
+// inlined for speed: most lines of an image are rows
+#[inline(always)]
 fn read_row(
     bytes: &mut Vec<u8>,
     version: Version,

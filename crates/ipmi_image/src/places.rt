@@ -88,6 +88,8 @@ impl Places {
     }
 
     /// Makes room for the key.
+    // inlined for speed: nearly always there is room
+    #[inline(always)]
     pub(crate) fn reserve(&mut self, key: u16) -> Result<(), AllocError>
         ensures same { (other : ℕ) → place_in self.new other ≡ place_in self.old other }
         ensures room { OnOk result (HasRoom key self.new) }

@@ -7,6 +7,8 @@ use crate::image_line::LineFault;
 use memchr::memchr;
 
 /// The bytes before and after the first separator.
+// inlined for speed: it ends each line of an image
+#[inline(always)]
 pub(crate) fn cut(bytes: &[u8], separator: u8) -> Option<(&[u8], &[u8])>
     ensures cut { MatchOption result (pieces separator bytes.now ≡ bytes.now ∷ [])
         (λ parts. pieces separator bytes.now ≡ parts.0.now ∷ pieces separator parts.1.now) }
@@ -53,6 +55,8 @@ pub(crate) fn read_digit(digit: &[u8]) -> Option<u8>
 }
 
 /// Reads bytes from pairs of hex digits.
+// inlined for speed: it reads most of an image
+#[inline(always)]
 pub(crate) fn read_bytes(bytes: &mut Vec<u8>, digits: &[u8]) -> Result<(), LineFault>
     ensures { MatchResult result (λ done. bytes_in digits.now ≡ Some bytes.new.items)
         (λ e. (e ≡ LineFault.Memory) ⊎ ((e ≡ LineFault.Hex) × (bytes_in digits.now ≡ None))) }
