@@ -1,4 +1,5 @@
 pub mod AreaLemmas
+pub mod DigitLemmas
 pub mod FruLemmas
 pub mod InventoryLawLemmas
 pub mod LineLawLemmas

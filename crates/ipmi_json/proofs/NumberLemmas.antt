@@ -1,5 +1,6 @@
 -- The exact decimal of a value is a JSON number.
-use Rattle.std.proofs.Common.{◌≡◌, ◌∙◌, ℕ, suc, ◌<◌, ◌==◌, true, false, cond, ℤ, pos, negsuc, List, [], ◌∷◌, ◌++◌, length, drop, Some, None, option_and_then, ap, refl, arith, ne_eqb, append-nil}
+use Rattle.std.proofs.Common.{◌≡◌, ◌∙◌, ℕ, zero, suc, ◌*◌, ◌^◌, ◌<◌, ◌==◌, true, false, cond, ℤ, pos, negsuc, List, [], ◌∷◌, ◌++◌, length, drop, decimal, slice_index, Some, None, option_and_then, ap, refl, rules, sym, arith, ne_eqb, append-nil}
+use Rattle.std.proofs.lemmas.Fmt.{decimal_digit, decimal_is_IsNumeral, first_decimal}
 use Rattle.std.proofs.Math.Seq.{drop-append_seam}
 use Rattle.std.proofs.lemmas.Bool.Decides.{nat_tests}
 use Rattle.std.specs.Char.{digit_value, is_ascii_digit}
@@ -66,3 +67,21 @@ pub number_is : (value : ℤ) (text : List ℕ) → IsDecimalOf value text → I
 unfolding after_number
 number_is (pos n) text h = rw (h.text_is, no_sign h.fraction h.whole h.is_whole) (unsigned_read h.fraction h.whole h.is_whole h.is_fraction.all_digits)
 number_is (negsuc n) text h = rw h.text_is (unsigned_read h.fraction h.whole h.is_whole h.is_fraction.all_digits)
+
+-- ---- whole numbers
+
+first_is : (n : ℕ) → n < 2 ^ 64 → slice_index (decimal n) 0 ≡ 48 → length (decimal n) ≡ 1
+first_is zero small e = ap length (decimal_digit 0 (omega arith))
+first_is (suc n) small e = absurd (omega (arith, first_decimal (suc n) (omega arith) small))
+
+-- the decimal of a whole number has no fraction
+pub whole_decimal : (n : ℕ) → n < 2 ^ 64 → IsDecimalOf (pos (n * 10 ^ 16)) (decimal n)
+whole_decimal n small =
+    let numeral = decimal_is_IsNumeral n small in record {
+      whole = decimal n;
+      fraction = [];
+      is_whole = record { numeral = numeral.0; first = first_is n small };
+      is_fraction = search rules;
+      text_is = sym (append-nil (decimal n));
+      size_is = omega (arith, numeral.1);
+    }

@@ -1,5 +1,5 @@
 -- The tokens that the code writes for members, and the object of these tokens.
-use Rattle.std.proofs.Common.{◌≡◌, ◌≤◌, ◌+◌, ℕ, ℤ, Some, List, [], ◌∷◌, ◌++◌, refl, sym, ap, ◌∙◌, append_assoc, append-nil, option_and_then, arith, map, rules, string_bytes}
+use Rattle.std.proofs.Common.{◌≡◌, ◌≤◌, ◌+◌, ℕ, ℤ, Option, None, Some, List, [], ◌∷◌, ◌++◌, refl, sym, ap, ◌∙◌, append_assoc, append-nil, option_and_then, arith, map, rules, string_bytes}
 use Rattle.std.specs.Borrow.{Bor}
 use Rattle.std.specs.Str.{IsUtf8}
 use Rattle.std.proofs.lemmas.Str.{IsUtf8-append, IsUtf8-from_ascii}
@@ -11,7 +11,7 @@ use Rattle.json.specs.Token.{Token, begin_object, end_object, key}
 use Rattle.json.specs.Tree.{depth, items_depth, json_tokens, members_tokens}
 use Rattle.json.specs.Written.{Written}
 use Rattle.ipmi_text.specs.Decimal.{IsDecimalOf}
-use Rattle.ipmi_json.specs.Object.{Adds, AddsDecimal, AddsValue, AreWithin, IsOpen, Pair, json_of, items_in, labels_of, members_in, object_in, pairs_of, tokens_in}
+use Rattle.ipmi_json.specs.Object.{Adds, AddsDecimal, AddsValue, AreWithin, IsDecimalOrNull, IsOpen, Pair, json_of, items_in, labels_of, members_in, object_in, pairs_of, tokens_in}
 use Rattle.ipmi_json.specs.declared.object.Value.{Value}
 use Rattle.ipmi_json.specs.declared.object.Label.{Label}
 
@@ -91,19 +91,41 @@ member_added name v old named new first second = record {
   within = let one = depth-json_of v in omega (arith, one);
 }
 
--- the decimal of a value
-pub decimal_added : (name : List ℕ) (value : ℤ) (text : List ℕ) (old named new : Written)
-    → IsDecimalOf value text
-    → (named.tokens ≡ old.tokens ++ key name ∷ []) × (named.before ≡ old.before)
-    → (new.tokens ≡ named.tokens ++ json_tokens (number text)) × (new.before ≡ named.before)
-    → AddsDecimal name (Some value) old new
-decimal_added name value text old named new is first second = record {
-  decimal = number text;
+-- a number without a key
+pub digits_added : (value : ℤ) (text : List ℕ) (old new : Written) → IsDecimalOf value text
+    → (new.tokens ≡ old.tokens ++ json_tokens (number text)) × (new.before ≡ old.before)
+    → AddsValue 0 (IsDecimalOrNull (Some value)) old new
+digits_added value text old new is added = record {
+  value = number text;
   is = (text, (is, refl));
+  before = added.1;
+  tokens = added.0;
+  within = omega arith;
+}
+
+-- no number, without a key
+pub no_number_added : (old new : Written)
+    → (new.tokens ≡ old.tokens ++ json_tokens null) × (new.before ≡ old.before)
+    → AddsValue 0 (IsDecimalOrNull None) old new
+no_number_added old new added = record {
+  value = null;
+  is = refl;
+  before = added.1;
+  tokens = added.0;
+  within = omega arith;
+}
+
+-- the decimal of a value, or null, after its key
+pub decimal_added : (name : List ℕ) (value : Option ℤ) (old named new : Written)
+    → (named.tokens ≡ old.tokens ++ key name ∷ []) × (named.before ≡ old.before)
+    → AddsValue 0 (IsDecimalOrNull value) named new → AddsDecimal name value old new
+decimal_added name value old named new first v = record {
+  decimal = v.value;
+  is = v.is;
   adds = record {
-    before = second.1 ∙ first.1;
-    tokens = second.0 ∙ rw first.0 (simp append_assoc);
-    within = omega arith;
+    before = v.before ∙ first.1;
+    tokens = v.tokens ∙ rw first.0 (simp (append_assoc, append-nil));
+    within = let inner : depth v.value ≤ 0 = v.within in omega (arith, inner);
   };
 }
 

@@ -1,6 +1,7 @@
 -- The members written for a record, by its kind.
-use Rattle.std.proofs.Common.{ℕ, List, ◌++◌, Option, None, refl}
+use Rattle.std.proofs.Common.{◌≡◌, ℕ, ◌<◌, List, [], ◌∷◌, ◌++◌, Option, None, arith, drop, length, refl, slice_index}
 use Rattle.json.specs.Written.{Written}
+use Rattle.ipmi_text.specs.Units.{after_space}
 use Rattle.ipmi_text.specs.declared.reading.Reading.{Reading}
 use Rattle.ipmi_records.specs.Prelude.{sensor_in, shown_of, units_in}
 use Rattle.ipmi_json.specs.Object.{Adds, AddsSome}
@@ -33,3 +34,15 @@ module _ (bytes : List ℕ) (reading : Option Reading) (status : List ℕ) (old 
     };
     adds = joined (joined (joined one two.adds) three) four.adds;
   }
+
+-- ---- units
+
+-- a text that begins with a space, or is empty
+pub begins_with_space : (unit : List ℕ) → 0 < length (after_space unit)
+    → slice_index (after_space unit) 0 < 128
+begins_with_space [] h = absurd (omega arith)
+begins_with_space (c ∷ unit) h = omega arith
+
+pub unspaced : (unit : List ℕ) → drop 1 (after_space unit) ≡ unit
+unspaced [] = refl
+unspaced (c ∷ unit) = refl

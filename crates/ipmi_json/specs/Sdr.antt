@@ -146,14 +146,14 @@ entity_members entity =
     ∷ (codes "entity_instance", integer entity.instance)
     ∷ []
 
--- bits 7:1 of a byte are a slave address
+-- bits 7:1 of a byte are a slave address; bit 0 is reserved, or part of a channel number
 abbrev pub slave_address : ℕ → ℕ
 slave_address byte = byte / 2 * 2
 
 -- byte 6 is the address of the controller through which a device is reached; byte 7 is the device's own
 abbrev pub generic_members : List ℕ → List Pair
 generic_members bytes =
-    (codes "device_access_address", integer (locator_in bytes).address)
+    (codes "device_access_address", integer (slave_address (locator_in bytes).address))
     ∷ (codes "device_slave_address", integer (slave_address (byte_at 7 bytes)))
     ∷ entity_members (locator_in bytes).entity
 
@@ -167,7 +167,7 @@ fru_address is_logical byte = if is_logical then None else Some (slave_address b
 -- bit 7 of byte 8 is set for a logical device; bits 4:3 are the LUN
 abbrev pub fru_members : List ℕ → List Pair
 fru_members bytes =
-    (codes "device_access_address", integer (locator_in bytes).address)
+    (codes "device_access_address", integer (slave_address (locator_in bytes).address))
     ∷ (codes "fru_device_id", integer_or_null (fru_id (has_bit 7 (byte_at 8 bytes)) (byte_at 7 bytes)))
     ∷ (codes "device_slave_address", integer_or_null (fru_address (has_bit 7 (byte_at 8 bytes)) (byte_at 7 bytes)))
     ∷ (codes "is_logical", boolean (has_bit 7 (byte_at 8 bytes)))
@@ -181,7 +181,7 @@ fru_locator_members bytes = fru_members bytes ++ entity_members (locator_in byte
 -- byte 6 is the controller's own address
 abbrev pub controller_members : Locator → List Pair
 controller_members locator =
-    (codes "device_slave_address", integer locator.address) ∷ entity_members locator.entity
+    (codes "device_slave_address", integer (slave_address locator.address)) ∷ entity_members locator.entity
 
 -- ---- records
 

@@ -24,8 +24,9 @@ fn info_line(
 {
     let info = Info::read(bytes);
     let mut text = String::with_capacity(alloc, TIME_CAPACITY)?;
-    let addition = time_text(alloc, &mut text, info.last_addition)?;
-    let erase = time_text(alloc, &mut text, info.last_erase)?;
+    let mut other = String::with_capacity(alloc, TIME_CAPACITY)?;
+    let addition = time_text(&mut text, info.last_addition)?;
+    let erase = time_text(&mut other, info.last_erase)?;
     let mut out = begin(alloc)?;
     write_member(&mut out, "object", Value::Text(name))?;
     write_members(
@@ -40,14 +41,14 @@ fn info_line(
         &mut out,
         "last_addition",
         "last_addition_raw",
-        addition.as_deref(),
+        addition,
         info.last_addition,
     )?;
     write_time(
         &mut out,
         "last_erase",
         "last_erase_raw",
-        erase.as_deref(),
+        erase,
         info.last_erase,
     )?;
     write_members(

@@ -2,6 +2,7 @@
 #![tactic(auto)]
 
 mod areas;
+mod digits;
 mod fru;
 mod info;
 pub mod laws;

@@ -1,8 +1,8 @@
 //! A JSON object as a list of members, and its line.
-ghost use Rattle.std.specs.Prelude.{◌≡◌, ◌++◌, ◌∷◌, [], List, IfOk, IfSome, OnOk, map, option_map, string_bytes};
+ghost use Rattle.std.specs.Prelude.{◌≡◌, ◌<◌, ◌++◌, ◌∷◌, [], List, IfOk, IfSome, OnOk, decimal, length, map, option_map, slice_index_or, string_bytes};
 ghost use Rattle.json.specs.Json.{string};
 ghost use Rattle.json.specs.Tree.{json_tokens};
-ghost use Rattle.ipmi_json.specs.Object.{Adds, integer_or_null, IsLineOf, IsOpen, json_of, labels_of, Pair, pairs_of, text_if_any, text_or_null, text_unless_empty, texts};
+ghost use Rattle.ipmi_json.specs.Object.{Adds, integer, integer_or_null, IsLineOf, IsOpen, json_of, labels_of, Pair, pairs_of, text_if_any, text_or_null, text_unless_empty, texts};
 
 use json::Writer;
 use std::alloc::{AllocError, Global};
@@ -10,6 +10,29 @@ use std::fmt::Display;
 
 /// The capacity for most lines.
 const LINE_CAPACITY: usize = 768;
+
+/// The decimals of the numbers that fit in a byte.
+const DECIMALS: [&str; 256] = [
+    "0", "1", "2", "3", "4", "5", "6", "7", "8", "9", "10", "11", "12", "13", "14", "15", "16",
+    "17", "18", "19", "20", "21", "22", "23", "24", "25", "26", "27", "28", "29", "30", "31", "32",
+    "33", "34", "35", "36", "37", "38", "39", "40", "41", "42", "43", "44", "45", "46", "47", "48",
+    "49", "50", "51", "52", "53", "54", "55", "56", "57", "58", "59", "60", "61", "62", "63", "64",
+    "65", "66", "67", "68", "69", "70", "71", "72", "73", "74", "75", "76", "77", "78", "79", "80",
+    "81", "82", "83", "84", "85", "86", "87", "88", "89", "90", "91", "92", "93", "94", "95", "96",
+    "97", "98", "99", "100", "101", "102", "103", "104", "105", "106", "107", "108", "109", "110",
+    "111", "112", "113", "114", "115", "116", "117", "118", "119", "120", "121", "122", "123",
+    "124", "125", "126", "127", "128", "129", "130", "131", "132", "133", "134", "135", "136",
+    "137", "138", "139", "140", "141", "142", "143", "144", "145", "146", "147", "148", "149",
+    "150", "151", "152", "153", "154", "155", "156", "157", "158", "159", "160", "161", "162",
+    "163", "164", "165", "166", "167", "168", "169", "170", "171", "172", "173", "174", "175",
+    "176", "177", "178", "179", "180", "181", "182", "183", "184", "185", "186", "187", "188",
+    "189", "190", "191", "192", "193", "194", "195", "196", "197", "198", "199", "200", "201",
+    "202", "203", "204", "205", "206", "207", "208", "209", "210", "211", "212", "213", "214",
+    "215", "216", "217", "218", "219", "220", "221", "222", "223", "224", "225", "226", "227",
+    "228", "229", "230", "231", "232", "233", "234", "235", "236", "237", "238", "239", "240",
+    "241", "242", "243", "244", "245", "246", "247", "248", "249", "250", "251", "252", "253",
+    "254", "255",
+];
 
 /// A member with a text that a caller adds to an object, after its own members. Its key must differ from theirs.
 #[derive(Clone, Copy, Debug, PartialEq, Eq)]
@@ -74,6 +97,44 @@ pub(crate) fn integer_or_null(number: Option<u64>) -> Value<'static>
     }
 }
 
+/// The text at an index of a table.
+fn text_at(table: &[&'static str], at: usize) -> &'static str
+    requires { at < length table.now }
+    ensures { result.now ≡ slice_index_or (map (λ s. s.now) table.now) at [] }
+{
+    table[at]
+}
+
+/// The decimal of a number that fits in a byte.
+fn byte_decimal(n: u64) -> &'static str
+    requires { n < 256 }
+    ensures { result.now ≡ decimal n }
+{
+    text_at(DECIMALS.as_slice(), n as usize)
+}
+
+/// Writes a number of any size.
+#[inline(never)]
+fn write_any_integer(out: &mut Writer, n: u64) -> Result<(), AllocError>
+    ensures ok { OnOk result (out.new.tokens ≡ out.old.tokens ++ json_tokens (integer n)) }
+    ensures before { out.new.before ≡ out.old.before }
+{
+    out.u64(n)
+}
+
+/// Writes a number. Most fit in a byte, and their decimals need not be worked out.
+#[inline(never)]
+fn write_integer(out: &mut Writer, n: u64) -> Result<(), AllocError>
+    ensures ok { OnOk result (out.new.tokens ≡ out.old.tokens ++ json_tokens (integer n)) }
+    ensures before { out.new.before ≡ out.old.before }
+{
+    if n < 256 {
+        out.number(byte_decimal(n))
+    } else {
+        write_any_integer(out, n)
+    }
+}
+
 /// Writes texts as an array.
 fn write_texts(out: &mut Writer, list: &[String]) -> Result<(), AllocError>
     ensures ok { OnOk result (out.new.tokens ≡ out.old.tokens ++
@@ -87,15 +148,16 @@ fn write_texts(out: &mut Writer, list: &[String]) -> Result<(), AllocError>
     out.end_array()
 }
 
+/// Writes a value without a key.
 #[inline(always)]
-fn write_value(out: &mut Writer, value: Value) -> Result<(), AllocError>
+pub(crate) fn write_value(out: &mut Writer, value: Value) -> Result<(), AllocError>
     ensures ok { OnOk result (out.new.tokens ≡ out.old.tokens ++ json_tokens (json_of value.entry)) }
     ensures before { out.new.before ≡ out.old.before }
 {
     match value {
         Value::Null => out.null(),
         Value::Bool(truth) => out.boolean(truth),
-        Value::Integer(number) => out.u64(number),
+        Value::Integer(number) => write_integer(out, number),
         Value::Text(text) => out.string(text),
         Value::Texts(list) => write_texts(out, list),
     }
@@ -114,7 +176,16 @@ pub(crate) fn write_member(
     write_value(out, value)
 }
 
+/// Replaces a text with what a value prints.
+fn set_printed<D: Display + Drop>(text: &mut String, value: D) -> Result<(), AllocError>
+    ensures { OnOk result (IfSome (D.output value) (λ printed. string_bytes text.new ≡ printed)) }
+{
+    text.clear();
+    text.write(value)
+}
+
 /// Writes what a value prints as the text under a key. `text` is used for it.
+#[inline(always)]
 pub(crate) fn write_printed<D: Display + Drop>(
     out: &mut Writer,
     text: &mut String,
@@ -124,12 +195,12 @@ pub(crate) fn write_printed<D: Display + Drop>(
     ensures { OnOk result (IfSome (D.output value)
         (λ printed. Adds 1 ((key.entry.now, string printed) ∷ []) out.old out.new)) }
 {
-    text.clear();
-    text.write(value)?;
+    set_printed(text, value)?;
     write_member(out, key, Value::Text(text.as_str()))
 }
 
 /// Writes what a value prints as the text under a key, or null if it prints nothing. `text` is used for it.
+#[inline(always)]
 pub(crate) fn write_printed_or_null<D: Display + Drop>(
     out: &mut Writer,
     text: &mut String,
@@ -139,8 +210,7 @@ pub(crate) fn write_printed_or_null<D: Display + Drop>(
     ensures { OnOk result (IfSome (D.output value) (λ printed.
         Adds 1 ((key.entry.now, text_unless_empty printed) ∷ []) out.old out.new)) }
 {
-    text.clear();
-    text.write(value)?;
+    set_printed(text, value)?;
     write_member(out, key, text_unless_empty(text.as_str()))
 }
 

@@ -1,13 +1,16 @@
 //! The objects of sensor data records.
-ghost use Rattle.std.specs.Prelude.{◌≡◌, ◌++◌, IfOk, OnOk, option_map, slice_get};
+ghost use Rattle.std.specs.Prelude.{◌≡◌, ◌<◌, ◌++◌, ◌∷◌, [], IfOk, OnOk, codes, drop, length, option_map, slice_get, slice_index};
+ghost use Rattle.json.specs.Json.{string};
+ghost use Rattle.ipmi_text.specs.SensorTypes.{sensor_type_text_of};
+ghost use Rattle.ipmi_text.specs.Units.{unit_text_of};
 ghost use Rattle.ipmi_records.specs.Prelude.{byte_at, has_bit, locator_in, name_of, shown_of};
-ghost use Rattle.ipmi_json.specs.Object.{Adds, AddsDecimal, AddsSome, IsLineOf};
+ghost use Rattle.ipmi_json.specs.Object.{Adds, AddsDecimal, AddsSome, integer, IsLineOf, text_unless_empty};
 ghost use Rattle.ipmi_json.specs.Sdr.{AreCompactMembers, AreFullMembers, AreThresholdMembers, AreTold, AreValueMembers, IsSdrLine, bytes_members, controller_members, entity_members, fault_members, fault_word, fru_address, fru_id, fru_locator_members, fru_members, generic_members, kind_word, name_members, raw_shown, sensor_members, shown_members, slave_address, states_in, states_shown, threshold_value, value_shown};
 
 use crate::number::write_decimal_or_null;
 use crate::object::{
     Label, Value, begin, finish, integer_or_null, object_line, text_unless_empty, write_member,
-    write_members, write_printed, write_printed_or_null,
+    write_members, write_printed,
 };
 use crate::record::{write_head, write_raw};
 use crate::states::write_state_words;
@@ -17,7 +20,7 @@ use ipmi_records::{
     CompactSensor, Entity, FruLocator, FullSensor, Locator, SdrFault, SdrView, Sensor, Shown,
     Threshold, has_thresholds, shown_of, states_in, status_of,
 };
-use ipmi_text::{Fixed, Reading, SensorType, Units, convert, push_sdr_text};
+use ipmi_text::{Fixed, Reading, SensorType, Units, convert, push_sdr_text, push_units};
 use json::Writer;
 use std::alloc::{AllocError, Global};
 
@@ -67,33 +70,38 @@ fn write_name(
     }
 }
 
+/// Writes the numbers of a sensor.
+fn write_numbers(out: &mut Writer, sensor: &Sensor) -> Result<(), AllocError>
+    ensures { OnOk result (Adds 1 ((codes "owner_id", integer sensor.now.owner)
+        ∷ (codes "owner_lun", integer sensor.now.lun)
+        ∷ (codes "sensor_number", integer sensor.now.number) ∷ []) out.old out.new) }
+{
+    let number = u64::from(sensor.number);
+    write_member(out, "owner_id", Value::Integer(u64::from(sensor.owner)))?;
+    write_member(out, "owner_lun", Value::Integer(u64::from(sensor.lun)))?;
+    write_member(out, "sensor_number", Value::Integer(number))
+}
+
+/// Writes the types of a sensor. `text` is used for the name of the first.
+fn write_types(out: &mut Writer, text: &mut String, sensor: &Sensor) -> Result<(), AllocError>
+    ensures { OnOk result (Adds 1 ((codes "sensor_type", integer sensor.now.sensor_type)
+        ∷ (codes "sensor_type_name", string (sensor_type_text_of sensor.now.sensor_type))
+        ∷ (codes "event_type", integer sensor.now.event_type) ∷ []) out.old out.new) }
+{
+    let kind = sensor.sensor_type;
+    let event_type = u64::from(sensor.event_type);
+    write_member(out, "sensor_type", Value::Integer(u64::from(kind)))?;
+    write_printed(out, text, "sensor_type_name", SensorType(kind))?;
+    write_member(out, "event_type", Value::Integer(event_type))
+}
+
 /// Writes what a record tells of its sensor. `text` is used for its texts.
 fn write_sensor(out: &mut Writer, text: &mut String, sensor: &Sensor) -> Result<(), AllocError>
     ensures { OnOk result (Adds 1 (sensor_members sensor.now) out.old out.new) }
 {
-    let instance = u64::from(sensor.entity.instance);
-    let kind = sensor.sensor_type;
-    write_member(out, "owner_id", Value::Integer(u64::from(sensor.owner)))?;
-    write_member(out, "owner_lun", Value::Integer(u64::from(sensor.lun)))?;
-    write_member(
-        out,
-        "sensor_number",
-        Value::Integer(u64::from(sensor.number)),
-    )?;
-    write_member(
-        out,
-        "entity_id",
-        Value::Integer(u64::from(sensor.entity.id)),
-    )?;
-    write_printed(out, text, "entity_name", EntityWords(sensor.entity.id))?;
-    write_member(out, "entity_instance", Value::Integer(instance))?;
-    write_member(out, "sensor_type", Value::Integer(u64::from(kind)))?;
-    write_printed(out, text, "sensor_type_name", SensorType(kind))?;
-    write_member(
-        out,
-        "event_type",
-        Value::Integer(u64::from(sensor.event_type)),
-    )
+    write_numbers(out, sensor)?;
+    write_entity(out, text, sensor.entity)?;
+    write_types(out, text, sensor)
 }
 
 /// The raw byte of the reading, if there is one.
@@ -137,6 +145,28 @@ fn value_shown(full: &FullSensor, shown: Shown) -> Option<Fixed>
     }
 }
 
+/// A text without its first character, which is ASCII, if it has one.
+fn after_first(text: &str) -> &str
+    requires { 0 < length text.now → slice_index text.now 0 < 128 }
+    ensures { result.now ≡ drop 1 text.now }
+{
+    if text.is_empty() { text } else { &text[1..] }
+}
+
+/// Writes units, or null if they have no text. `text` is used for it.
+fn write_unit(out: &mut Writer, text: &mut String, units: Units) -> Result<(), AllocError>
+    ensures { OnOk result (Adds 1 ((
+      codes "unit",
+      text_unless_empty
+          (unit_text_of units.units1 units.base units.modifier),
+    ) ∷ []) out.old out.new) }
+{
+    text.clear();
+    push_units(text, units)?;
+    let unit = after_first(text.as_str());
+    write_member(out, "unit", text_unless_empty(unit))
+}
+
 /// Writes the value of a sensor and its unit. `text` is used for their texts.
 fn write_value(
     out: &mut Writer,
@@ -148,7 +178,7 @@ fn write_value(
         out.old out.new) }
 {
     write_decimal_or_null(out, text, "reading", value)?;
-    write_printed_or_null(out, text, "unit", units)
+    write_unit(out, text, units)
 }
 
 /// Writes what else a sensor shows.
@@ -187,6 +217,7 @@ fn threshold_value(full: &FullSensor, threshold: Threshold) -> Option<Fixed>
 }
 
 /// Writes the exact decimal of a threshold under a key, or null. `text` is used for it.
+#[inline(always)]
 fn write_threshold(
     out: &mut Writer,
     text: &mut String,
@@ -253,7 +284,7 @@ fn write_entity(out: &mut Writer, text: &mut String, entity: Entity) -> Result<(
     )
 }
 
-/// The slave address in a byte. The lowest bit is not part of it.
+/// The slave address in a byte. Bit 0 is not part of it.
 fn slave_address(byte: u8) -> u64
     ensures { result ≡ slave_address byte }
 {
@@ -277,12 +308,9 @@ fn write_generic(
     requires { locator.now ≡ locator_in bytes.now }
     ensures { OnOk result (Adds 1 (generic_members bytes.now) out.old out.new) }
 {
+    let access = slave_address(locator.address);
     let own = slave_address(slave_byte(bytes));
-    write_member(
-        out,
-        "device_access_address",
-        Value::Integer(u64::from(locator.address)),
-    )?;
+    write_member(out, "device_access_address", Value::Integer(access))?;
     write_member(out, "device_slave_address", Value::Integer(own))?;
     write_entity(out, text, locator.entity)
 }
@@ -313,7 +341,7 @@ fn fru_address(fru: &FruLocator) -> Option<u64>
 fn write_fru(out: &mut Writer, fru: &FruLocator) -> Result<(), AllocError>
     ensures { OnOk result (Adds 1 (fru_members fru.now) out.old out.new) }
 {
-    let access = u64::from(fru.locator().address);
+    let access = slave_address(fru.locator().address);
     write_member(out, "device_access_address", Value::Integer(access))?;
     write_member(out, "fru_device_id", integer_or_null(fru_id(fru)))?;
     write_member(
@@ -345,11 +373,8 @@ fn write_controller(
 ) -> Result<(), AllocError>
     ensures { OnOk result (Adds 1 (controller_members locator.now) out.old out.new) }
 {
-    write_member(
-        out,
-        "device_slave_address",
-        Value::Integer(u64::from(locator.address)),
-    )?;
+    let address = slave_address(locator.address);
+    write_member(out, "device_slave_address", Value::Integer(address))?;
     write_entity(out, text, locator.entity)
 }
 

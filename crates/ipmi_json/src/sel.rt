@@ -1,16 +1,18 @@
 //! The objects of the event log's entries.
 ghost use Rattle.std.specs.Prelude.{◌≡◌, ◌∷◌, [], IfOk, OnOk, codes, option_map, string_bytes};
 ghost use Rattle.json.specs.Json.{string};
-ghost use Rattle.ipmi_records.specs.Prelude.{event_type, is_deasserted, sensor_type, words_of_event};
+ghost use Rattle.ipmi_text.specs.FieldText.{binary_text};
+ghost use Rattle.ipmi_records.specs.Prelude.{entry_bytes, event_data, event_type, generator_id, is_deasserted, revision, sensor_type, words_of_event};
 ghost use Rattle.ipmi_events.specs.EventLines.{event_offset, full_of};
 ghost use Rattle.ipmi_events.specs.Words.{event_words};
-ghost use Rattle.ipmi_json.specs.Object.{Adds, AddsSome};
+ghost use Rattle.ipmi_json.specs.Object.{Adds, AddsSome, integer};
 ghost use Rattle.ipmi_json.specs.Sel.{AreDetailsMembers, AreEventMembers, AreTimedMembers, AreTold, IsSelLine, data_members, direction_word, kind_word, meaning_members, name_by, sensor_record, source_members};
 
+use crate::digits::hex_text;
 use crate::object::{
     Label, Value, begin, finish, text_or_null, text_unless_empty, write_member, write_printed,
 };
-use crate::record::{write_head, write_raw};
+use crate::record::{write_head, write_raw_text};
 use crate::time::{time_text, write_time};
 use ipmi_events::{Sensors, event_words, push_details, push_sensor_name, record_for};
 use ipmi_records::SelView::{Event, OemPlain, OemTimed, Other};
@@ -21,6 +23,9 @@ use std::alloc::{AllocError, Global};
 
 /// The capacity for most texts.
 const TEXT_CAPACITY: usize = 64;
+
+/// The hex digits of an entry.
+const ENTRY_DIGITS: usize = 32;
 
 /// Bits 3:0 of an event's first data byte: its offset.
 const OFFSET_BITS: u8 = 0x0F;
@@ -85,6 +90,17 @@ fn write_name(
     write_member(out, "sensor_name", text_unless_empty(text.as_str()))
 }
 
+/// Writes what generated an event, and the revision of its format.
+fn write_generator(out: &mut Writer, event: &EventEntry) -> Result<(), AllocError>
+    ensures { OnOk result (Adds 1 ((codes "generator_id", integer (generator_id event.now))
+        ∷ (codes "event_revision", integer (revision event.now)) ∷ []) out.old out.new) }
+{
+    let generator = u64::from(event.generator_id());
+    let revision = u64::from(event.revision());
+    write_member(out, "generator_id", Value::Integer(generator))?;
+    write_member(out, "event_revision", Value::Integer(revision))
+}
+
 /// Writes what an event is from. `text` is used for its texts.
 fn write_source(
     alloc: Global,
@@ -96,12 +112,9 @@ fn write_source(
     ensures { OnOk result (Adds 1 (source_members (option_map (λ v. v.now) view.entry) event.now)
         out.old out.new) }
 {
-    let generator = u64::from(event.generator_id());
-    let revision = u64::from(event.revision());
     let sensor_type = u64::from(event.sensor_type());
     let number = u64::from(event.sensor_number());
-    write_member(out, "generator_id", Value::Integer(generator))?;
-    write_member(out, "event_revision", Value::Integer(revision))?;
+    write_generator(out, event)?;
     write_member(out, "sensor_type", Value::Integer(sensor_type))?;
     write_printed(
         out,
@@ -142,33 +155,44 @@ fn words_of(event: &EventEntry) -> Option<&'static str>
     )
 }
 
-/// The word for the event direction.
-fn direction_word(event: &EventEntry) -> &'static str
-    ensures { result.now ≡ direction_word (is_deasserted event.now) }
+/// Writes the event direction.
+fn write_direction(out: &mut Writer, event: &EventEntry) -> Result<(), AllocError>
+    ensures { OnOk result
+        (Adds 1 ((codes "direction", string (direction_word (is_deasserted event.now))) ∷ [])
+        out.old out.new) }
 {
     if event.is_deasserted() {
-        "deasserted"
+        write_member(out, "direction", Value::Text("deasserted"))
     } else {
-        "asserted"
+        write_member(out, "direction", Value::Text("asserted"))
     }
 }
 
-/// Writes what an event says. `text` is used for its specified words.
+/// The event data of an event in hex, from all its bytes in hex.
+fn data_of<'a>(event: &EventEntry, raw: &'a str) -> &'a str
+    requires { raw.now ≡ binary_text event.now }
+    ensures { result.now ≡ binary_text (event_data event.now) }
+{
+    let before = 2 * (event.bytes().len() - event.data_bytes().len());
+    &raw[before..]
+}
+
+/// Writes what an event says. `text` is used for its specified words, `raw` has its bytes in hex.
 fn write_meaning(
-    alloc: Global,
     out: &mut Writer,
     text: &mut String,
     event: &EventEntry,
+    raw: &str,
 ) -> Result<(), AllocError>
+    requires { raw.now ≡ binary_text event.now }
     ensures { OnOk result (Adds 1 (meaning_members event.now) out.old out.new) }
 {
     let event_type = u64::from(event.event_type());
-    let content = hex::encode(alloc, event.data_bytes())?;
     write_member(out, "event_type", Value::Integer(event_type))?;
     write_specified(out, text, event)?;
     write_member(out, "event_words", text_or_null(words_of(event)))?;
-    write_member(out, "direction", Value::Text(direction_word(event)))?;
-    write_member(out, "event_data", Value::Text(content.as_str()))
+    write_direction(out, event)?;
+    write_member(out, "event_data", Value::Text(data_of(event, raw)))
 }
 
 /// Writes the details of an event, by the record of its sensor. `text` is used for them.
@@ -186,22 +210,24 @@ fn write_details(
     write_member(out, "event_details", text_unless_empty(text.as_str()))
 }
 
-/// Writes the members of an event, given the record of its sensor.
+/// Writes the members of an event, given the record of its sensor and its bytes in hex.
 fn write_event(
     alloc: Global,
     out: &mut Writer,
     event: &EventEntry,
     view: Option<&SdrView>,
+    raw: &str,
 ) -> Result<(), AllocError>
+    requires { raw.now ≡ binary_text event.now }
     ensures { OnOk result (AddsSome 1 (AreEventMembers event.now (option_map (λ v. v.now) view.entry))
         out.old out.new) }
 {
     let mut text = String::with_capacity(alloc, TEXT_CAPACITY)?;
-    let time = time_text(alloc, &mut text, event.time_stamp())?;
     let stamp = event.time_stamp();
-    write_time(out, "timestamp", "timestamp_raw", time.as_deref(), stamp)?;
+    let time = time_text(&mut text, stamp)?;
+    write_time(out, "timestamp", "timestamp_raw", time, stamp)?;
     write_source(alloc, out, &mut text, event, view)?;
-    write_meaning(alloc, out, &mut text, event)?;
+    write_meaning(out, &mut text, event, raw)?;
     write_details(out, &mut text, event, view)
 }
 
@@ -214,33 +240,30 @@ fn write_timed(
     ensures { OnOk result (AddsSome 1 (AreTimedMembers entry.now) out.old out.new) }
 {
     let mut text = String::with_capacity(alloc, TEXT_CAPACITY)?;
-    let time = time_text(alloc, &mut text, entry.time_stamp())?;
+    let stamp = entry.time_stamp();
+    let time = time_text(&mut text, stamp)?;
     let manufacturer = u64::from(entry.manufacturer_id());
-    write_time(
-        out,
-        "timestamp",
-        "timestamp_raw",
-        time.as_deref(),
-        entry.time_stamp(),
-    )?;
+    write_time(out, "timestamp", "timestamp_raw", time, stamp)?;
     write_member(out, "manufacturer_id", Value::Integer(manufacturer))?;
     write_data(alloc, out, entry.data_bytes())
 }
 
-/// Writes the members of an entry by its kind.
+/// Writes the members of an entry by its kind. `raw` has its bytes in hex.
 fn write_told(
     alloc: Global,
     out: &mut Writer,
     entry: &SelView,
     sensors: Option<&Sensors>,
+    raw: &str,
 ) -> Result<(), AllocError>
+    requires { raw.now ≡ binary_text (entry_bytes entry.now) }
     ensures { OnOk result (AddsSome 1 (AreTold entry.now (option_map (λ s. s.now) sensors.entry))
         out.old out.new) }
 {
     match entry {
         Event(event) => {
             let view = sensor_record(event, sensors);
-            write_event(alloc, out, event, view.as_ref())
+            write_event(alloc, out, event, view.as_ref(), raw)
         }
         OemTimed(timed) => write_timed(alloc, out, timed),
         OemPlain(plain) => write_data(alloc, out, plain.data_bytes()),
@@ -260,6 +283,8 @@ pub fn sel_entry_line(
     ensures { IfOk result (λ line. IsSelLine id entry.now (option_map (λ s. s.now) sensors.entry)
         labels.now line.items) }
 {
+    let mut digits = [0; ENTRY_DIGITS];
+    let raw = hex_text(entry.bytes(), &mut digits);
     let mut out = begin(alloc)?;
     write_head(
         &mut out,
@@ -268,7 +293,7 @@ pub fn sel_entry_line(
         entry.entry_type(),
         kind_word(entry),
     )?;
-    write_told(alloc, &mut out, entry, sensors)?;
-    write_raw(alloc, &mut out, entry.bytes())?;
+    write_told(alloc, &mut out, entry, sensors, raw)?;
+    write_raw_text(&mut out, raw)?;
     finish(out, labels)
 }

@@ -12,9 +12,6 @@ use std::alloc::{AllocError, Global};
 /// The last time stamp that is relative to the start of the controller's clock.
 const LAST_SINCE_START: u32 = 0x2000_0000;
 
-/// The capacity for a date and a time of day.
-const CAPACITY: usize = 24;
-
 /// The length of a space and a time of day with seconds.
 const TO_THE_SECOND: usize = 9;
 
@@ -22,6 +19,7 @@ const TO_THE_SECOND: usize = 9;
 const TO_THE_MINUTE: usize = 6;
 
 /// Writes a point in time under a key, and the time stamp that it is from under another.
+#[inline(always)]
 pub(crate) fn write_time(
     out: &mut Writer,
     key: &'static str,
@@ -36,21 +34,15 @@ pub(crate) fn write_time(
     write_member(out, raw_key, Value::Integer(u64::from(stamp)))
 }
 
-/// A date and a time of day in the format of ISO 8601, from a text with a space between them, then `end`.
-fn iso_text(alloc: Global, text: &str, space: usize, end: &str) -> Result<String, AllocError>
-    requires room { space < length text.now }
-    requires space { slice_index text.now space ≡ 32 }
-    ensures { IfOk result (λ iso. string_bytes iso ≡
-        take space text.now ++ (codes "T" ++ (drop (space + 1) text.now ++ end.now))) }
+/// Rewrites a date, a space and a time of day in the format of ISO 8601, with `end` after them.
+fn make_iso(text: &mut String, space: usize, end: &str) -> Result<(), AllocError>
+    requires room { space < length (string_bytes text.old) }
+    requires space { slice_index (string_bytes text.old) space ≡ 32 }
+    ensures { OnOk result (string_bytes text.new ≡ take space (string_bytes text.old)
+        ++ (codes "T" ++ (drop (space + 1) (string_bytes text.old) ++ end.now))) }
 {
-    let date = &text[..space];
-    let time = &text[space + 1..];
-    let mut iso = String::with_capacity(alloc, CAPACITY)?;
-    iso.push_str(date)?;
-    iso.push_str("T")?;
-    iso.push_str(time)?;
-    iso.push_str(end)?;
-    Ok(iso)
+    text.replace_range(space..space + 1, "T")?;
+    text.push_str(end)
 }
 
 /// Replaces a text with that of a time stamp.
@@ -62,19 +54,16 @@ fn set_utc(text: &mut String, seconds: u32) -> Result<(), AllocError>
 }
 
 /// The point in time that a time stamp is, as ISO 8601 has it; None where it is none. `text` is used for it.
-pub(crate) fn time_text(
-    alloc: Global,
-    text: &mut String,
-    seconds: u32,
-) -> Result<Option<String>, AllocError>
-    ensures { IfOk result (λ time. IsIsoTimeOf seconds (option_map (λ s. string_bytes s) time)) }
+pub(crate) fn time_text(text: &mut String, seconds: u32) -> Result<Option<&str>, AllocError>
+    ensures { IfOk result (λ time. IsIsoTimeOf seconds (option_map (λ s. s.now) time)) }
 {
     if seconds <= LAST_SINCE_START || seconds == u32::MAX {
         return Ok(None);
     }
     set_utc(text, seconds)?;
     let space = text.as_bytes().len() - TO_THE_SECOND;
-    Ok(Some(iso_text(alloc, text.as_str(), space, "Z")?))
+    make_iso(text, space, "Z")?;
+    Ok(Some(text.as_str()))
 }
 
 /// The time this many minutes after 1996-01-01 00:00 in the format of ISO 8601; None for 0, which is not a time.
@@ -85,7 +74,8 @@ pub(crate) fn minute_text(alloc: Global, minutes: u32) -> Result<Option<String>,
     if minutes == 0 {
         return Ok(None);
     }
-    let text = minutes_text(alloc, minutes)?;
+    let mut text = minutes_text(alloc, minutes)?;
     let space = text.as_bytes().len() - TO_THE_MINUTE;
-    Ok(Some(iso_text(alloc, &text, space, ":00Z")?))
+    make_iso(&mut text, space, ":00Z")?;
+    Ok(Some(text))
 }

@@ -37,15 +37,15 @@ const DOOR: Reading = Reading {
 };
 
 /// Records without a reading, each with its line after `record_id`: an event-only one; a generic locator, whose name has
-/// quotes, a backslash, a control character and letters of Latin-1; one without a name, whose address has bit 0 set; FRU
-/// locators of a logical device and of one that is not; a locator of a controller; and one of another type.
+/// quotes, a backslash, a control character and letters of Latin-1; one without a name; FRU locators of a logical device and
+/// of one that is not; a locator of a controller; and one of another type. The addresses of three of them have bit 0 set.
 const OTHERS: &str =
     r#"05005103102000302281126f00000000c445565431 "record_type":3,"kind":"event_only","name":"EVT1","owner_id":32,"owner_lun":0,"sensor_number":48,"entity_id":34,"entity_name":"system firmware","entity_instance":1,"sensor_type":18,"sensor_type_name":"System Event","event_type":111,"raw":"05005103102000302281126f00000000c445565431"}
 060051101120a00000000000070200c6225ce901ff20 "record_type":16,"kind":"generic_locator","name":"\"\\é.ÿ ","device_access_address":32,"device_slave_address":160,"entity_id":7,"entity_name":"system board","entity_instance":2,"raw":"060051101120a00000000000070200c6225ce901ff20"}
-060051100b00a50000000000070200c0 "record_type":16,"kind":"generic_locator","name":null,"device_access_address":0,"device_slave_address":164,"entity_id":7,"entity_name":"system board","entity_instance":2,"raw":"060051100b00a50000000000070200c0"}
+060051100b21a50000000000070200c0 "record_type":16,"kind":"generic_locator","name":null,"device_access_address":32,"device_slave_address":164,"entity_id":7,"entity_name":"system board","entity_instance":2,"raw":"060051100b21a50000000000070200c0"}
 020051110f200180000000000a0100c450535531 "record_type":17,"kind":"fru_locator","name":"PSU1","device_access_address":32,"fru_device_id":1,"device_slave_address":null,"is_logical":true,"access_lun":0,"entity_id":10,"entity_name":"power supply","entity_instance":1,"raw":"020051110f200180000000000a0100c450535531"}
-020051110f22a118000000000a0100c450535531 "record_type":17,"kind":"fru_locator","name":"PSU1","device_access_address":34,"fru_device_id":null,"device_slave_address":160,"is_logical":false,"access_lun":3,"entity_id":10,"entity_name":"power supply","entity_instance":1,"raw":"020051110f22a118000000000a0100c450535531"}
-070051120f24000000000000900100c4424d4331 "record_type":18,"kind":"mc_locator","name":"BMC1","device_slave_address":36,"entity_id":144,"entity_name":"entity 0x90","entity_instance":1,"raw":"070051120f24000000000000900100c4424d4331"}
+020051110f23a118000000000a0100c450535531 "record_type":17,"kind":"fru_locator","name":"PSU1","device_access_address":34,"fru_device_id":null,"device_slave_address":160,"is_logical":false,"access_lun":3,"entity_id":10,"entity_name":"power supply","entity_instance":1,"raw":"020051110f23a118000000000a0100c450535531"}
+070051120f25000000000000900100c4424d4331 "record_type":18,"kind":"mc_locator","name":"BMC1","device_slave_address":36,"entity_id":144,"entity_name":"entity 0x90","entity_instance":1,"raw":"070051120f25000000000000900100c4424d4331"}
 080051c003570100 "record_type":192,"kind":"other","raw":"080051c003570100"}"#;
 
 /// A record with a fault.

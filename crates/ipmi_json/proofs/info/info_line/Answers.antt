@@ -1,6 +1,5 @@
-use Rattle.std.proofs.Common.{arith, option_map, string_bytes, String}
+use Rattle.std.proofs.Common.{arith, option_map}
 use Rattle.std.proofs.lemmas.Result.{IfOk-weaker}
-use Rattle.std.specs.declared.alloc.Global.{Global}
 use Rattle.ipmi_json.proofs.ObjectLemmas.{joined, opened_more}
 use Rattle.ipmi_json.proofs.info.info_line.Goals as goal
 
@@ -8,14 +7,14 @@ pub returns : goal.returns
 returns c =
     let info = c.read-info.ensures in
     let counts = rw (c.from.ensures, c.from-2.ensures, c.from-3.ensures, info) at c.in_ok-write_members.ensures in
-    let addition = rw (c.as_deref.ensures.value, info) at c.in_ok-write_time.ensures in
-    let erase = rw (c.as_deref-2.ensures.value, info) at c.in_ok-write_time-2.ensures in
+    let addition = rw info at c.in_ok-write_time.ensures in
+    let erase = rw info at c.in_ok-write_time-2.ensures in
     let support = rw (c.from-4.ensures, info) at c.in_ok-write_members-2.ensures in
     let all = joined (joined (joined (joined c.in_ok-write_member.ensures counts) addition) erase) support in
     IfOk-weaker c.finish.result _ _
     (λ line h. record {
-      addition = option_map (λ (s : String Global). string_bytes s) c.in_ok-addition.addition;
-      erase = option_map (λ (s : String Global). string_bytes s) c.in_ok-erase.erase;
+      addition = option_map (λ s. s.now) c.in_ok-addition.addition;
+      erase = option_map (λ s. s.now) c.in_ok-erase.erase;
       is_addition = rw info at c.in_ok-addition.ensures;
       is_erase = rw info at c.in_ok-erase.ensures;
       is_line = h;
