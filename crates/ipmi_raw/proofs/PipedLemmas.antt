@@ -1,10 +1,11 @@
 -- An exchange over the streams of one unit. The streams are taken out and then put back.
-use Rattle.std.proofs.Common.{◌≡◌, ◌<◌, ◌==◌, if◌then◌else◌, ℕ, Bool, true, false, Option, None, Some, IfSome, IsSome, Result, Ok, Err, OnOk, List, refl, subst, ap, ◌∙◌}
+use Rattle.std.proofs.Common.{◌≡◌, ◌≢◌, ◌==◌, inr, sym, true≢false, IsErr, if◌then◌else◌, ℕ, Bool, true, false, Option, None, Some, Result, Ok, Err, OnOk, List, refl, subst, ap, ◌∙◌}
 use Rattle.std.specs.Io.KnownBytes.{Appends, Consumes}
 use Rattle.ipmi_raw.specs.declared.peer.Lost.{Lost}
 use Rattle.ipmi_raw.specs.declared.piped.Units.{Units}
 use Rattle.ipmi_raw.specs.declared.streams.Streams.{Streams}
-use Rattle.ipmi_raw.specs.Piped.{IsExchange, IsOverUnit, Known, streams_of, with_streams}
+use Rattle.ipmi_raw.specs.declared.tool.Tool.{Tool}
+use Rattle.ipmi_raw.specs.Piped.{AreReady, IsFirst, IsOverUnit, Known, Openings, streams_of, with_streams}
 
 -- the streams put in last are there
 last_put : {R W : Type 0} (unit : ℕ) (one other : Option (Streams R W)) (units : Units R W)
@@ -23,33 +24,55 @@ last_put {R} {W} unit one other units = of (unit == 0) (unit == 1) (unit == 2) (
     of false false false true = refl
     of false false false false = refl
 
-opens : {S : Type 0} (unit : ℕ) (s : S) (came : Result (Unit {0}) Lost) → unit < 4 → OnOk came ((unit < 4) × IsSome (Some s))
-opens unit s (Ok done) lt = (lt, refl)
-opens unit s (Err lost) lt = tt
+pub on_err : (P : Type 0) (came : Result (Unit {0}) Lost) → IsErr came → OnOk came P
+on_err P (Ok done) is = absurd (true≢false (sym is))
+on_err P (Err lost) is = tt
 
--- `one` are the streams returned, and `other` were already open: they are equal
-abbrev Gives : {R W : Type 0} → Streams R W → Streams R W → Type 0
-Gives {R} {W} one other = ◌≡◌ {A = Result (Streams R W) Lost} (Ok one) (Ok other)
+-- no streams were open, so some were opened
+module _ {O R W : Type 0} (opens : Openings O R W) (remaining : Known R) (contents : Known W) (tool : Tool) (unit : ℕ)
+    (first : List ℕ) (opener opener' : O) (opened after : Streams R W)
+    (opens_them : opens opener opener' unit (Some (opened.replies, opened.requests))) where
+  pub ready_after : (was_open : Option (Streams R W)) → ((s : Streams R W) → was_open ≢ Some s)
+      → IsFirst remaining contents tool (Ok tt) first opened after
+      → AreReady opens remaining contents tool unit was_open (Ok after) first opener opener'
+  ready_after (Some s) none over = absurd (none s refl)
+  ready_after None none over = (opened, opens_them, over)
 
-over : {R W : Type 0} (remaining : Known R) (contents : Known W) (request : List ℕ) (came : Result (Unit {0}) Lost)
-    (reply : List ℕ) (was_open : Option (Streams R W)) (before after : Streams R W)
-    → IfSome was_open (λ s. Gives before s) → IsExchange remaining contents request came reply before after
-    → IfSome was_open (λ s. IsExchange remaining contents request came reply s after)
-over remaining contents request came reply None before after same is = tt
-over remaining contents request came reply (Some s) before after same is =
-    let one : before ≡ s = cc in
-    subst (λ x. IsExchange remaining contents request came reply x after) one is
+  pub lost_after : (was_open : Option (Streams R W)) (lost : Lost) (result : Result (Streams R W) Lost)
+      → ((s : Streams R W) → was_open ≢ Some s) → IsErr result → IsFirst remaining contents tool (Err lost) first opened after
+      → AreReady opens remaining contents tool unit was_open result first opener opener'
+  lost_after (Some s) lost result none is over = absurd (none s refl)
+  lost_after None lost (Ok streams) none is over = absurd (true≢false (sym is))
+  lost_after None lost (Err same) none is over = inr (opened, after, opens_them, over)
 
-pub over_unit : {R W : Type 0} (remaining : Known R) (contents : Known W) (unit : ℕ) (request : List ℕ)
-    (came : Result (Unit {0}) Lost) (reply : List ℕ) (old middle new : Units R W) (was_open : Option (Streams R W))
-    (before after : Streams R W) → unit < 4 → was_open ≡ streams_of unit old → middle ≡ with_streams unit None old
-    → IfSome was_open (λ s. Gives before s) → OnOk came (Appends (contents before.requests) (contents after.requests) request)
-    → Consumes (remaining before.replies) (remaining after.replies) reply → new ≡ with_streams unit (Some after) middle
-    → IsOverUnit remaining contents unit request came reply old new
-over_unit remaining contents unit request came reply old middle new was_open before after lt was out same sent read put = record {
-  now = Some after;
-  others = put ∙ ap (λ u. with_streams unit (Some after) u) out ∙ last_put unit None (Some after) old;
-  opens = opens unit after came lt;
-  over = subst (λ o. IfSome o (λ s. IsExchange remaining contents request came reply s after)) was
-      (over remaining contents request came reply was_open before after same (record { sent = sent; read = read }));
-}
+module _ {O R W : Type 0} (opens : Openings O R W) (remaining : Known R) (contents : Known W) (tool : Tool) (unit : ℕ)
+    (request : List ℕ) (opener opener' : O) (old middle : Units R W) (was_open : Option (Streams R W))
+    (was : was_open ≡ streams_of unit old) (out : middle ≡ with_streams unit None old) where
+  -- the request was exchanged over the streams
+  pub over_unit : (came : Result (Unit {0}) Lost) (first reply : List ℕ) (new : Units R W) (before after : Streams R W)
+      → AreReady opens remaining contents tool unit was_open (Ok before) first opener opener'
+      → OnOk came (Appends (contents before.requests) (contents after.requests) request)
+      → Consumes (remaining before.replies) (remaining after.replies) reply → new ≡ with_streams unit (Some after) middle
+      → IsOverUnit opens remaining contents tool unit request came reply opener opener' old new
+  over_unit came first reply new before after ready sent read put = record {
+    now = Some after;
+    others = put ∙ ap (λ u. with_streams unit (Some after) u) out ∙ last_put unit None (Some after) old;
+    ready = Ok before;
+    first = first;
+    are_ready = subst (λ o. AreReady opens remaining contents tool unit o (Ok before) first opener opener') was ready;
+    over = (after, refl, record { sent = sent; read = read });
+  }
+
+  -- there are no streams
+  pub over_none : (lost : Lost) (came : Result (Unit {0}) Lost) (reply : List ℕ) → IsErr came
+      → AreReady opens remaining contents tool unit was_open (Err lost) reply opener opener'
+      → IsOverUnit opens remaining contents tool unit request came reply opener opener' old middle
+  over_none lost (Ok done) reply is ready = absurd (true≢false (sym is))
+  over_none lost (Err same) reply is ready = record {
+    now = None;
+    others = out;
+    ready = Err lost;
+    first = reply;
+    are_ready = subst (λ o. AreReady opens remaining contents tool unit o (Err lost) reply opener opener') was ready;
+    over = (refl, refl, refl);
+  }

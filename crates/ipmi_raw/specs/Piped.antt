@@ -1,5 +1,5 @@
 -- The streams for the requests to a logical unit.
-use Rattle.std.specs.Prelude.{ℕ, ◌≡◌, ◌<◌, ◌==◌, if◌then◌else◌, Option, None, IfSome, IsSome, Result, OnOk, List}
+use Rattle.std.specs.Prelude.{ℕ, ◌≡◌, ◌==◌, ◌⊎◌, if◌then◌else◌, codes, Option, None, Some, MatchResult, Result, Ok, Err, OnOk, List, []}
 use Rattle.std.specs.Io.KnownBytes.{Appends, Consumes}
 use Rattle.ipmi_raw.specs.declared.peer.Lost.{Lost}
 use Rattle.ipmi_raw.specs.declared.piped.Units.{Units}
@@ -35,12 +35,45 @@ pub record IsExchange {R W : Type 0} (remaining : Known R) (contents : Known W) 
   pub sent : OnOk came (Appends (contents old.requests) (contents new.requests) request)
   pub read : Consumes (remaining old.replies) (remaining new.replies) reply
 
--- An exchange over the streams of this unit. The streams of other units are unchanged. If a reply came, the unit exists, and its
--- streams are open afterwards. If they were open before and after the exchange, it was over them.
-pub record IsOverUnit {R W : Type 0} (remaining : Known R) (contents : Known W) (unit : ℕ) (request : List ℕ)
-    (came : Result (Unit {0}) Lost) (reply : List ℕ) (old new : Units R W) : Type 0 where
+-- ---- streams that are opened
+
+-- the type of an opener's `opens`: what is known of an opening for a unit, which gives a tool's output and input, or fails
+abbrev pub Openings : Type 0 → Type 0 → Type 0 → Type 1
+Openings O R W = O → O → ℕ → Option (R × W) → Type 0
+
+-- ipmitool is first sent a request that makes it open its session: Get Device ID (IPMI v2.0, section 20.1)
+abbrev pub IsFirst : {R W : Type 0} → Known R → Known W → Tool → Result (Unit {0}) Lost → List ℕ → Streams R W → Streams R W → Type 0
+IsFirst remaining contents Ipmitool came reply old new =
+    IsExchange remaining contents (codes "raw 0x06 0x01\necho .\n") came reply old new
+IsFirst remaining contents FreeIpmi came reply old new = (came ≡ Ok tt) × (reply ≡ []) × (new ≡ old)
+
+-- the streams opened for a unit, after the first request over them; or the opening failed, or that request lost the connection
+abbrev pub AreOpened : {O R W : Type 0} → Openings O R W → Known R → Known W → Tool → ℕ → Result (Streams R W) Lost → List ℕ
+    → O → O → Type 0
+AreOpened {R = R} {W = W} opens remaining contents tool unit (Ok streams) reply old new =
+    (opened : Streams R W) × opens old new unit (Some (opened.replies, opened.requests))
+    × IsFirst remaining contents tool (Ok tt) reply opened streams
+AreOpened {R = R} {W = W} opens remaining contents tool unit (Err lost) reply old new =
+    (opens old new unit None × (reply ≡ []))
+    ⊎ ((opened : Streams R W) × (after : Streams R W) × opens old new unit (Some (opened.replies, opened.requests))
+    × IsFirst remaining contents tool (Err lost) reply opened after)
+
+-- the streams for a request: those of the unit that are open; if there are none, some are opened
+abbrev pub AreReady : {O R W : Type 0} → Openings O R W → Known R → Known W → Tool → ℕ → Option (Streams R W)
+    → Result (Streams R W) Lost → List ℕ → O → O → Type 0
+AreReady opens remaining contents tool unit (Some streams) result reply old new = (result ≡ Ok streams) × (new ≡ old)
+AreReady opens remaining contents tool unit None result reply old new =
+    AreOpened opens remaining contents tool unit result reply old new
+
+-- An exchange over the streams of this unit, which are open afterwards. If there are none to be had, the connection is lost, and the
+-- reply is what came when they were opened. The streams of other units are unchanged.
+pub record IsOverUnit {O R W : Type 0} (opens : Openings O R W) (remaining : Known R) (contents : Known W) (tool : Tool) (unit : ℕ)
+    (request : List ℕ) (came : Result (Unit {0}) Lost) (reply : List ℕ) (opener opener' : O) (old new : Units R W) : Type 0 where
   pub now : Option (Streams R W)
   pub others : new ≡ with_streams unit now old
-  pub opens : OnOk came ((unit < 4) × IsSome now)
-  pub over : IfSome (streams_of unit old) (λ before. IfSome now (λ after.
-      IsExchange remaining contents request came reply before after))
+  pub ready : Result (Streams R W) Lost
+  pub first : List ℕ
+  pub are_ready : AreReady opens remaining contents tool unit (streams_of unit old) ready first opener opener'
+  pub over : MatchResult ready
+      (λ before. (after : Streams R W) × (now ≡ Some after) × IsExchange remaining contents request came reply before after)
+      (λ lost. (now ≡ None) × (came ≡ Err lost) × (reply ≡ first))

@@ -1,11 +1,11 @@
 //! A peer over streams: a tool for all logical units of a controller, or one for each.
-ghost use Rattle.std.specs.Prelude.{◌≡◌, [], Ok, IfSome, IsOk, OnOk};
+ghost use Rattle.std.specs.Prelude.{ℕ, ◌≡◌, ◌<◌, ◌≤◌, [], None, Some, Option, MatchResult, IsErr, IsOk, OnOk};
 ghost use Rattle.ipmi_bus.specs.Prelude.{IsHonest, zero_counts};
 ghost use Rattle.ipmi_bus.specs.Unclaimed.{calls_only};
 ghost use Rattle.ipmi_raw.specs.Peer.{Replies, request_text};
 ghost use Rattle.ipmi_raw.specs.Request.{IsRequest, lun_of};
 ghost use Rattle.ipmi_raw.specs.Streams.{IsEnded, IsNotEndedWithin};
-ghost use Rattle.ipmi_raw.specs.Piped.{IsOverUnit, streams_of, unit_of, with_streams};
+ghost use Rattle.ipmi_raw.specs.Piped.{AreReady, IsFirst, IsOverUnit, streams_of, unit_of, with_streams};
 ghost use Rattle.ipmi_raw.specs.declared.request.Request.{Request};
 
 use crate::peer::{Lost, Peer, ReplyText};
@@ -28,8 +28,14 @@ pub trait Open {
     /// The tool's input.
     type Requests: Write + Drop;
 
+    /// What is known of an opening. It relates the opener before and after, the logical unit, and the streams: the tool's
+    /// output and its input, or none if the opening failed.
+    ghost opens: { Self → Self → ℕ → Option (Self.Replies × Self.Requests) → Type 0 };
+
     /// Opens the streams of the tool that sends requests to this logical unit, 0 to 3: its output and its input.
-    fn open(&mut self, lun: u8) -> io::Result<(Self::Replies, Self::Requests)>;
+    fn open(&mut self, lun: u8) -> io::Result<(Self::Replies, Self::Requests)>
+        ensures { MatchResult result (λ streams. opens self.old self.new lun (Some streams))
+            (λ error. opens self.old self.new lun None) };
 }
 
 /// The streams of the tools opened by an `Open`, one tool for each logical unit (IPMI v2.0, section 7.2).
@@ -100,6 +106,22 @@ fn unit_of(tool: Tool, lun: u8) -> u8
     }
 }
 
+/// Sends ipmitool its first request.
+fn begin<R: Read, W: Write>(
+    streams: &mut Streams<R, W>,
+    tool: Tool,
+    reply: &mut ReplyText,
+) -> Result<(), Lost>
+    requires { reply.old.items ≡ [] }
+    ensures over { IsFirst R.remaining W.contents tool result reply.new.items streams.old streams.new }
+    ensures first { IsNotEndedWithin tool reply.new.items }
+{
+    match tool {
+        Tool::Ipmitool => streams.exchange(tool, FIRST_REQUEST, reply),
+        Tool::FreeIpmi => Ok(()),
+    }
+}
+
 /// The streams of the tool that sends requests to the unit. Opens them if they are not open. Then `reply` receives what
 /// ipmitool prints when it opens its session.
 fn opened<O: Open>(
@@ -110,17 +132,18 @@ fn opened<O: Open>(
     reply: &mut ReplyText,
 ) -> Result<Streams<O::Replies, O::Requests>, Lost>
     requires { reply.old.items ≡ [] }
-    ensures same { IfSome streams (λ streams. result ≡ Ok streams) }
+    ensures ready { AreReady O.opens O.Replies.remaining O.Requests.contents tool unit streams result reply.new.items
+        opener.old opener.new }
     ensures first { IsNotEndedWithin tool reply.new.items }
 {
     if let Some(streams) = streams {
         return Ok(streams);
     }
-    let (replies, requests) = opener.open(unit).or(Err(Lost))?;
+    let Ok((replies, requests)) = opener.open(unit) else {
+        return Err(Lost);
+    };
     let mut streams = Streams { replies, requests };
-    if tool == Tool::Ipmitool {
-        streams.exchange(tool, FIRST_REQUEST, reply)?;
-    }
+    begin(&mut streams, tool, reply)?;
     Ok(streams)
 }
 
@@ -130,7 +153,9 @@ impl<O: Open> Peer for Piped<O> {
     ghost tool = { λ piped. piped.tool };
 
     ghost brings = { λ old new lun request result reply. OnOk result (IsEnded old.tool reply) × IsNotEndedWithin old.tool reply
-        × IsOverUnit O.Replies.remaining O.Requests.contents (unit_of old.tool lun) request result reply old.units new.units };
+        × (unit_of old.tool lun < 4 → IsOverUnit O.opens O.Replies.remaining O.Requests.contents old.tool (unit_of old.tool lun)
+        request result reply old.opener new.opener old.units new.units)
+        × (4 ≤ unit_of old.tool lun → IsErr result × (reply ≡ []) × (new ≡ old)) };
 
     fn tool(&self) -> Tool {
         self.tool

@@ -1,5 +1,5 @@
 //! Tools for tests: the input that each expects, and its output.
-ghost use Rattle.std.specs.Prelude.{◌≤◌, IfOk, length};
+ghost use Rattle.std.specs.Prelude.{◌≤◌, ⊤, IfOk, length};
 
 use ipmi_raw::{Open, Piped, RawController, Tool};
 use std::cell::Cell;
@@ -47,6 +47,8 @@ impl<'s> Open for Scripts<'s> {
     type Replies = Chain<&'s [u8], &'s [u8]>;
 
     type Requests = Wanted<'s>;
+
+    ghost opens = { λ old new lun streams. ⊤ };
 
     fn open(&mut self, lun: u8) -> io::Result<(Chain<&'s [u8], &'s [u8]>, Wanted<'s>)> {
         let (request, reply): (&[u8], &[u8]) = match self.0 {

@@ -1,5 +1,5 @@
 //! Runs commands over a live controller. A stock tool holds a session with it, and pipes in a folder lead to the tool.
-ghost use Rattle.std.specs.Prelude.{◌≡◌, ◌+◌, ℕ, Bool, codes, List, None, Option, option_map, true};
+ghost use Rattle.std.specs.Prelude.{◌≡◌, ◌+◌, ℕ, ⊤, Bool, codes, List, None, Option, option_map, true};
 ghost use Rattle.ipmi_bus.specs.Seen.{Seen};
 ghost use Rattle.ipmi_raw.specs.Controller.{last_words, seen_of};
 ghost use Rattle.serdimko.specs.Live.{live_of, tool_of};
@@ -83,6 +83,8 @@ impl<'a, R: Files + AllocGlobal> Open for Pipes<'a, R> {
     type Replies = BufReader<R::File>;
 
     type Requests = R::File;
+
+    ghost opens = { λ old new lun streams. ⊤ };
 
     fn open(&mut self, lun: u8) -> io::Result<(BufReader<R::File>, R::File)> {
         let alloc = self.rt.alloc();
