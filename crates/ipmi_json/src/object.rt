@@ -199,21 +199,6 @@ pub(crate) fn write_printed<D: Display + Drop>(
     write_member(out, key, Value::Text(text.as_str()))
 }
 
-/// Writes what a value prints as the text under a key, or null if it prints nothing. `text` is used for it.
-#[inline(always)]
-pub(crate) fn write_printed_or_null<D: Display + Drop>(
-    out: &mut Writer,
-    text: &mut String,
-    key: &'static str,
-    value: D,
-) -> Result<(), AllocError>
-    ensures { OnOk result (IfSome (D.output value) (λ printed.
-        Adds 1 ((key.entry.now, text_unless_empty printed) ∷ []) out.old out.new)) }
-{
-    set_printed(text, value)?;
-    write_member(out, key, text_unless_empty(text.as_str()))
-}
-
 /// Writes members, without brackets.
 pub(crate) fn write_members(out: &mut Writer, members: &[Member]) -> Result<(), AllocError>
     ensures { OnOk result (Adds 1 (pairs_of members.now) out.old out.new) }
