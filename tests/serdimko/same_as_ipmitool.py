@@ -104,7 +104,7 @@ USAGE = b"usage: ipmitool [--image FILE] [--from HEX4] [--part N] [--tries N] fr
 WHY_NOT_READ = b": (no such file|is a directory|permission denied|longer than 64 MiB|reason not known)"
 EXPLANATION = rb" \([^\n]+\)"
 WHY_NO_HEADER = (
-    rb"( \((empty input|compressed: unpack it first|line ends are CR LF: use LF alone|line ends are CR: use LF alone|begins with a byte order mark: save it without"
+    rb"( \((the input is empty: an image was expected, whose first line is 'ipmi-image 1' or 'ipmi-image 2'|compressed: unpack it first|line ends are CR LF: use LF alone|line ends are CR: use LF alone|begins with a byte order mark: save it without"
     rb"|is UTF-16 or UTF-32: save it as UTF-8|the first line has to be exactly 'ipmi-image 1' or 'ipmi-image 2', ended by a line feed)\))"
 )
 

@@ -22,6 +22,12 @@ is_empty field = length field == 0
 abbrev pub ends_with_cr : List ℕ → Bool
 ends_with_cr line = ends_with nat_eq line (13 ∷ [])
 
+abbrev pub has_tab : List ℕ → Bool
+has_tab line = list_any (λ byte. byte == 9) line
+
+abbrev pub is_indented : List ℕ → Bool
+is_indented line = starts_with nat_eq line (32 ∷ [])
+
 -- ---- the beginning and the end
 
 -- files of gzip, xz, zstd, bzip2, zip, lz4 and compress begin so
@@ -91,14 +97,22 @@ with_fields Looks.Inventory fields = if fields == 3 then Looks.InventoryFields e
 with_fields Looks.Reading fields = if fields == 4 then Looks.ReadingFields else Looks.Reading
 with_fields looks fields = looks
 
--- an invalid line of the first version or another one
+-- an invalid line of the first version or another one, by its fields
+abbrev pub field_looks : Bool → List ℕ → Looks
+field_looks is_first_version line =
+    if not (has_fields (word_looks line)) then word_looks line
+    else (if is_first_version && is_row (word_looks line) && bytes_eq (piece_at 32 2 line) (codes "-") then Looks.Dash
+    else (if list_any is_empty (pieces 32 line) then Looks.Spaces
+    else with_fields (word_looks line) (length (pieces 32 line))))
+
+-- the same, by its white space first
 abbrev pub line_looks : Bool → List ℕ → Looks
 line_looks is_first_version line =
     if ends_with_cr line then Looks.CrLf
-    else (if not (has_fields (word_looks line)) then word_looks line
-    else (if is_first_version && is_row (word_looks line) && bytes_eq (piece_at 32 2 line) (codes "-") then Looks.Dash
-    else (if list_any is_empty (pieces 32 line) then Looks.Spaces
-    else with_fields (word_looks line) (length (pieces 32 line)))))
+    else (if is_empty line then Looks.Blank
+    else (if has_tab line then Looks.Tab
+    else (if is_indented line then Looks.Indented
+    else field_looks is_first_version line)))
 
 -- a line whose id is not allowed
 abbrev pub id_looks : List ℕ → Looks
@@ -112,8 +126,9 @@ digits_in line = piece_at 32 (length (pieces 32 line) - 1) line
 abbrev pub digit_looks : List ℕ → Looks
 digit_looks line =
     if ends_with_cr line then Looks.CrLf
+    else (if has_tab line then Looks.Tab
     else (if length (digits_in line) % 2 == 1 && list_all is_ascii_hexdigit (digits_in line) then Looks.Odd
-    else Looks.Unknown)
+    else Looks.Unknown))
 
 -- ---- input that has a fault
 
@@ -131,7 +146,8 @@ looks_in bytes fault = Looks.Unknown
 
 -- what is known of input that does not begin as an image
 abbrev pub header_words : Looks → List ℕ
-header_words Looks.Empty = codes " (empty input)"
+header_words Looks.Empty =
+    codes " (the input is empty: an image was expected, whose first line is 'ipmi-image 1' or 'ipmi-image 2')"
 header_words Looks.Compressed = codes " (compressed: unpack it first)"
 header_words Looks.ByteOrderMark = codes " (begins with a byte order mark: save it without)"
 header_words Looks.Wide = codes " (is UTF-16 or UTF-32: save it as UTF-8)"
@@ -143,15 +159,18 @@ header_words _ =
 -- the rule that an invalid line breaks
 abbrev pub line_words : Looks → List ℕ
 line_words Looks.CrLf = codes " (it ends with CR LF: use LF alone)"
+line_words Looks.Blank = codes " (it is empty: remove it)"
+line_words Looks.Tab = codes " (it has a tab: between two fields one space)"
+line_words Looks.Indented = codes " (it begins with a space: remove it)"
 line_words Looks.Dash = codes " (NEXT is a dash: the first line has to be 'ipmi-image 2')"
 line_words Looks.Spaces = codes " (a field is empty: between two fields one space, and none at the end)"
 line_words Looks.Record = codes " (sdr and sel take three fields: ID NEXT HEX)"
 line_words Looks.Event = codes " (sdr and sel take three fields: ID NEXT HEX)"
-line_words Looks.RecordFields = codes " (ID or NEXT is not four digits)"
+line_words Looks.RecordFields = codes " (ID and NEXT are four hex digits each, as 002a)"
 line_words Looks.Inventory = codes " (fru takes two fields: ID HEX)"
-line_words Looks.InventoryFields = codes " (the ID of fru is two digits)"
+line_words Looks.InventoryFields = codes " (the ID of fru is two hex digits, 00 to fe, as 0a)"
 line_words Looks.Reading = codes " (reading takes three fields: LUN NUM HEX)"
-line_words Looks.ReadingFields = codes " (LUN is one digit, NUM two)"
+line_words Looks.ReadingFields = codes " (LUN is one digit, 0 to 3, and NUM two hex digits, as 0 2a)"
 line_words Looks.Info = codes " (info takes sdr HEX or sel HEX)"
 line_words Looks.End = codes " (end stands alone)"
 line_words _ = codes " (its first word is none of sdr, sel, fru, reading, info, end)"
@@ -159,7 +178,8 @@ line_words _ = codes " (its first word is none of sdr, sel, fru, reading, info, 
 -- what is wrong with the digits of a line
 abbrev pub digit_words : Looks → List ℕ
 digit_words Looks.CrLf = codes " (it ends with CR LF: use LF alone)"
-digit_words Looks.Odd = codes " (an odd number of digits)"
+digit_words Looks.Tab = codes " (it has a tab: between two fields one space)"
+digit_words Looks.Odd = codes " (an odd number of digits: each byte has two)"
 digit_words _ = codes " (a character is no hex digit)"
 
 -- why a line may not have its id

@@ -49,7 +49,7 @@ abbrev pub capture_rule : Own → List (List ℕ) → Option (List ℕ)
 capture_rule own words =
     if begins_with words (codes "capture") then None
     else (if own.quiet || is_some own.output
-    then Some (codes "--output and --quiet go only with 'capture'")
+    then Some (codes "--output (-o) and --quiet go only with 'capture'")
     else None)
 
 abbrev pub misplaced : Own → List (List ℕ) → Option (List ℕ)

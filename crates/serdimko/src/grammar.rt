@@ -4,7 +4,7 @@
 pub(crate) const COMMANDS: [&str; 7] = ["sdr", "sensor", "sel", "fru", "capture", "image", "help"];
 
 /// The kinds of sensor data records.
-const KINDS: [&str; 7] = [
+pub(crate) const KINDS: [&str; 7] = [
     "all",
     "full",
     "compact",
@@ -28,6 +28,8 @@ pub(crate) struct Number {
     pub(crate) after: &'static [&'static str],
     /// Whether listings print it in hex without `0x`, as `--id` takes it.
     pub(crate) is_id: bool,
+    /// Which listing prints it, if it is an ID.
+    pub(crate) listed: &'static str,
 }
 
 const COUNT: Number = Number {
@@ -35,6 +37,7 @@ const COUNT: Number = Number {
     range: "0 to 65535",
     after: &["--", "sel", "list"],
     is_id: false,
+    listed: "",
 };
 
 const ENTRY: Number = Number {
@@ -42,6 +45,7 @@ const ENTRY: Number = Number {
     range: "1 to 65534",
     after: &["--", "sel", "get"],
     is_id: true,
+    listed: "'sel list' prints the ID of each event in hex, as --id takes it",
 };
 
 const DEVICE: Number = Number {
@@ -49,6 +53,7 @@ const DEVICE: Number = Number {
     range: "0 to 254",
     after: &["--", "fru", "print"],
     is_id: false,
+    listed: "'fru list' prints the ID of each device",
 };
 
 /// The words that may come next.

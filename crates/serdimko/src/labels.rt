@@ -118,7 +118,7 @@ fn fault_of(label: Option<Label<'_>>, before: &[Label<'_>]) -> Option<&'static s
         return Some("' is not KEY=VALUE");
     };
     if KEYS.contains(&label.key) {
-        return Some("': objects have this key themselves");
+        return Some("': objects already have this key");
     }
     if has_key(before, label.key) {
         return Some("': an earlier label has this key");

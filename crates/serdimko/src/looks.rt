@@ -3,7 +3,7 @@ ghost use Rattle.std.specs.Prelude.{◌≡◌, ◌∷◌, ◌<◌, ◌==◌, [],
 ghost use Rattle.std.specs.Char.{is_ascii_hexdigit};
 ghost use Rattle.std.specs.List.{list_all, list_any};
 ghost use Rattle.ipmi_image.specs.Prelude.{pieces};
-ghost use Rattle.serdimko.specs.Looks.{beginning_looks, digit_looks, digit_words, end_words, ending_looks, ends_with_cr, explanation, has_fields, header_words, id_looks, id_words, is_compressed, is_empty, is_row, is_wide, length_words, line_at, line_looks, line_words, looks_in, piece_at, twice_words, with_fields, word_looks};
+ghost use Rattle.serdimko.specs.Looks.{beginning_looks, digit_looks, digit_words, end_words, ending_looks, ends_with_cr, explanation, field_looks, has_fields, has_tab, header_words, id_looks, id_words, is_compressed, is_empty, is_indented, is_row, is_wide, length_words, line_at, line_looks, line_words, looks_in, piece_at, twice_words, with_fields, word_looks};
 
 use ipmi_image::ImageFault;
 use memchr::memchr;
@@ -23,6 +23,12 @@ pub(crate) enum Looks {
     CrLf,
     /// Its lines end with CR alone.
     Cr,
+    /// The line is empty.
+    Blank,
+    /// The line has a tab.
+    Tab,
+    /// The line begins with a space.
+    Indented,
     /// The line has a dash for NEXT, but the image has version 1.
     Dash,
     /// A field of the line is empty.
@@ -127,6 +133,20 @@ fn ends_with_cr(line: &[u8]) -> bool
     ensures { result ≡ ends_with_cr line.now }
 {
     line.ends_with(b"\r")
+}
+
+/// Whether the line has a tab.
+fn has_tab(line: &[u8]) -> bool
+    ensures { result ≡ has_tab line.now }
+{
+    line.contains(&b'\t')
+}
+
+/// Whether the line begins with a space.
+fn is_indented(line: &[u8]) -> bool
+    ensures { result ≡ is_indented line.now }
+{
+    line.starts_with(b" ")
 }
 
 /// Whether all are hex digits.
@@ -249,13 +269,10 @@ impl Looks {
         looks
     }
 
-    /// The appearance of an invalid line.
-    fn of_line(line: &[u8], is_first_version: bool) -> Looks
-        ensures { result ≡ line_looks is_first_version line.now }
+    /// The appearance of an invalid line without a fault in its white space.
+    fn of_fields(line: &[u8], is_first_version: bool) -> Looks
+        ensures { result ≡ field_looks is_first_version line.now }
     {
-        if ends_with_cr(line) {
-            return Looks::CrLf;
-        }
         let looks = Looks::of_word(line);
         if !looks.has_fields() {
             return looks;
@@ -270,12 +287,32 @@ impl Looks {
         looks.with_fields(fields)
     }
 
+    /// The appearance of an invalid line.
+    fn of_line(line: &[u8], is_first_version: bool) -> Looks
+        ensures { result ≡ line_looks is_first_version line.now }
+    {
+        if ends_with_cr(line) {
+            Looks::CrLf
+        } else if line.is_empty() {
+            Looks::Blank
+        } else if has_tab(line) {
+            Looks::Tab
+        } else if is_indented(line) {
+            Looks::Indented
+        } else {
+            Looks::of_fields(line, is_first_version)
+        }
+    }
+
     /// The appearance of a line with a fault in its digits.
     fn of_digits(line: &[u8]) -> Looks
         ensures { result ≡ digit_looks line.now }
     {
         if ends_with_cr(line) {
             return Looks::CrLf;
+        }
+        if has_tab(line) {
+            return Looks::Tab;
         }
         let (fields, _) = fields_of(line);
         let digits = piece_at(line, b' ', fields.saturating_sub(1));
@@ -298,7 +335,8 @@ fn header_words(looks: Looks) -> &'static str
     ensures { result.now ≡ header_words looks }
 {
     match looks {
-        Looks::Empty => " (empty input)",
+        Looks::Empty =>
+            " (the input is empty: an image was expected, whose first line is 'ipmi-image 1' or 'ipmi-image 2')",
         Looks::Compressed => " (compressed: unpack it first)",
         Looks::ByteOrderMark => " (begins with a byte order mark: save it without)",
         Looks::Wide => " (is UTF-16 or UTF-32: save it as UTF-8)",
@@ -316,14 +354,17 @@ fn line_words(looks: Looks) -> &'static str
 {
     match looks {
         Looks::CrLf => " (it ends with CR LF: use LF alone)",
+        Looks::Blank => " (it is empty: remove it)",
+        Looks::Tab => " (it has a tab: between two fields one space)",
+        Looks::Indented => " (it begins with a space: remove it)",
         Looks::Dash => " (NEXT is a dash: the first line has to be 'ipmi-image 2')",
         Looks::Spaces => " (a field is empty: between two fields one space, and none at the end)",
         Looks::Record | Looks::Event => " (sdr and sel take three fields: ID NEXT HEX)",
-        Looks::RecordFields => " (ID or NEXT is not four digits)",
+        Looks::RecordFields => " (ID and NEXT are four hex digits each, as 002a)",
         Looks::Inventory => " (fru takes two fields: ID HEX)",
-        Looks::InventoryFields => " (the ID of fru is two digits)",
+        Looks::InventoryFields => " (the ID of fru is two hex digits, 00 to fe, as 0a)",
         Looks::Reading => " (reading takes three fields: LUN NUM HEX)",
-        Looks::ReadingFields => " (LUN is one digit, NUM two)",
+        Looks::ReadingFields => " (LUN is one digit, 0 to 3, and NUM two hex digits, as 0 2a)",
         Looks::Info => " (info takes sdr HEX or sel HEX)",
         Looks::End => " (end stands alone)",
         _ => " (its first word is none of sdr, sel, fru, reading, info, end)",
@@ -336,7 +377,8 @@ fn digit_words(looks: Looks) -> &'static str
 {
     match looks {
         Looks::CrLf => " (it ends with CR LF: use LF alone)",
-        Looks::Odd => " (an odd number of digits)",
+        Looks::Tab => " (it has a tab: between two fields one space)",
+        Looks::Odd => " (an odd number of digits: each byte has two)",
         _ => " (a character is no hex digit)",
     }
 }

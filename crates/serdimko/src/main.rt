@@ -34,9 +34,9 @@ use ipmi_program::read_words;
 use labels::wrong_label;
 use live::{Live, print_live_objects, print_live_texts};
 use misplaced::{goes_with_capture, input_rule, json_rule, misplaced};
-use mistake::{Line, line, mistake, no_value_of, too_many};
+use mistake::{Line, line, maybe_unquoted, mistake, no_value_of, too_many};
 use own::{Own, own_of};
-use problem::CLOSED;
+use problem::{CLOSED, INCOMPLETE};
 use scan::{Scan, told_apart};
 use std::alloc::{AllocError, Global};
 use std::env::{Env, FillError};
@@ -132,7 +132,11 @@ fn run<E: MessageSink>(
         return run_capture(rt, own, scanned, err);
     }
     match commands_of(rt.alloc(), &own.rest, scanned) {
-        Ok(commands) => run_commands(rt, &commands, own, err),
+        Ok(commands) => {
+            let status = run_commands(rt, &commands, own, err)?;
+            advise(rt, status, scanned, err);
+            Ok(status)
+        }
         Err(UsageFault::Memory) => Err(AllocError),
         Err(fault) => Ok(refuse(&mistake(rt.alloc(), own, scanned, fault)?, err)),
     }
@@ -158,6 +162,17 @@ fn run_commands<E: MessageSink>(
     match live_of(rt, live.as_str())? {
         Ok(live) => print_commands(rt, commands, image, own, Some(live), err),
         Err(line) => Ok(refuse(&line, err)),
+    }
+}
+
+/// Says, after a run that lacks something, that the words may be one name.
+fn advise<E: MessageSink>(rt: &HostRuntime, status: u8, scanned: &Scan<'_>, err: &mut E) {
+    if status != INCOMPLETE {
+        return;
+    }
+    // without memory there is no advice
+    if let Ok(Some(line)) = maybe_unquoted(rt.alloc(), scanned.words.as_slice()) {
+        let _ = say_line(err, &line);
     }
 }
 
@@ -189,7 +204,7 @@ fn run_capture<E: MessageSink>(
         return Ok(refuse(&too_many(rt.alloc(), scanned.words.as_slice(), 1)?, err));
     }
     if !goes_with_capture(own, scanned) {
-        let rule = "'capture' takes only --part, --tries, --output and --quiet";
+        let rule = "'capture' takes only --part, --tries, --output (-o) and --quiet";
         return Ok(refuse(&[Text(rule)], err));
     }
     let command = match command_of_options(rt.alloc(), scanned) {

@@ -92,7 +92,7 @@ fn capture_rule(own: &Own, words: &[Word]) -> Option<&'static str>
         return None;
     }
     if own.quiet || own.output.is_some() {
-        return Some("--output and --quiet go only with 'capture'");
+        return Some("--output (-o) and --quiet go only with 'capture'");
     }
     None
 }

@@ -1,7 +1,7 @@
 //! Why parsing the command line failed, and how to correct it, as the parts of one line.
 ghost use Rattle.std.specs.Prelude.{◌≡◌, IfOk};
 
-use crate::grammar::{COMMANDS, ENDS, Next, Number, next_of};
+use crate::grammar::{COMMANDS, ENDS, KINDS, Next, Number, next_of};
 use crate::live::Live;
 use crate::own::{Own, id_word, is_option};
 use crate::scan::Scan;
@@ -68,20 +68,51 @@ pub(crate) fn no_value_of<'a>(
     let mut parts = line(
         alloc,
         &[
-            Name(option),
+            Name(with_short(option)),
             Text(" '"),
             Name(value),
             Text("' is not "),
             rule,
         ],
     )?;
-    match value.strip_prefix("0x") {
-        Some(digits) if option == "--from" && is_taken(alloc, &[option], digits)? => {
-            push_all(&mut parts, &[Text(": write "), Name(digits)])?;
-        }
-        _ => {}
-    }
+    push_corrected(alloc, option, value, &mut parts)?;
     Ok(parts)
+}
+
+/// The option in messages, with its short form if there is one.
+pub(crate) fn with_short(option: &str) -> &str {
+    match option {
+        "--output" => "--output (-o)",
+        _ => option,
+    }
+}
+
+/// The hex digits of a number that is written with `0x`, or, as in messages, with an `h`.
+fn bare_digits(word: &str) -> &str {
+    let word = word.strip_prefix("0x").unwrap_or(word);
+    word.strip_suffix("h").unwrap_or(word)
+}
+
+/// Adds the id that has the digits of this value, in the form that the option takes.
+fn push_corrected<'a>(
+    alloc: Global,
+    option: &str,
+    value: &'a str,
+    parts: &mut Line<'a>,
+) -> Result<(), AllocError> {
+    let digits = bare_digits(value);
+    let zeros = match (option, digits.len()) {
+        ("--from", 1) => "000",
+        ("--from", 2) => "00",
+        ("--from", 3) => "0",
+        ("--from" | "--id", _) => "",
+        _ => return Ok(()),
+    };
+    let id = format!(in alloc; "{zeros}{digits}")?;
+    if is_value(alloc, option, id.as_str())? {
+        push_all(parts, &[Text(": write "), Text(zeros), Name(digits)])?;
+    }
+    Ok(())
 }
 
 /// Whether the command line of our `ipmitool` takes this word after those.
@@ -160,24 +191,50 @@ fn of_word<'a>(
     word: &'a str,
 ) -> Result<Option<Line<'a>>, AllocError> {
     let words = scanned.words.as_slice();
-    let names = match next_of(words.get(..place).unwrap_or(&[])) {
-        Next::Names(names) => names,
-        Next::Count(_) if ENDS.contains(&word) => return Ok(None),
-        Next::Number(number) | Next::Count(number) if is_number(alloc, number, word)? => {
-            return Ok(None);
-        }
-        // a number follows
-        Next::Count(_) if place.saturating_add(1) < words.len() => ENDS,
-        Next::Number(number) | Next::Count(number) => {
-            return not_a_number(alloc, number, word).map(Some);
-        }
-        Next::Name => return Ok(None),
-        Next::Nothing => return too_many(alloc, words, place).map(Some),
-    };
-    if names.iter().any(|name| *name == word) {
+    let before = words.get(..place).unwrap_or(&[]);
+    let next = next_of(before);
+    if is_allowed(alloc, next, word)? {
         return Ok(None);
     }
-    unknown(alloc, own, scanned, place, word, names).map(Some)
+    match next {
+        Next::Nothing => too_many(alloc, words, place),
+        _ if word == "help" && place > 0 => late_help(alloc, before),
+        Next::Names(names) => unknown(alloc, own, scanned, place, word, names),
+        // a number follows
+        Next::Count(_) if place.saturating_add(1) < words.len() => {
+            unknown(alloc, own, scanned, place, word, ENDS)
+        }
+        Next::Number(number) | Next::Count(number) => not_a_number(alloc, number, word),
+        Next::Name => return Ok(None),
+    }
+    .map(Some)
+}
+
+/// Whether the word may come next.
+fn is_allowed(alloc: Global, next: Next, word: &str) -> Result<bool, AllocError> {
+    match next {
+        Next::Names(names) => Ok(names.contains(&word)),
+        Next::Count(_) if ENDS.contains(&word) => Ok(true),
+        Next::Number(number) | Next::Count(number) => is_number(alloc, number, word),
+        Next::Name => Ok(true),
+        Next::Nothing => Ok(false),
+    }
+}
+
+/// `help` after other words.
+fn late_help<'a>(alloc: Global, before: &[&'a str]) -> Result<Line<'a>, AllocError> {
+    let command = Name(before.first().copied().unwrap_or(""));
+    let mut parts = line(alloc, &[Text("unexpected word 'help' after '")])?;
+    push_joined(&mut parts, before)?;
+    let advice = [
+        Text("': write 'help "),
+        command,
+        Text("' or '"),
+        command,
+        Text(" --help'"),
+    ];
+    push_all(&mut parts, &advice)?;
+    Ok(parts)
 }
 
 /// The word is not one of those allowed at this place.
@@ -208,7 +265,7 @@ fn unknown<'a>(
                 Text("'"),
                 Name(value),
                 Text("' was read as the value of "),
-                Text(option),
+                Text(with_short(option)),
             ],
         )?,
         _ => push_advice(alloc, scanned, before, word, names, &mut parts)?,
@@ -257,13 +314,14 @@ fn push_advice<'a>(
     };
     match near {
         Some(name) => push_all(parts, &[Text("did you mean '"), Text(name), Text("'?")]),
-        None => push_choice(parts, names),
+        None => push_choice(parts, names, of_get(before)),
     }
 }
 
-/// The command if its last word is missing before a number.
+/// The command if its last word is missing before a kind or a number.
 fn skipped(alloc: Global, before: &[&str], word: &str) -> Result<Option<&'static str>, AllocError> {
     let (words, command) = match before {
+        ["sdr"] if KINDS.contains(&word) => return Ok(Some("sdr list ")),
         ["sel"] => (["sel", "list"], "sel list "),
         ["fru"] => (["fru", "print"], "fru print "),
         _ => return Ok(None),
@@ -322,6 +380,9 @@ pub(crate) fn too_many<'a>(
         return line(alloc, &parts);
     }
     let before = words.get(..place).unwrap_or(&[]);
+    if word == "help" {
+        return late_help(alloc, before);
+    }
     if matches!(before, ["image", "rewrite"]) {
         let rule = Text("': a file goes after --image");
         return line(alloc, &[Text("unexpected '"), Name(word), rule]);
@@ -346,17 +407,39 @@ fn instead_after(words: &[&str]) -> &'static str {
     }
 }
 
-/// A name of several words, or several names: words with a space were quoted.
+/// A name of several words, or several names.
 fn unquoted<'a>(alloc: Global, words: &[&'a str]) -> Result<Line<'a>, AllocError> {
-    let mut parts = line(alloc, &[Text("'sdr get' takes one name")])?;
-    let is_quoted = |word: &&str| word.contains(' ') || word.contains('\'');
-    if words.iter().any(is_quoted) {
-        return Ok(parts);
+    if are_quoted(words) {
+        let rule = "'sdr get' takes one name: 'sensor get' takes several";
+        return line(alloc, &[Text(rule)]);
     }
-    parts.push(Text(": quote it, as '"))?;
+    let mut parts = line(alloc, &[Text("'sdr get' takes one name: quote it, as '")])?;
     push_joined(&mut parts, words)?;
     parts.push(Text("'"))?;
     Ok(parts)
+}
+
+/// Whether the names were quoted: one has a space.
+fn are_quoted(names: &[&str]) -> bool {
+    names
+        .iter()
+        .any(|name| name.contains(' ') || name.contains('\''))
+}
+
+/// What to say after a run that lacks something: the words may be one name that was not quoted.
+pub(crate) fn maybe_unquoted<'a>(
+    alloc: Global,
+    words: &[&'a str],
+) -> Result<Option<Line<'a>>, AllocError> {
+    let names = match words {
+        ["sensor", "get", names @ ..] if names.len() > 1 && !are_quoted(names) => names,
+        _ => return Ok(None),
+    };
+    let rule = "'sensor get' takes each word as a name: quote a name that has spaces, as '";
+    let mut parts = line(alloc, &[Text(rule)])?;
+    push_joined(&mut parts, names)?;
+    parts.push(Text("'"))?;
+    Ok(Some(parts))
 }
 
 // ---- numbers
@@ -382,31 +465,76 @@ pub(crate) fn not_a_number<'a>(
     number: Number,
     word: &'a str,
 ) -> Result<Line<'a>, AllocError> {
-    let is_hex = is_hex(alloc, number, word)?;
-    let what = if is_hex {
-        "' is not a decimal number from "
-    } else {
-        "' is not a number from "
-    };
-    let mut parts = line(
-        alloc,
-        &[Text("'"), Name(word), Text(what), Text(number.range)],
-    )?;
-    if !is_hex {
-        parts.push(Text(" (decimal without leading zeros, or 0x and up to four hex digits)"))?;
-        return Ok(parts);
+    if let Some(digits) = hex_in(alloc, number, word)? {
+        return only_in_hex(alloc, number, word, digits);
     }
-    push_all(&mut parts, &[Text(": in hex write 0x"), Name(word)])?;
+    let why = if is_name(word) { number.listed } else { "" };
+    let (before, why, after) = match why {
+        "" => (
+            " (",
+            "decimal without leading zeros, or 0x and up to four hex digits",
+            ")",
+        ),
+        listed => (": ", listed, ""),
+    };
+    let parts = [
+        Text("'"),
+        Name(word),
+        Text("' is not a number from "),
+        Text(number.range),
+        Text(before),
+        Text(why),
+        Text(after),
+    ];
+    line(alloc, &parts)
+}
+
+/// The digits of the word, if they are this number in hex: without `0x`, or with an `h`, as messages print ids.
+fn hex_in<'a>(alloc: Global, number: Number, word: &'a str) -> Result<Option<&'a str>, AllocError> {
+    if is_hex(alloc, number, word)? {
+        return Ok(Some(word));
+    }
+    let Some(digits) = word.strip_suffix("h") else {
+        return Ok(None);
+    };
+    let hex = format!(in alloc; "0x{digits}")?;
+    let is_number = is_number(alloc, number, hex.as_str())?;
+    Ok(if is_number { Some(digits) } else { None })
+}
+
+/// The word is this number in hex, with these digits.
+fn only_in_hex<'a>(
+    alloc: Global,
+    number: Number,
+    word: &'a str,
+    digits: &'a str,
+) -> Result<Line<'a>, AllocError> {
+    let parts = [
+        Text("'"),
+        Name(word),
+        Text("' is not a decimal number from "),
+        Text(number.range),
+        Text(": in hex write 0x"),
+        Name(digits),
+    ];
+    let mut parts = line(alloc, &parts)?;
     if number.is_id {
-        push_all(&mut parts, &[Text(", or --id "), Name(word)])?;
+        push_all(&mut parts, &[Text(", or --id "), Name(digits)])?;
     }
     Ok(parts)
+}
+
+/// Whether the word is no attempt at a number: it begins with a letter, and has one that is no hex digit.
+fn is_name(word: &str) -> bool {
+    let bytes = word.as_bytes();
+    bytes.first().is_some_and(|byte| byte.is_ascii_alphabetic())
+        && !bytes.iter().all(|byte| byte.is_ascii_hexdigit())
 }
 
 // ---- parts
 
 /// Adds the parts.
-fn push_all<'a>(parts: &mut Line<'a>, more: &[Part<'a>]) -> Result<(), AllocError> {
+pub(crate) fn push_all<'a>(parts: &mut Line<'a>, more: &[Part<'a>]) -> Result<(), AllocError> {
     for part in more {
         parts.push(*part)?;
     }
@@ -414,7 +542,7 @@ fn push_all<'a>(parts: &mut Line<'a>, more: &[Part<'a>]) -> Result<(), AllocErro
 }
 
 /// Adds the words, separated by spaces.
-fn push_joined<'a>(parts: &mut Line<'a>, words: &[&'a str]) -> Result<(), AllocError> {
+pub(crate) fn push_joined<'a>(parts: &mut Line<'a>, words: &[&'a str]) -> Result<(), AllocError> {
     let mut space = "";
     for word in words {
         push_all(parts, &[Text(space), Name(word)])?;
@@ -423,15 +551,28 @@ fn push_joined<'a>(parts: &mut Line<'a>, words: &[&'a str]) -> Result<(), AllocE
     Ok(())
 }
 
-/// Adds an advice to use one of the names.
-fn push_choice<'a>(parts: &mut Line<'a>, names: &[&'static str]) -> Result<(), AllocError> {
+/// What `get` takes after these words.
+fn of_get(before: &[&str]) -> &'static str {
+    match before {
+        ["sel"] => " ID",
+        _ => " NAME",
+    }
+}
+
+/// Adds an advice to use one of the names. After `get` comes what it takes.
+fn push_choice<'a>(
+    parts: &mut Line<'a>,
+    names: &[&'static str],
+    of_get: &'static str,
+) -> Result<(), AllocError> {
     for (place, name) in names.iter().enumerate() {
         let before = match place {
             0 => "use ",
             _ if place + 1 == names.len() => " or ",
             _ => ", ",
         };
-        push_all(parts, &[Text(before), Text(name)])?;
+        let after = if *name == "get" { of_get } else { "" };
+        push_all(parts, &[Text(before), Text(name), Text(after)])?;
     }
     Ok(())
 }

@@ -14,7 +14,7 @@ use ipmi_program::InputFault;
 const UNREADABLE: u8 = 3;
 
 /// The exit status if something is missing.
-const INCOMPLETE: u8 = 1;
+pub(crate) const INCOMPLETE: u8 = 1;
 
 /// The exit status if the connection to the controller was lost.
 const LOST: u8 = 1;

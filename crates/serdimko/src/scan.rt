@@ -2,8 +2,10 @@
 ghost use Rattle.std.specs.Prelude.{◌≡◌, [], IfOk, MatchOption, MatchResult, None, OnOk, Some, if◌then◌else◌, option_map};
 ghost use Rattle.serdimko.specs.Scan.{after, after_all, HasWords, is_valued, kept, name_in, scan_of, start, told_of, value_in, with_next, with_option, with_plain, with_value};
 
-use crate::grammar::{Next, next_of};
-use crate::mistake::{Line, line, no_value_of, not_a_number, rule_of};
+use crate::grammar::{ENDS, Next, next_of};
+use crate::mistake::{
+    Line, line, no_value_of, not_a_number, push_all, push_joined, rule_of, with_short,
+};
 use crate::own::is_option;
 use crate::suggestion::nearest;
 use ipmi_command_line::{Word, Words};
@@ -39,10 +41,14 @@ const FLAGS: [&str; 7] = [
 ];
 
 /// The options with which stock `ipmitool` connects. `serdimko-live` takes them.
-const OF_TOOL: [&str; 4] = ["-E", "-p", "-f", "-t"];
+const OF_TOOL: [&str; 11] = [
+    "-E", "-p", "-f", "-t", "-b", "-B", "-d", "-K", "-m", "-T", "-z",
+];
 
 /// And those whose value may follow at once.
-const OF_TOOL_WITH_VALUE: [&str; 6] = ["-I", "-H", "-U", "-P", "-L", "-N"];
+const OF_TOOL_WITH_VALUE: [&str; 11] = [
+    "-I", "-H", "-U", "-P", "-L", "-N", "-A", "-C", "-R", "-k", "-y",
+];
 
 /// The specified options, and the words that belong to none.
 #[derive(Drop)]
@@ -110,7 +116,7 @@ impl<'a> Scan<'a> {
         if self.keep(option, value) {
             return Ok(None);
         }
-        line(alloc, &[Name(option), Text(" is given twice")]).map(Some)
+        line(alloc, &[Name(with_short(option)), Text(" is given twice")]).map(Some)
     }
 
     /// Takes an option that has a value, and the value if it comes after `=`.
@@ -159,11 +165,7 @@ impl<'a> Scan<'a> {
             Some(_) if FLAGS.contains(&option) => {
                 line(alloc, &[Name(option), Text(" takes no value")])
             }
-            Some(value) if option == "-o" => {
-                let rule = "-o takes its value as the next word: write -o ";
-                let parts = [Text(rule), Name(value), Text(" or --output="), Name(value)];
-                line(alloc, &parts)
-            }
+            Some(value) if option == "-o" => next_value(alloc, value),
             _ => self.unknown(alloc, option),
         }
     }
@@ -177,27 +179,73 @@ impl<'a> Scan<'a> {
             }
             _ => {}
         }
-        let near = nearest(alloc, word, &OPTIONS)?;
-        let tool = option_of_tool(word);
-        let (before, name, after) = match (near, tool, next) {
-            (None, None, Next::Name) => ("put -- before names", "", ""),
-            _ => advice_on_option(near, tool),
+        if let Some(option) = nearest(alloc, word, &OPTIONS)? {
+            return unknown_option(alloc, word, ["did you mean '", option, "'?"]);
+        }
+        if let Some(plain) = self.undashed(word) {
+            return self.without_dashes(alloc, word, plain);
+        }
+        if let Some(option) = option_of_tool(word) {
+            return of_tool(alloc, word, option);
+        }
+        if let Next::Name = next {
+            return unknown_option(alloc, word, ["put -- before names", "", ""]);
+        }
+        match word.strip_prefix("-o") {
+            Some(value) if !value.is_empty() => next_value(alloc, value),
+            _ => unknown_option(alloc, word, [instead_of(word), "", ""]),
+        }
+    }
+
+    /// The word without its dashes, if it may come next or says which events to list.
+    fn undashed(&self, word: &str) -> Option<&'static str> {
+        let words = self.words.as_slice();
+        let plain = word.trim_start_matches('-');
+        let name = match next_of(words) {
+            Next::Names(names) => name_among(names, plain),
+            Next::Name => return None,
+            _ => None,
         };
-        // a password is not shown
-        let word = match (near, tool) {
-            (None, Some("-P")) => "-P",
-            _ => word,
-        };
-        let (before, after) = (Text(before), Text(after));
-        let parts = [
-            Text("unknown option '"),
-            Name(word),
-            Text("': "),
-            before,
-            Name(name),
-            after,
-        ];
-        line(alloc, &parts)
+        match words {
+            [] | ["sel", ..] if name.is_none() => name_among(ENDS, plain),
+            _ => name,
+        }
+    }
+
+    /// A word was written as an option.
+    fn without_dashes(
+        &self,
+        alloc: Global,
+        word: &'a str,
+        plain: &'static str,
+    ) -> Result<Line<'a>, AllocError> {
+        let words = self.words.as_slice();
+        if name_among(ENDS, plain).is_some() {
+            let list = match words {
+                ["sel", "elist", ..] => "write 'sel elist ",
+                _ => "write 'sel list ",
+            };
+            return unknown_option(alloc, word, [list, plain, " N'"]);
+        }
+        self.as_next_word(alloc, word, plain)
+    }
+
+    /// The word was written as an option; without its dashes it may come next.
+    fn as_next_word(
+        &self,
+        alloc: Global,
+        word: &'a str,
+        plain: &'a str,
+    ) -> Result<Line<'a>, AllocError> {
+        let words = self.words.as_slice();
+        let begin = [Text("unknown option '"), Name(word), Text("': write '")];
+        let mut parts = line(alloc, &begin)?;
+        push_joined(&mut parts, words)?;
+        if !words.is_empty() {
+            parts.push(Text(" "))?;
+        }
+        push_all(&mut parts, &[Name(plain), Text("'")])?;
+        Ok(parts)
     }
 
     /// Takes a word that belongs to no option.
@@ -290,29 +338,59 @@ pub(crate) fn name_and_value(word: &str) -> (&str, Option<&str>)
     }
 }
 
-/// What to write in place of an option that is none, given the nearest one and the option of `ipmitool` that it is: words, a
-/// name, and words.
-fn advice_on_option(
-    near: Option<&'static str>,
-    tool: Option<&'static str>,
-) -> (&'static str, &'static str, &'static str) {
-    match (near, tool) {
-        (Some(option), _) => ("did you mean '", option, "'?"),
-        (None, Some("-P")) => {
-            (
-                "for a live machine put the password in IPMI_PASSWORD, and write serdimko-live ",
-                "-E",
-                " .. -- COMMAND",
-            )
+/// The one of these names that the word is.
+fn name_among(names: &[&'static str], word: &str) -> Option<&'static str> {
+    for name in names {
+        if *name == word {
+            return Some(*name);
         }
-        (None, Some(option)) => {
-            (
-                "for a live machine write serdimko-live ",
-                option,
-                " .. -- COMMAND",
-            )
-        }
-        (None, None) => ("see serdimko --help", "", ""),
+    }
+    None
+}
+
+/// The word is no option.
+fn unknown_option<'a>(
+    alloc: Global,
+    word: &'a str,
+    advice: [&'static str; 3],
+) -> Result<Line<'a>, AllocError> {
+    let [before, name, after] = advice;
+    let parts = [
+        Text("unknown option '"),
+        Name(word),
+        Text("': "),
+        Text(before),
+        Text(name),
+        Text(after),
+    ];
+    line(alloc, &parts)
+}
+
+/// The word is, or begins with, this option of stock `ipmitool`. No password or key is shown.
+fn of_tool<'a>(alloc: Global, word: &'a str, option: &'static str) -> Result<Line<'a>, AllocError> {
+    let (write, end) = ("for a live machine write serdimko-live ", " .. -- COMMAND");
+    let password = "for a live machine put the password in IPMI_PASSWORD, and write serdimko-live ";
+    match option {
+        "-P" => unknown_option(alloc, option, [password, "-E", end]),
+        "-k" | "-y" => unknown_option(alloc, option, [write, option, end]),
+        _ => unknown_option(alloc, word, [write, option, end]),
+    }
+}
+
+/// `-o` with its value in the same word.
+fn next_value<'a>(alloc: Global, value: &'a str) -> Result<Line<'a>, AllocError> {
+    let rule = "-o takes its value as the next word: write -o ";
+    let parts = [Text(rule), Name(value), Text(" or --output="), Name(value)];
+    line(alloc, &parts)
+}
+
+/// What serves in place of an option that stock `ipmitool` has and this program lacks.
+fn instead_of(option: &str) -> &'static str {
+    match option {
+        "-c" | "--csv" => "for a program write --json",
+        "-v" | "-vv" | "-vvv" | "--verbose" =>
+            "all about one thing is sdr get NAME, sensor get NAME or sel get ID",
+        _ => "see serdimko --help",
     }
 }
 
@@ -338,7 +416,7 @@ fn no_value<'a>(alloc: Global, option: &'a str, word: &'a str) -> Result<Line<'a
     }
     if matches!(option, "--image" | "--output") {
         let parts = [
-            Name(option),
+            Name(with_short(option)),
             Text(" needs a file: '"),
             Name(word),
             Text("' was read as an option; write "),
@@ -354,7 +432,11 @@ fn no_value<'a>(alloc: Global, option: &'a str, word: &'a str) -> Result<Line<'a
 fn needs_value<'a>(alloc: Global, option: &'a str) -> Result<Line<'a>, AllocError> {
     line(
         alloc,
-        &[Name(option), Text(" needs "), Text(rule_of(option))],
+        &[
+            Name(with_short(option)),
+            Text(" needs "),
+            Text(rule_of(option)),
+        ],
     )
 }
 
