@@ -150,9 +150,9 @@ module _ (left : List Left) (nothing : IsTrue (list_all leaves_nothing left)) wh
   }
 
 -- the records of a shelf whose listing ended for this reason
-pub captures_walk : {tries : ℕ} {s s' : Seen} (shelf : Shelf) (rows : List Row) (ended : Ended)
-    → StaysHonest s s' → Walks shelf tries s s' rows (Some ended)
-    → Captures tries s s' [] (Left.Records shelf ended ∷ [])
+pub captures_walk : {S : Seen → Type 0} {tries : ℕ} {s s' : Seen} (shelf : Shelf) (rows : List Row) (ended : Ended)
+    → StaysHonest s s' → Walks S shelf tries s s' rows (Some ended)
+    → Captures S tries s s' [] (Left.Records shelf ended ∷ [])
     (AreWalk shelf (Left.Records shelf ended ∷ []) s.store rows)
 captures_walk {s = s} {s' = s'} shelf rows ended stays walks = record {
   more = Left.Records shelf ended ∷ [];
@@ -199,8 +199,8 @@ captures_walk {s = s} {s' = s'} shelf rows ended stays walks = record {
     fine (Malformed n) plain came = plain
 
 -- the records of a shelf whose listing was finished
-pub captures_whole_walk : {tries : ℕ} {s s' : Seen} (shelf : Shelf) (rows : List Row) (left : List Left)
-    → Walks shelf tries s s' rows None → Captures tries s s' left left (AreWalk shelf left s.store rows)
+pub captures_whole_walk : {S : Seen → Type 0} {tries : ℕ} {s s' : Seen} (shelf : Shelf) (rows : List Row) (left : List Left)
+    → Walks S shelf tries s s' rows None → Captures S tries s s' left left (AreWalk shelf left s.store rows)
 captures_whole_walk shelf rows left walks =
     nothing_left left walks.counts (λ same walk end is ends. let came = walks.along same walk end is ends in inl (came.0, inl came.1))
 
@@ -228,12 +228,12 @@ module _ {s0 s1 s2 s3 s4 s5 s6 : Seen} (k1 : StaysHonest s0 s1) (k2 : StaysHones
   five : StaysHonest s0 s5
   five = stays_trans s0 s4 s5 four k5
 
-  pub all_parts : {tries : ℕ} {l0 l1 l2 l3 l4 l5 l6 : List Left} (A B C D E F : Store → List Left → Type 0)
+  pub all_parts : {S : Seen → Type 0} {tries : ℕ} {l0 l1 l2 l3 l4 l5 l6 : List Left} (A B C D E F : Store → List Left → Type 0)
       → Lasts A → Lasts B → Lasts C → Lasts D → Lasts E
-      → Captures tries s0 s1 l0 l1 (A s0.store l1) → Captures tries s1 s2 l1 l2 (B s1.store l2)
-      → Captures tries s2 s3 l2 l3 (C s2.store l3) → Captures tries s3 s4 l3 l4 (D s3.store l4)
-      → Captures tries s4 s5 l4 l5 (E s4.store l5) → Captures tries s5 s6 l5 l6 (F s5.store l6)
-      → Captures tries s0 s6 l0 l6
+      → Captures S tries s0 s1 l0 l1 (A s0.store l1) → Captures S tries s1 s2 l1 l2 (B s1.store l2)
+      → Captures S tries s2 s3 l2 l3 (C s2.store l3) → Captures S tries s3 s4 l3 l4 (D s3.store l4)
+      → Captures S tries s4 s5 l4 l5 (E s4.store l5) → Captures S tries s5 s6 l5 l6 (F s5.store l6)
+      → Captures S tries s0 s6 l0 l6
       (((((A s0.store l6 × B s0.store l6) × C s0.store l6) × D s0.store l6) × E s0.store l6) × F s0.store l6)
   all_parts A B C D E F la lb lc ld le a b c d e f =
       let ab = captures_with A B la k1 k2 a b in
@@ -267,18 +267,18 @@ Parts sensors devices i1 i2 i3 i4 i5 i6 left store =
     × SameOrLeft (LacksInfo Sel) left (info_of Sel i4) (info_of Sel store))
     × HasReadings sensors left i5 store) × HasInventories devices left i6 store
 
-pub captures_parts : {tries : ℕ} {s0 s1 s2 s3 s4 s5 s6 : Seen} {l0 l1 l2 l3 l4 l5 l6 : List Left}
+pub captures_parts : {S : Seen → Type 0} {tries : ℕ} {s0 s1 s2 s3 s4 s5 s6 : Seen} {l0 l1 l2 l3 l4 l5 l6 : List Left}
     (i1 i2 i3 i4 i5 i6 : Store) (sensors devices : List Bool)
     → (IsHonest s0 → StaysHonest s0 s1) → (IsHonest s1 → StaysHonest s1 s2)
     → (IsHonest s2 → StaysHonest s2 s3) → (IsHonest s3 → StaysHonest s3 s4)
     → (IsHonest s4 → StaysHonest s4 s5) → (IsHonest s5 → StaysHonest s5 s6)
-    → (IsHonest s0 → Captures tries s0 s1 l0 l1 (AreWalk Sdr l1 s0.store (rows_of Sdr i1)))
-    → (IsHonest s1 → Captures tries s1 s2 l1 l2 (AreWalk Sel l2 s1.store (rows_of Sel i2)))
-    → (IsHonest s2 → Captures tries s2 s3 l2 l3 (SameOrLeft (LacksInfo Sdr) l3 (info_of Sdr i3) (info_of Sdr s2.store)))
-    → (IsHonest s3 → Captures tries s3 s4 l3 l4 (SameOrLeft (LacksInfo Sel) l4 (info_of Sel i4) (info_of Sel s3.store)))
-    → (IsHonest s4 → Captures tries s4 s5 l4 l5 (HasReadings sensors l5 i5 s4.store))
-    → (IsHonest s5 → Captures tries s5 s6 l5 l6 (HasInventories devices l6 i6 s5.store))
-    → IsHonest s0 → Captures tries s0 s6 l0 l6 (Parts sensors devices i1 i2 i3 i4 i5 i6 l6 s0.store)
+    → (IsHonest s0 → Captures S tries s0 s1 l0 l1 (AreWalk Sdr l1 s0.store (rows_of Sdr i1)))
+    → (IsHonest s1 → Captures S tries s1 s2 l1 l2 (AreWalk Sel l2 s1.store (rows_of Sel i2)))
+    → (IsHonest s2 → Captures S tries s2 s3 l2 l3 (SameOrLeft (LacksInfo Sdr) l3 (info_of Sdr i3) (info_of Sdr s2.store)))
+    → (IsHonest s3 → Captures S tries s3 s4 l3 l4 (SameOrLeft (LacksInfo Sel) l4 (info_of Sel i4) (info_of Sel s3.store)))
+    → (IsHonest s4 → Captures S tries s4 s5 l4 l5 (HasReadings sensors l5 i5 s4.store))
+    → (IsHonest s5 → Captures S tries s5 s6 l5 l6 (HasInventories devices l6 i6 s5.store))
+    → IsHonest s0 → Captures S tries s0 s6 l0 l6 (Parts sensors devices i1 i2 i3 i4 i5 i6 l6 s0.store)
 captures_parts i1 i2 i3 i4 i5 i6 sensors devices stays1 stays2 stays3 stays4 stays5 stays6 a b c d e f h =
     let k1 = stays1 h in
     let k2 = stays2 k1.honest in

@@ -1,191 +1,157 @@
 -- The counts of a controller while items are left out.
-use Rattle.std.proofs.Common.{◌≡◌, ℕ, ◌+◌, ◌≤◌, ◌⊎◌, ◌==◌, false, Option, None, Some, Err, List, [], ◌∷◌, ◌++◌, inl, inr, All, refl, sym, ◌∙◌, arith, subst}
-use Rattle.std.specs.List.{sum_by}
-use Rattle.std.proofs.lemmas.List.Elements.{All-append, All-cons, All-nil}
+use Rattle.std.proofs.Common.{◌≡◌, ℕ, ◌==◌, false, Option, Err, List, [], ◌∷◌, ◌++◌, refl, sym, ◌∙◌, arith, subst}
+use Rattle.std.specs.Prelude.{flat_map}
 use Rattle.std.proofs.lemmas.Bool.Decides.{nat_tests}
-use Rattle.std.proofs.lemmas.List.Sums.{sum_by-append}
-use Rattle.ipmi_capture.specs.Below.{Code, Cycle, CursorState, Ended, FruEnded, GaveUp, InventoryCounts, IsRefusedWith, Malformed, Missing, Refused, Seen, Shelf, Stalled, StepAnswers, Store, ValueIs, WithinTries}
-use Rattle.ipmi_capture.specs.Left.{AreCounted, HasCode, refusals_for, refusals_in, SizeHasCode, troubles_for, unread_in, unread_of}
-use Rattle.ipmi_capture.specs.Phases.{IsNotPlain, IsRefusedAgain}
+use Rattle.std.proofs.lemmas.List.Concat.{flat_map-append}
+use Rattle.ipmi_capture.specs.Below.{Code, Cycle, CursorState, Ended, FruEnded, GaveUp, InventoryCounts, IsRefused, IsRefusedWith, Malformed, Missing, Refused, Seen, Shelf, Stalled, StepAnswers, Store, ValueIs, WithinTries}
+use Rattle.ipmi_capture.specs.Left.{AreCounted, CountsGrow, HaveStretches, IsStateOf, IsUnreadOver, unread_in, unread_of}
+use Rattle.ipmi_capture.specs.Phases.{IsNotPlain}
 use Rattle.ipmi_capture.specs.declared.left.Left.{Left}
 use Rattle.ipmi_capture.specs.declared.left.Unread.{Unread}
 
+pub is_state : {C : Type 0} (seen : C → Seen) (ctl : C) → IsStateOf seen (seen ctl)
+is_state seen ctl = (ctl, refl)
+
+-- ---- nothing is left out
+
+pub grown_none : (s : Seen) → CountsGrow s s
+grown_none s = record { troubles = omega arith; refusals = omega arith; code = λ none. refl }
+
+pub grown_within : {tries : ℕ} {s s' : Seen} → WithinTries tries s s' → CountsGrow s s'
+grown_within within = record {
+  troubles = within.grows;
+  refusals = omega (arith, within.refusals);
+  code = λ none. within.last_code;
+}
+
+pub grown_then : {s s' s'' : Seen} → CountsGrow s s' → CountsGrow s' s'' → CountsGrow s s''
+grown_then before later = record {
+  troubles = omega (arith, before.troubles, later.troubles);
+  refusals = omega (arith, before.refusals, later.refusals);
+  code = λ none. later.code (omega (arith, before.refusals, later.refusals, none)) ∙ before.code (omega (arith, before.refusals, later.refusals, none));
+}
+
+grown_over : (tries : ℕ) (unread : Unread) {s s' : Seen} → IsUnreadOver tries unread s s' → CountsGrow s s'
+grown_over tries Unread.GaveUp up = record {
+  troubles = omega (arith, up.troubles);
+  refusals = omega (arith, up.refusals);
+  code = λ none. up.code;
+}
+grown_over tries (Unread.Refused code) refused = record {
+  troubles = refused.grows;
+  refusals = omega (arith, refused.refusals);
+  code = λ none. absurd (omega (arith, refused.refusals, none));
+}
+
 -- ---- two sequences of calls
 
--- an item that was not refused agrees with each last code
-code_of_none : (last : ℕ) (o : Option Unread) → refusals_for o ≡ 0 → HasCode last o
-code_of_none last None none = tt
-code_of_none last (Some Unread.GaveUp) none = tt
-code_of_none last (Some (Unread.Refused code)) none = absurd (omega (arith, none))
+module _ (S : Seen → Type 0) (tries : ℕ) where
+  stretches_after : (list : List Unread) {s s' : Seen} (s'' : Seen) → CountsGrow s s' → HaveStretches S tries list s' s''
+      → HaveStretches S tries list s s''
+  stretches_after [] s'' before have = grown_then before have
+  stretches_after (unread ∷ list) s'' before have =
+      (have.0, have.1, have.2, have.3, grown_then before have.4, have.5, have.6)
 
-code_of_left : (last : ℕ) (l : Left) → refusals_in l ≡ 0 → HasCode last (unread_in l)
-code_of_left last (Left.Records shelf ended) none = code_of_none last (unread_in (Left.Records shelf ended)) none
-code_of_left last (Left.Info shelf unread) none = code_of_none last (Some unread) none
-code_of_left last (Left.Reading lun number unread) none = code_of_none last (Some unread) none
-code_of_left last (Left.Size id code) none = absurd (omega (arith, none))
-code_of_left last (Left.Empty id) none = tt
-code_of_left last (Left.CutOff id) none = tt
-code_of_left last (Left.Inventory id ended) none = code_of_none last (unread_in (Left.Inventory id ended)) none
+  stretches_then : (list more : List Unread) (s s' s'' : Seen) → HaveStretches S tries list s s'
+      → HaveStretches S tries more s' s'' → HaveStretches S tries (list ++ more) s s''
+  stretches_then [] more s s' s'' have later = stretches_after more s'' have later
+  stretches_then (unread ∷ list) more s s' s'' have later =
+      (have.0, have.1, have.2, have.3, have.4, have.5, stretches_then list more have.1 s' s'' have.6 later)
 
-codes_of_none : (last : ℕ) (left : List Left) → sum_by refusals_in left ≡ 0
-    → All (λ l. HasCode last (unread_in l)) left
-codes_of_none last [] none = All-nil (λ l. HasCode last (unread_in l))
-codes_of_none last (l ∷ left) none =
-    let sum = sum_by-append refusals_in (l ∷ []) left in
-    All-cons (λ l. HasCode last (unread_in l)) l left (code_of_left last l (omega (arith, sum, none))) (codes_of_none last left (omega (arith, sum, none)))
+  stretches_grow : (list : List Unread) (s s' : Seen) → HaveStretches S tries list s s' → CountsGrow s s'
+  stretches_grow [] s s' have = have
+  stretches_grow (unread ∷ list) s s' have =
+      grown_then have.4 (grown_then (grown_over tries unread have.5) (stretches_grow list have.1 s' have.6))
 
--- an item with at most one refusal is no size
-size_of_few : (last : ℕ) (l : Left) → refusals_in l ≤ 1 → SizeHasCode last l
-size_of_few last (Left.Records shelf ended) few = tt
-size_of_few last (Left.Info shelf unread) few = tt
-size_of_few last (Left.Reading lun number unread) few = tt
-size_of_few last (Left.Size id code) few = absurd (omega (arith, few))
-size_of_few last (Left.Empty id) few = tt
-size_of_few last (Left.CutOff id) few = tt
-size_of_few last (Left.Inventory id ended) few = tt
+  pub grown_by : (left : List Left) (s s' : Seen) → AreCounted S tries left s s' → CountsGrow s s'
+  grown_by left s s' counts = stretches_grow (flat_map unread_in left) s s' counts
 
-sizes_of_few : (last : ℕ) (left : List Left) → sum_by refusals_in left ≤ 1 → All (SizeHasCode last) left
-sizes_of_few last [] few = All-nil (SizeHasCode last)
-sizes_of_few last (l ∷ left) few =
-    let sum = sum_by-append refusals_in (l ∷ []) left in
-    All-cons (SizeHasCode last) l left (size_of_few last l (omega (arith, sum, few))) (sizes_of_few last left (omega (arith, sum, few)))
+  pub counted_after : (left : List Left) {s s' : Seen} (s'' : Seen) → CountsGrow s s' → AreCounted S tries left s' s''
+      → AreCounted S tries left s s''
+  counted_after left s'' before counts = stretches_after (flat_map unread_in left) s'' before counts
 
-module _ {tries : ℕ} where
-  -- if nothing was left out
-  pub counted_calls : {s s' : Seen} → s.troubles ≤ s'.troubles → s.refusals ≤ s'.refusals
-      → (s'.refusals ≡ s.refusals → s'.last_code ≡ s.last_code) → AreCounted tries [] s s'
-  counted_calls troubles refusals none = record {
-    troubles = omega (arith, troubles);
-    refusals = omega (arith, refusals);
-    none = none;
-    one = λ one. All-nil (λ l. HasCode _ (unread_in l));
-    two = λ two. All-nil (SizeHasCode _);
-  }
-
-  pub counted_none : (s : Seen) → AreCounted tries [] s s
-  counted_none s = counted_calls (omega arith) (omega arith) (λ none. refl)
-
-  pub counted_within : {t : ℕ} {s s' : Seen} → WithinTries t s s' → AreCounted tries [] s s'
-  counted_within within = counted_calls within.grows (omega (arith, within.refusals)) (λ none. within.last_code)
-
-  -- the counts also suffice if fewer items are left out
-  pub counted_less : {t : ℕ} {s s' : Seen} {left : List Left} → AreCounted t left s s' → AreCounted tries [] s s'
-  counted_less counts = counted_calls (omega (arith, counts.troubles)) (omega (arith, counts.refusals)) counts.none
-
-  pub counted_then : {s s' s'' : Seen} (left more : List Left) → AreCounted tries left s s'
-      → AreCounted tries more s' s'' → AreCounted tries (left ++ more) s s''
-  counted_then {s = s} {s' = s'} {s'' = s''} left more before later = record {
-    troubles = omega (arith, sum_by-append (λ l. troubles_for tries (unread_in l)) left more, before.troubles, later.troubles);
-    refusals = omega (arith, sum_by-append refusals_in left more, before.refusals, later.refusals);
-    none = λ none. later.none (omega (arith, before.refusals, later.refusals, none)) ∙ before.none (omega (arith, before.refusals, later.refusals, none));
-    one = λ one. by one (which s'.refusals s.refusals s''.refusals (omega (arith, before.refusals)) (omega (arith, later.refusals)) one);
-    two = λ two. by_two two (which_two s'.refusals s.refusals s''.refusals (omega (arith, before.refusals)) (omega (arith, later.refusals)) two);
-  }
-    where
-      which_two : (b a c : ℕ) → a ≤ b → b ≤ c → c ≡ a + 2 → (b ≡ a) ⊎ ((b ≡ a + 1) ⊎ (b ≡ a + 2))
-      which_two b a c up on two = grind arith
-
-      by_two : s''.refusals ≡ s.refusals + 2
-          → (s'.refusals ≡ s.refusals) ⊎ ((s'.refusals ≡ s.refusals + 1) ⊎ (s'.refusals ≡ s.refusals + 2))
-          → All (SizeHasCode s''.last_code) (left ++ more)
-      by_two two (inl none) =
-          All-append (SizeHasCode s''.last_code) left more (sizes_of_few s''.last_code left (omega (arith, none, before.refusals))) (later.two (omega (arith, two, none)))
-      by_two two (inr (inl one)) =
-          All-append (SizeHasCode s''.last_code) left more (sizes_of_few s''.last_code left (omega (arith, one, before.refusals))) (sizes_of_few s''.last_code more (omega (arith, one, two, later.refusals)))
-      by_two two (inr (inr both)) =
-          let none : s''.refusals ≡ s'.refusals = omega (arith, two, both) in
-          All-append (SizeHasCode s''.last_code) left more
-          (subst (λ (n : ℕ). All (SizeHasCode n) left) (sym (later.none none)) (before.two both))
-          (sizes_of_few s''.last_code more (omega (arith, none, later.refusals)))
-
-      which : (b a c : ℕ) → a ≤ b → b ≤ c → c ≡ a + 1 → (b ≡ a) ⊎ (b ≡ a + 1)
-      which b a c up on one = grind arith
-
-      by : s''.refusals ≡ s.refusals + 1
-          → (s'.refusals ≡ s.refusals) ⊎ (s'.refusals ≡ s.refusals + 1)
-          → All (λ l. HasCode s''.last_code (unread_in l)) (left ++ more)
-      by one (inl none) =
-          All-append (λ l. HasCode s''.last_code (unread_in l)) left more (codes_of_none s''.last_code left (omega (arith, none, before.refusals))) (later.one (omega (arith, one, none)))
-      by one (inr first) =
-          let none : s''.refusals ≡ s'.refusals = omega (arith, one, first) in
-          All-append (λ l. HasCode s''.last_code (unread_in l)) left more
-          (subst (λ (n : ℕ). All (λ l. HasCode n (unread_in l)) left) (sym (later.none none)) (before.one first))
-          (codes_of_none s''.last_code more (omega (arith, none, later.refusals)))
+  pub counted_then : (left more : List Left) (s s' s'' : Seen) → AreCounted S tries left s s'
+      → AreCounted S tries more s' s'' → AreCounted S tries (left ++ more) s s''
+  counted_then left more s s' s'' before later =
+      rw (flat_map-append unread_in left more) (stretches_then (flat_map unread_in left) (flat_map unread_in more) s s' s'' before later)
 
 -- ---- one item
 
-module _ {tries : ℕ} {s s' : Seen} where
+module _ (S : Seen → Type 0) (tries : ℕ) {s s' : Seen} where
   -- an item that was refused or given up
-  counted_one : (l : Left) (o : Option Unread) → unread_in l ≡ o
-      → s.troubles + troubles_for tries o ≤ s'.troubles
-      → s.refusals + refusals_in l ≤ s'.refusals
-      → (s'.refusals ≡ s.refusals → s'.last_code ≡ s.last_code)
-      → (s'.refusals ≡ s.refusals + 1 → HasCode s'.last_code o) → SizeHasCode s'.last_code l
-      → AreCounted tries (l ∷ []) s s'
-  counted_one l o is troubles refusals none one size = record {
-    troubles = rw is (omega (arith, troubles));
-    refusals = omega (arith, refusals);
-    none = none;
-    one = λ e. All-cons (λ l. HasCode s'.last_code (unread_in l)) l [] (rw is (one e)) (All-nil (λ l. HasCode _ (unread_in l)));
-    two = λ e. All-cons (SizeHasCode s'.last_code) l [] size (All-nil (SizeHasCode _));
-  }
+  counted_one : (l : Left) (unread : Unread) → unread_in l ≡ unread ∷ [] → S s → S s' → IsUnreadOver tries unread s s'
+      → AreCounted S tries (l ∷ []) s s'
+  counted_one l unread is from to over = rw is (s, s', from, to, grown_none s, over, grown_none s')
 
-  pub counted_nothing : (l : Left) → unread_in l ≡ None → refusals_in l ≡ 0 → AreCounted tries [] s s'
-      → AreCounted tries (l ∷ []) s s'
-  counted_nothing l is once counts = counted_one l None is (omega (arith, counts.troubles)) (omega (arith, counts.refusals, once)) counts.none (λ e. tt) (size_of_few _ l (omega (arith, once)))
-
-  counted_refused : (l : Left) (code : Code) → unread_in l ≡ Some (Unread.Refused code) → refusals_in l ≡ 1
-      → IsRefusedWith tries code.0 s s' → AreCounted tries (l ∷ []) s s'
-  counted_refused l code is once refused =
-      counted_one l (Some (Unread.Refused code)) is (omega (arith, refused.grows)) (omega (arith, refused.refusals, once))
-      (λ none. absurd (omega (arith, none, refused.refusals))) (λ e. sym refused.last_code) (size_of_few _ l (omega (arith, once)))
-
-  counted_given_up : (l : Left) → unread_in l ≡ Some Unread.GaveUp → refusals_in l ≡ 0
-      → s'.troubles ≡ s.troubles + tries + 1 → s'.refusals ≡ s.refusals
-      → s'.last_code ≡ s.last_code → AreCounted tries (l ∷ []) s s'
-  counted_given_up l is once troubles refusals last =
-      counted_one l (Some Unread.GaveUp) is (omega (arith, troubles)) (omega (arith, refusals, once)) (λ none. last) (λ e. tt) (size_of_few _ l (omega (arith, once)))
+  pub counted_nothing : (l : Left) → unread_in l ≡ [] → CountsGrow s s' → AreCounted S tries (l ∷ []) s s'
+  counted_nothing l is grown = rw is grown
 
   -- a value
   pub counted_value : {V : Type 0} (value : Store → Option V) (l : Left) (ended : Ended)
-      → unread_in l ≡ Some (unread_of ended) → refusals_in l ≡ refusals_for (Some (unread_of ended))
-      → ValueIs value tries s s' (Err ended) → AreCounted tries (l ∷ []) s s'
-  counted_value value l (GaveUp n) is once up = counted_given_up l is once up.troubles up.refusals up.last_code
-  counted_value value l (Refused n code) is once refused = counted_refused l code is once refused
-  counted_value value l (Cycle n) is once never = absurd never
-  counted_value value l (Missing n) is once never = absurd never
-  counted_value value l (Stalled n) is once never = absurd never
-  counted_value value l (Malformed n) is once never = absurd never
+      → unread_in l ≡ unread_of ended ∷ [] → S s → S s' → ValueIs value tries s s' (Err ended)
+      → AreCounted S tries (l ∷ []) s s'
+  counted_value value l (GaveUp n) is from to up =
+      counted_one l Unread.GaveUp is from to (record { troubles = up.troubles; refusals = up.refusals; code = up.last_code })
+  counted_value value l (Refused n code) is from to refused = counted_one l (Unread.Refused code) is from to refused
+  counted_value value l (Cycle n) is from to never = absurd never
+  counted_value value l (Missing n) is from to never = absurd never
+  counted_value value l (Stalled n) is from to never = absurd never
+  counted_value value l (Malformed n) is from to never = absurd never
 
   -- a record
-  pub counted_record : (shelf : Shelf) (c : CursorState) (ended : Ended) → c.tries ≡ tries
-      → StepAnswers c s s' (Err ended) → AreCounted tries (Left.Records shelf ended ∷ []) s s'
-  counted_record shelf c (Cycle n) same is =
-      counted_nothing (Left.Records shelf (Cycle n)) refl refl (subst (λ (x : Seen). AreCounted tries [] s x) (sym is) (counted_none s))
-  counted_record shelf c (Missing n) same is = counted_nothing (Left.Records shelf (Missing n)) refl refl (counted_within is.0)
-  counted_record shelf c (GaveUp n) same is =
-      counted_given_up (Left.Records shelf (GaveUp n)) refl refl (omega (arith, is.troubles, same)) is.refusals is.last_code
-  counted_record shelf c (Refused n code) same is = counted_refused (Left.Records shelf (Refused n code)) code refl refl (rw same at is)
-  counted_record shelf c (Stalled n) same is = absurd is
-  counted_record shelf c (Malformed n) same is = absurd is
+  pub counted_record : (shelf : Shelf) (c : CursorState) (ended : Ended) → c.tries ≡ tries → S s → S s'
+      → StepAnswers c s s' (Err ended) → AreCounted S tries (Left.Records shelf ended ∷ []) s s'
+  counted_record shelf c (Cycle n) same from to is = subst (λ (x : Seen). CountsGrow s x) (sym is) (grown_none s)
+  counted_record shelf c (Missing n) same from to is = grown_within is.0
+  counted_record shelf c (GaveUp n) same from to is =
+      counted_one (Left.Records shelf (GaveUp n)) Unread.GaveUp refl from to
+      (record { troubles = omega (arith, is.troubles, same); refusals = is.refusals; code = is.last_code })
+  counted_record shelf c (Refused n code) same from to is =
+      counted_one (Left.Records shelf (Refused n code)) (Unread.Refused code) refl from to (rw same at is)
+  counted_record shelf c (Stalled n) same from to is = absurd is
+  counted_record shelf c (Malformed n) same from to is = absurd is
 
--- an inventory, whose size may have been refused once more afterwards
-pub counted_inventory : {tries : ℕ} {s s' s'' : Seen} (id : ℕ) (l : Left) (ended : FruEnded)
-    → unread_in l ≡ unread_in (Left.Inventory id ended) → IsNotPlain ended
-    → InventoryCounts id tries s s' (Err ended) → AreCounted 0 [] s' s''
-    → IsRefusedAgain s' s'' l → AreCounted tries (l ∷ []) s s''
-counted_inventory id l FruEnded.Memory is not counts after again = absurd (not tt)
-counted_inventory id l FruEnded.GaveUp is not counts after again =
-    counted_one l (Some Unread.GaveUp) is (omega (arith, counts.troubles, after.troubles)) (omega (arith, counts.refusals, rw is at again.0))
-    (λ none. after.none (omega (arith, none, counts.refusals)) ∙ counts.last_code) (λ e. tt) again.1
-counted_inventory {tries = tries} {s = s} {s' = s'} {s'' = s''} id l (FruEnded.Refused code) is not counts after again =
+-- ---- an inventory, whose size is requested once more after a refusal
+
+-- CBh is not counted as a refusal, and a plain controller may answer it
+refused_inventory : {tries : ℕ} {s s' : Seen} (id : ℕ) (code : Code) → IsNotPlain (FruEnded.Refused code)
+    → InventoryCounts id tries s s' (Err (FruEnded.Refused code)) → IsRefusedWith tries code.0 s s'
+refused_inventory {tries = tries} {s = s} {s' = s'} id code not counts =
     let other : (code.0 == 0xCB) ≡ false = grind (arith, nat_tests, not) in
     by (rw other at counts)
   where
-    by : IsRefusedWith tries code.0 s s' → AreCounted tries (l ∷ []) s s''
-    by refused =
-        counted_one l (Some (Unread.Refused code)) is (omega (arith, refused.grows, after.troubles)) (omega (arith, refused.refusals, rw is at again.0))
-        (λ none. absurd (omega (arith, none, refused.refusals, after.refusals)))
-        (λ one. sym (after.none (omega (arith, one, refused.refusals)) ∙ refused.last_code)) again.1
-counted_inventory id l FruEnded.Stalled is not counts after again = absurd counts
-counted_inventory id l FruEnded.Words is not counts after again = absurd counts
+    by : IsRefusedWith tries code.0 s s' → IsRefusedWith tries code.0 s s'
+    by refused = refused
+
+module _ (S : Seen → Type 0) (tries : ℕ) {s s' s'' : Seen} where
+  pub counted_inventory : (i id : ℕ) (ended : FruEnded) → S s → S s' → IsNotPlain ended
+      → InventoryCounts id tries s s' (Err ended) → CountsGrow s' s''
+      → AreCounted S tries (Left.Inventory i ended ∷ []) s s''
+  counted_inventory i id FruEnded.Memory from to not counts after = absurd (not tt)
+  counted_inventory i id FruEnded.GaveUp from to not counts after = (
+    s,
+    s',
+    from,
+    to,
+    grown_none s,
+    record { troubles = counts.troubles; refusals = counts.refusals; code = counts.last_code },
+    after,
+  )
+  counted_inventory i id (FruEnded.Refused code) from to not counts after =
+      (s, s', from, to, grown_none s, refused_inventory id code not counts, after)
+  counted_inventory i id FruEnded.Stalled from to not counts after = absurd counts
+  counted_inventory i id FruEnded.Words from to not counts after = absurd counts
+
+  pub counted_size : (i id : ℕ) (code : Code) → S s → S s' → S s'' → IsNotPlain (FruEnded.Refused code)
+      → InventoryCounts id tries s s' (Err (FruEnded.Refused code)) → IsRefused code.0 s' s''
+      → AreCounted S tries (Left.Size i code ∷ []) s s''
+  counted_size i id code from to end not counts again =
+      (s, s', from, to, grown_none s, refused_inventory id code not counts, (s', s'', to, end, grown_none s', once_more, grown_none s''))
+    where
+      once_more : IsRefusedWith tries code.0 s' s''
+      once_more = record {
+        grows = omega (arith, again.troubles);
+        troubles = omega (arith, again.troubles);
+        refusals = again.refusals;
+        last_code = again.last_code;
+      }

@@ -9,12 +9,12 @@ use Rattle.std.proofs.lemmas.List.Elements.{All-append, All-cons, All-nil, All-w
 use Rattle.std.proofs.lemmas.List.{append-nil, append_assoc, get_or-append-add, get_or_append_left, length-append}
 use Rattle.ipmi_capture.specs.Below.{AsksAtMost, Cycle, Ended, GaveUp, Malformed, Missing, Refused, Stalled, IsHonest, Inventory, inventory_in, inventory_of, Reading, SensorReading, reading_in, reading_of, FruEnded, InventoryCounts, InventoryIs, not_present, ReadsInventory, ReadsValue, Row, Seen, Shelf, stays_refl, stays_trans, StaysHonest, Store, with_inventory, with_reading, WalkEnd, WithinTries}
 use Rattle.ipmi_capture.specs.Capture.{InventoryOrLeft, NoneOrSame, OwnInventories, OwnReadings, ReadingOrLeft}
-use Rattle.ipmi_capture.specs.Left.{AreCounted, EndIsNoted, IsTrueOf, LacksInventory, LacksReading, LacksRecords, NotesEnd, PlainLeaves, refusals_for, refusals_in, SameOrLeft, unread_in, unread_of}
+use Rattle.ipmi_capture.specs.Left.{AreCounted, CountsGrow, EndIsNoted, IsTrueOf, LacksInventory, LacksReading, LacksRecords, NotesEnd, PlainLeaves, SameOrLeft, unread_in, unread_of}
 use Rattle.ipmi_capture.specs.Named.{IsSensorKey, sensor_place}
 use Rattle.ipmi_capture.specs.Phases.{Adds, AreRowsOf, AreWalk, Captures, HasInventories, HasInventory, HasRead, HasReadings, CutOffIsIn, IsLeftBy, IsNotPlain, IsRefusedAgain, IsUnkept, IsUnread, most_for_inventory}
 use Rattle.ipmi_capture.specs.declared.left.Left.{Left}
 use Rattle.ipmi_capture.specs.declared.left.Unread.{Unread}
-use Rattle.ipmi_capture.proofs.CountLemmas.{counted_inventory, counted_less, counted_none, counted_nothing, counted_then, counted_value, counted_within}
+use Rattle.ipmi_capture.proofs.CountLemmas.{counted_inventory, counted_nothing, counted_size, counted_then, counted_value, grown_none, grown_then, grown_within}
 use Rattle.ipmi_capture.proofs.FoundLemmas.{inventory_in-snoc, kept_more, kept_next, KeptBelow, read_more, read_next, ReadBelow, reading_in-snoc}
 use Rattle.ipmi_capture.proofs.StepLemmas.{between}
 
@@ -74,24 +74,24 @@ module _ (shelf : Shelf) (left other : List Left) where
     walk_after store are = λ walk end is ends. rows_after walk end (are walk end is ends)
 
 -- an item that was refused or given up says nothing about the store
-told_unread : (store : Store) (l : Left) (unread : Unread) → unread_in l ≡ Some unread
+told_unread : (store : Store) (l : Left) (unread : Unread) → unread_in l ≡ unread ∷ []
     → IsTrueOf store l
-told_unread store (Left.Records shelf (Cycle n)) unread is = absurd (none-some unread is)
-told_unread store (Left.Records shelf (Missing n)) unread is = absurd (none-some unread is)
+told_unread store (Left.Records shelf (Cycle n)) unread is = cc
+told_unread store (Left.Records shelf (Missing n)) unread is = cc
 told_unread store (Left.Records shelf (GaveUp n)) unread is = tt
 told_unread store (Left.Records shelf (Refused n code)) unread is = tt
-told_unread store (Left.Records shelf (Stalled n)) unread is = absurd (none-some unread is)
-told_unread store (Left.Records shelf (Malformed n)) unread is = absurd (none-some unread is)
+told_unread store (Left.Records shelf (Stalled n)) unread is = cc
+told_unread store (Left.Records shelf (Malformed n)) unread is = cc
 told_unread store (Left.Info shelf u) unread is = tt
 told_unread store (Left.Reading lun number u) unread is = tt
 told_unread store (Left.Size id code) unread is = tt
-told_unread store (Left.Empty id) unread is = absurd (none-some unread is)
-told_unread store (Left.CutOff id) unread is = absurd (none-some unread is)
-told_unread store (Left.Inventory id FruEnded.Memory) unread is = absurd (none-some unread is)
+told_unread store (Left.Empty id) unread is = cc
+told_unread store (Left.CutOff id) unread is = cc
+told_unread store (Left.Inventory id FruEnded.Memory) unread is = cc
 told_unread store (Left.Inventory id (FruEnded.Refused code)) unread is = tt
 told_unread store (Left.Inventory id FruEnded.GaveUp) unread is = tt
-told_unread store (Left.Inventory id FruEnded.Stalled) unread is = absurd (none-some unread is)
-told_unread store (Left.Inventory id FruEnded.Words) unread is = absurd (none-some unread is)
+told_unread store (Left.Inventory id FruEnded.Stalled) unread is = cc
+told_unread store (Left.Inventory id FruEnded.Words) unread is = cc
 
 one_told : (store : Store) (l : Left) → IsTrueOf store l → All (IsTrueOf store) (l ∷ [])
 one_told store l is = All-cons (IsTrueOf store) l [] is (All-nil (IsTrueOf store))
@@ -132,8 +132,8 @@ adds_then {left = left} P Q o weaker adds is = record {
 }
 
 -- ---- a phase of a capture that leaves nothing out
-pub nothing_left : {tries : ℕ} {s s' : Seen} {Fact : Type 0} (left : List Left) → AreCounted tries [] s s'
-    → (s'.stores_added ≡ s.stores_added → Fact) → Captures tries s s' left left Fact
+pub nothing_left : {S : Seen → Type 0} {tries : ℕ} {s s' : Seen} {Fact : Type 0} (left : List Left) → CountsGrow s s'
+    → (s'.stores_added ≡ s.stores_added → Fact) → Captures S tries s s' left left Fact
 nothing_left {s = s} left counts fact = record {
   more = [];
   grows = sym (append-nil left);
@@ -146,8 +146,8 @@ nothing_left {s = s} left counts fact = record {
 -- ---- two phases of a capture, one after the other
 
 -- the new items are appended to the earlier ones
-pub captures_after : {tries : ℕ} {s s' : Seen} {Fact Fact' : Type 0} (left later : List Left) → (Fact → Fact')
-    → Captures tries s s' [] later Fact → Captures tries s s' left (left ++ later) Fact'
+pub captures_after : {S : Seen → Type 0} {tries : ℕ} {s s' : Seen} {Fact Fact' : Type 0} (left later : List Left) → (Fact → Fact')
+    → Captures S tries s s' [] later Fact → Captures S tries s s' left (left ++ later) Fact'
 captures_after {s = s} left later to captures = record {
   more = later;
   grows = refl;
@@ -157,15 +157,15 @@ captures_after {s = s} left later to captures = record {
   plain = λ p all. All-append (PlainLeaves s.store) left later all (captures.plain p (All-nil (PlainLeaves s.store)));
 }
 
-pub captures_then : {tries : ℕ} {s s' s'' : Seen} {left left' left'' : List Left} {First Second Both : Type 0}
-    → StaysHonest s s' → StaysHonest s' s'' → Captures tries s s' left left' First
-    → Captures tries s' s'' left' left'' Second
+pub captures_then : {S : Seen → Type 0} {tries : ℕ} {s s' s'' : Seen} {left left' left'' : List Left} {First Second Both : Type 0}
+    → StaysHonest s s' → StaysHonest s' s'' → Captures S tries s s' left left' First
+    → Captures S tries s' s'' left' left'' Second
     → (s'.store ≡ s.store → (more : List Left) → left'' ≡ left' ++ more → First → Second → Both)
-    → Captures tries s s'' left left'' Both
-captures_then {s = s} {s' = s'} {s'' = s''} {left = left} {left' = left'} {left'' = left''} before later first second both = record {
+    → Captures S tries s s'' left left'' Both
+captures_then {S = S} {tries = tries} {s = s} {s' = s'} {s'' = s''} {left = left} {left' = left'} {left'' = left''} before later first second both = record {
   more = first.more ++ second.more;
   grows = second.grows ∙ ap (λ (l : List Left). l ++ second.more) first.grows ∙ append_assoc left first.more second.more;
-  counts = counted_then first.more second.more first.counts second.counts;
+  counts = counted_then S tries first.more second.more s s' s'' first.counts second.counts;
   fact = λ same.
       let parts = between s s' s'' before later same in
       both (before.store.stays parts.0) second.more second.grows (first.fact parts.0) (second.fact parts.1);
@@ -191,7 +191,7 @@ pub record ReadTo (place : ℕ) (marks : List Bool) (left : List Left) (image st
 abbrev pub UnreadTo : ℕ → Store → Left → Type 0
 UnreadTo place image left = (unread : IsUnread image left) × (sensor_place unread.key < place)
 
-pub record IsReading (place part tries : ℕ) (marks : List Bool) (s s' : Seen)
+pub record IsReading (S : Seen → Type 0) (place part tries : ℕ) (marks : List Bool) (s s' : Seen)
     (left left' : List Left) (old new : Store) : Type 0 where
   pub beside : new ≡ record old { readings = new.readings }
   pub below : ReadBelow place new.readings
@@ -199,11 +199,11 @@ pub record IsReading (place part tries : ℕ) (marks : List Bool) (s s' : Seen)
   pub asked : AsksAtMost part s s'
   pub stays : IsHonest s → StaysHonest s s'
   pub lacks : Adds (UnreadTo place new) left left'
-  pub read : IsHonest s → Captures tries s s' left left' (ReadTo place marks left' new s.store)
+  pub read : IsHonest s → Captures S tries s s' left left' (ReadTo place marks left' new s.store)
 
 -- none was read yet
-pub reading_begun : (part tries : ℕ) (marks : List Bool) (s : Seen) (left : List Left) (image : Store)
-    → image.readings ≡ [] → IsReading 0 part tries marks s s left left image image
+pub reading_begun : {S : Seen → Type 0} (part tries : ℕ) (marks : List Bool) (s : Seen) (left : List Left) (image : Store)
+    → image.readings ≡ [] → IsReading S 0 part tries marks s s left left image image
 reading_begun part tries marks s left image none = record {
   beside = refl;
   below = rw none tt;
@@ -211,17 +211,17 @@ reading_begun part tries marks s left image none = record {
   asked = omega arith;
   stays = λ h. stays_refl s h;
   lacks = adds_none (UnreadTo 0 image) left;
-  read = λ h. nothing_left left (counted_none s) (λ same. record {
+  read = λ h. nothing_left left (grown_none s) (λ same. record {
     named = λ key is below. absurd (omega (arith, below));
     own = λ lun number. inl (ap (λ (l : List SensorReading). reading_in l lun number) none);
   });
 }
 
 -- all were read
-pub reading_done : {place part tries : ℕ} {marks : List Bool} {s s' : Seen}
+pub reading_done : {S : Seen → Type 0} {place part tries : ℕ} {marks : List Bool} {s s' : Seen}
     {left left' : List Left} {old new : Store}
-    → IsReading place part tries marks s s' left left' old new → 1024 ≤ place → IsHonest s
-    → Captures tries s s' left left' (HasReadings marks left' new s.store)
+    → IsReading S place part tries marks s s' left left' old new → 1024 ≤ place → IsHonest s
+    → Captures S tries s s' left left' (HasReadings marks left' new s.store)
 reading_done so all h = record {
   more = (so.read h).more;
   grows = (so.read h).grows;
@@ -234,17 +234,17 @@ reading_done so all h = record {
   plain = (so.read h).plain;
 }
 
-pub reading_lacks : {place part tries : ℕ} {marks : List Bool} {s s' : Seen}
+pub reading_lacks : {S : Seen → Type 0} {place part tries : ℕ} {marks : List Bool} {s s' : Seen}
     {left left' : List Left} {old new : Store}
-    → IsReading place part tries marks s s' left left' old new → Adds (IsUnread new) left left'
+    → IsReading S place part tries marks s s' left left' old new → Adds (IsUnread new) left left'
 reading_lacks {place = place} {new = new} so = adds_weaker (UnreadTo place new) (IsUnread new) (λ l unread. unread.0) so.lacks
 
 -- the next place is not marked
-pub reading_skipped : {place part tries : ℕ} {marks : List Bool} {s s' : Seen}
+pub reading_skipped : {S : Seen → Type 0} {place part tries : ℕ} {marks : List Bool} {s s' : Seen}
     {left left' : List Left} {old new : Store}
-    → IsReading place part tries marks s s' left left' old new
+    → IsReading S place part tries marks s s' left left' old new
     → slice_index_or marks place false ≡ false
-    → IsReading (place + 1) part tries marks s s' left left' old new
+    → IsReading S (place + 1) part tries marks s s' left left' old new
 reading_skipped {place = place} {marks = marks} {s = s} {left' = left'} {new = new} so unmarked = record {
   beside = so.beside;
   below = read_more place new.readings so.below;
@@ -335,17 +335,17 @@ same_key : (key : ℕ × ℕ) (lun number : ℕ) → IsSensorKey key → number 
     → sensor_place key ≡ sensor_place (lun, number) → (key.0 ≡ lun) × (key.1 ≡ number)
 same_key key lun number is fits at = (omega (arith, is.number, fits, at), omega (arith, is.number, fits, at))
 
-pub reading_read : {place part tries : ℕ} {marks : List Bool} {s s' s'' : Seen}
+pub reading_read : {S : Seen → Type 0} {place part tries : ℕ} {marks : List Bool} {s s' s'' : Seen}
     {left left' : List Left} {old new more : Store} (lacks : Option Left) (lun number : ℕ)
-    → IsReading place part tries marks s s' left left' old new
+    → IsReading S place part tries marks s s' left left' old new
     → sensor_place (lun, number) ≡ place → number < 256
     → HasRead lun number (reading_of lun number more) new more
     → IfSome lacks (λ l. LacksReading lun number l × (reading_of lun number more ≡ None))
     → s''.calls ≤ s'.calls + (tries + 1) → AsksAtMost part s' s''
     → (IsHonest s' → StaysHonest s' s'')
-    → (IsHonest s' → Captures tries s' s'' [] (option_to_list lacks)
+    → (IsHonest s' → Captures S tries s' s'' [] (option_to_list lacks)
     (ReadingOrLeft (option_to_list lacks) more s'.store (lun, number)))
-    → IsReading (place + 1) part tries marks s s'' left (left' ++ option_to_list lacks) old more
+    → IsReading S (place + 1) part tries marks s s'' left (left' ++ option_to_list lacks) old more
 reading_read {place = place} {marks = marks} {s = s} {s' = s'} {s'' = s''} {left' = left'} {old = old} {new = new} {more = more} lacks lun number so at fits has none calls asked stays read = record {
   beside = read_beside lun number old new more (reading_of lun number more) has so.beside;
   below = rw at at (read_below lun number new more (reading_of lun number more) has (rw (sym at) at so.below));
@@ -409,7 +409,7 @@ pub record KeptTo (to : ℕ) (marks : List Bool) (left : List Left) (image store
 abbrev pub UnkeptTo : ℕ → Store → Left → Type 0
 UnkeptTo to image left = (unkept : IsUnkept image left) × (unkept.id < to)
 
-pub record IsKeeping (to part tries : ℕ) (marks : List Bool) (s s' : Seen)
+pub record IsKeeping (S : Seen → Type 0) (to part tries : ℕ) (marks : List Bool) (s s' : Seen)
     (left left' : List Left) (old new : Store) : Type 0 where
   pub beside : new ≡ record old { inventories = new.inventories }
   pub below : KeptBelow to new.inventories
@@ -417,11 +417,11 @@ pub record IsKeeping (to part tries : ℕ) (marks : List Bool) (s s' : Seen)
   pub asked : AsksAtMost part s s'
   pub stays : IsHonest s → StaysHonest s s'
   pub lacks : Adds (UnkeptTo to new) left left'
-  pub read : IsHonest s → Captures tries s s' left left' (KeptTo to marks left' new s.store)
+  pub read : IsHonest s → Captures S tries s s' left left' (KeptTo to marks left' new s.store)
 
 -- none was read yet
-pub keeping_begun : (part tries : ℕ) (marks : List Bool) (s : Seen) (left : List Left) (image : Store)
-    → image.inventories ≡ [] → IsKeeping 0 part tries marks s s left left image image
+pub keeping_begun : {S : Seen → Type 0} (part tries : ℕ) (marks : List Bool) (s : Seen) (left : List Left) (image : Store)
+    → image.inventories ≡ [] → IsKeeping S 0 part tries marks s s left left image image
 keeping_begun part tries marks s left image none = record {
   beside = refl;
   below = rw none tt;
@@ -429,17 +429,17 @@ keeping_begun part tries marks s left image none = record {
   asked = omega arith;
   stays = λ h. stays_refl s h;
   lacks = adds_none (UnkeptTo 0 image) left;
-  read = λ h. nothing_left left (counted_none s) (λ same. record {
+  read = λ h. nothing_left left (grown_none s) (λ same. record {
     named = λ id below. absurd (omega (arith, below));
     own = λ id. inl (ap (λ (l : List Inventory). inventory_in l id) none);
   });
 }
 
 -- all were read
-pub keeping_done : {to part tries : ℕ} {marks : List Bool} {s s' : Seen}
+pub keeping_done : {S : Seen → Type 0} {to part tries : ℕ} {marks : List Bool} {s s' : Seen}
     {left left' : List Left} {old new : Store}
-    → IsKeeping to part tries marks s s' left left' old new → 255 ≤ to → IsHonest s
-    → Captures tries s s' left left' (HasInventories marks left' new s.store)
+    → IsKeeping S to part tries marks s s' left left' old new → 255 ≤ to → IsHonest s
+    → Captures S tries s s' left left' (HasInventories marks left' new s.store)
 keeping_done so all h = record {
   more = (so.read h).more;
   grows = (so.read h).grows;
@@ -452,17 +452,17 @@ keeping_done so all h = record {
   plain = (so.read h).plain;
 }
 
-pub keeping_lacks : {to part tries : ℕ} {marks : List Bool} {s s' : Seen}
+pub keeping_lacks : {S : Seen → Type 0} {to part tries : ℕ} {marks : List Bool} {s s' : Seen}
     {left left' : List Left} {old new : Store}
-    → IsKeeping to part tries marks s s' left left' old new → Adds (IsUnkept new) left left'
+    → IsKeeping S to part tries marks s s' left left' old new → Adds (IsUnkept new) left left'
 keeping_lacks {to = to} {new = new} so = adds_weaker (UnkeptTo to new) (IsUnkept new) (λ l unkept. unkept.0) so.lacks
 
 -- the next device is not marked
-pub keeping_skipped : {to part tries : ℕ} {marks : List Bool} {s s' : Seen}
+pub keeping_skipped : {S : Seen → Type 0} {to part tries : ℕ} {marks : List Bool} {s s' : Seen}
     {left left' : List Left} {old new : Store}
-    → IsKeeping to part tries marks s s' left left' old new
+    → IsKeeping S to part tries marks s s' left left' old new
     → ((to == 0) || slice_index_or marks to false) ≡ false
-    → IsKeeping (to + 1) part tries marks s s' left left' old new
+    → IsKeeping S (to + 1) part tries marks s s' left left' old new
 keeping_skipped {to = to} {tries = tries} {marks = marks} {s = s} {left' = left'} {new = new} so unmarked = record {
   beside = so.beside;
   below = kept_more to new.inventories so.below;
@@ -539,16 +539,16 @@ module _ (id : ℕ) where
           let stays : inventory_of other more ≡ inventory_of other new = found other ∙ rw e (nothing (inventory_of other new)) in
           subst (λ (o : Option (List ℕ)). NoneOrSame o (inventory_of other store)) (sym stays) (own other)
 
-pub keeping_read : {part tries : ℕ} {marks : List Bool} {s s' s'' : Seen}
+pub keeping_read : {S : Seen → Type 0} {part tries : ℕ} {marks : List Bool} {s s' s'' : Seen}
     {left left' : List Left} {old new more : Store} (lacks : Option Left) (id : ℕ)
-    → IsKeeping id part tries marks s s' left left' old new
+    → IsKeeping S id part tries marks s s' left left' old new
     → HasInventory id (inventory_of id more) new more
     → IfSome lacks (λ l. LacksInventory id l × (inventory_of id more ≡ None))
     → s''.calls ≤ s'.calls + most_for_inventory tries → AsksAtMost part s' s''
     → (IsHonest s' → StaysHonest s' s'')
-    → (IsHonest s' → Captures tries s' s'' [] (option_to_list lacks)
+    → (IsHonest s' → Captures S tries s' s'' [] (option_to_list lacks)
     (InventoryOrLeft (option_to_list lacks) more s'.store id))
-    → IsKeeping (id + 1) part tries marks s s'' left (left' ++ option_to_list lacks) old more
+    → IsKeeping S (id + 1) part tries marks s s'' left (left' ++ option_to_list lacks) old more
 keeping_read {tries = tries} {marks = marks} {s = s} {s' = s'} {s'' = s''} {left' = left'} {old = old} {new = new} {more = more} lacks id so has none calls asked stays read = record {
   beside = kept_beside id old new more (inventory_of id more) has so.beside;
   below = kept_below id new more (inventory_of id more) has so.below;
@@ -604,26 +604,25 @@ on_ok (Err e) has to = tt
 
 -- ---- one value, one inventory
 
-module _ {V : Type 0} {tries : ℕ} {s s' : Seen} (value : Store → Option V) (Lacks : Left → Type 0) where
+module _ {V : Type 0} {S : Seen → Type 0} {tries : ℕ} {s s' : Seen} (value : Store → Option V) (Lacks : Left → Type 0) where
   pub came_value : (v : V) (in_image : Option V) → in_image ≡ Some v
       → ReadsValue value tries s s' (Ok (Some v))
-      → Captures tries s s' [] [] (SameOrLeft Lacks [] in_image (value s.store))
+      → Captures S tries s s' [] [] (SameOrLeft Lacks [] in_image (value s.store))
   came_value v in_image has reads =
-      nothing_left [] (counted_within reads.is.0) (λ same. inl (has ∙ reads.is.1 ∙ ap value (reads.stays.store.stays same)))
+      nothing_left [] (grown_within reads.is.0) (λ same. inl (has ∙ reads.is.1 ∙ ap value (reads.stays.store.stays same)))
 
   pub absent_value : (in_image : Option V) → in_image ≡ None → ReadsValue value tries s s' (Ok None)
-      → Captures tries s s' [] [] (SameOrLeft Lacks [] in_image (value s.store))
+      → Captures S tries s s' [] [] (SameOrLeft Lacks [] in_image (value s.store))
   absent_value in_image none reads =
-      nothing_left [] (counted_within reads.is.0) (λ same. inl (none ∙ reads.is.1 ∙ ap value (reads.stays.store.stays same)))
+      nothing_left [] (grown_within reads.is.0) (λ same. inl (none ∙ reads.is.1 ∙ ap value (reads.stays.store.stays same)))
 
-  pub left_value : (ended : Ended) (lacks : Left) (in_image : Option V) → in_image ≡ None
-      → Lacks lacks → unread_in lacks ≡ Some (unread_of ended)
-      → refusals_in lacks ≡ refusals_for (Some (unread_of ended)) → ReadsValue value tries s s' (Err ended)
-      → Captures tries s s' [] (lacks ∷ []) (SameOrLeft Lacks (lacks ∷ []) in_image (value s.store))
-  left_value ended lacks in_image none lacks_it unread once reads = record {
+  pub left_value : (ended : Ended) (lacks : Left) (in_image : Option V) → S s → S s' → in_image ≡ None
+      → Lacks lacks → unread_in lacks ≡ unread_of ended ∷ [] → ReadsValue value tries s s' (Err ended)
+      → Captures S tries s s' [] (lacks ∷ []) (SameOrLeft Lacks (lacks ∷ []) in_image (value s.store))
+  left_value ended lacks in_image from to none lacks_it unread reads = record {
     more = lacks ∷ [];
     grows = refl;
-    counts = counted_value value lacks ended unread once reads.is;
+    counts = counted_value S tries value lacks ended unread from to reads.is;
     fact = λ same. inr (none, any_of_one Lacks lacks lacks_it);
     told = λ same. one_told s.store lacks (told_unread s.store lacks (unread_of ended) unread);
     plain = λ p all. let never : Err ended ≡ Ok (value s.store) = (reads.plain p).0 in cc;
@@ -642,11 +641,11 @@ pub has_read : (lun number : ℕ) (reading : Reading) (old new : Store)
     → HasRead lun number (reading_of lun number new) old new
 has_read lun number reading old new none is = rw (read_again lun number reading old new none is) is
 
-pub came_reading : {tries : ℕ} {s s' : Seen} (lun number : ℕ) (reading : Reading)
+pub came_reading : {S : Seen → Type 0} {tries : ℕ} {s s' : Seen} (lun number : ℕ) (reading : Reading)
     (old new : Store) → reading_of lun number old ≡ None
     → new ≡ with_reading lun number reading old
     → ReadsValue (reading_of lun number) tries s s' (Ok (Some reading))
-    → Captures tries s s' [] [] (ReadingOrLeft [] new s.store (lun, number))
+    → Captures S tries s s' [] [] (ReadingOrLeft [] new s.store (lun, number))
 came_reading lun number reading old new none is reads =
     came_value (reading_of lun number) (LacksReading lun number) reading (reading_of lun number new) (read_again lun number reading old new none is) reads
 
@@ -661,21 +660,21 @@ pub has_inventory : (id : ℕ) (bytes : List ℕ) (old new : Store) → inventor
     → new ≡ with_inventory id bytes old → HasInventory id (inventory_of id new) old new
 has_inventory id bytes old new none is = rw (kept_again id bytes old new none is) is
 
-pub came_inventory : {tries : ℕ} {s s' : Seen} (id : ℕ) (bytes : List ℕ) (old new : Store)
+pub came_inventory : {S : Seen → Type 0} {tries : ℕ} {s s' : Seen} (id : ℕ) (bytes : List ℕ) (old new : Store)
     → inventory_of id old ≡ None → new ≡ with_inventory id bytes old
     → ReadsInventory id tries s s' (Ok bytes)
-    → Captures tries s s' [] [] (InventoryOrLeft [] new s.store id)
+    → Captures S tries s s' [] [] (InventoryOrLeft [] new s.store id)
 came_inventory id bytes old new none is reads =
-    nothing_left [] (counted_within reads.counts.0) (λ same. inl (kept_again id bytes old new none is ∙ sym (reads.is same).1))
+    nothing_left [] (grown_within reads.counts.0) (λ same. inl (kept_again id bytes old new none is ∙ sym (reads.is same).1))
 
 -- an inventory without bytes is not put into the image
-pub came_empty : {tries : ℕ} {s s' : Seen} (id : ℕ) (bytes : List ℕ) (image : Store)
+pub came_empty : {S : Seen → Type 0} {tries : ℕ} {s s' : Seen} (id : ℕ) (bytes : List ℕ) (image : Store)
     → inventory_of id image ≡ None → bytes ≡ [] → ReadsInventory id tries s s' (Ok bytes)
-    → Captures tries s s' [] (Left.Empty id ∷ []) (InventoryOrLeft (Left.Empty id ∷ []) image s.store id)
-came_empty {s = s} {s' = s'} id bytes image none no_bytes reads = record {
+    → Captures S tries s s' [] (Left.Empty id ∷ []) (InventoryOrLeft (Left.Empty id ∷ []) image s.store id)
+came_empty {S = S} {tries = tries} {s = s} {s' = s'} id bytes image none no_bytes reads = record {
   more = Left.Empty id ∷ [];
   grows = refl;
-  counts = counted_nothing (Left.Empty id) refl refl (counted_within reads.counts.0);
+  counts = counted_nothing S tries (Left.Empty id) refl (grown_within reads.counts.0);
   fact = λ same. inr (none, any_of_one (LacksInventory id) (Left.Empty id) refl);
   told = λ same. one_told s.store (Left.Empty id) (empty same);
   plain = λ p all. All-cons (PlainLeaves s.store) (Left.Empty id) [] (empty (reads.stays.plain_store p)) (All-nil (PlainLeaves s.store));
@@ -685,9 +684,9 @@ came_empty {s = s} {s' = s'} id bytes image none no_bytes reads = record {
     empty same = (reads.is same).1 ∙ ap Some no_bytes
 
 -- an inventory that was not read is left out, unless there is none
-module _ {tries : ℕ} {s s' s'' : Seen} (id : ℕ) (ended : FruEnded) (image : Store)
+module _ (S : Seen → Type 0) {tries : ℕ} {s s' s'' : Seen} (id : ℕ) (ended : FruEnded) (image : Store)
     (none : inventory_of id image ≡ None) (reads : ReadsInventory id tries s s' (Err ended))
-    (later : StaysHonest s' s'') (after : AreCounted 0 [] s' s'') where
+    (later : StaysHonest s' s'') (after : CountsGrow s' s'') where
   -- CBh was answered, and the store has no such inventory
   absent : ended ≡ FruEnded.Refused not_present → WithinTries tries s s'
       × (s''.stores_added ≡ s.stores_added → inventory_of id s.store ≡ None)
@@ -703,25 +702,25 @@ module _ {tries : ℕ} {s s' s'' : Seen} (id : ℕ) (ended : FruEnded) (image : 
       lacks is = is.1
 
   -- it was refused or given up
-  left_unread : (lacks : Left) → LacksInventory id lacks → IsNotPlain ended
-      → unread_in lacks ≡ unread_in (Left.Inventory id ended) → IsRefusedAgain s' s'' lacks
-      → Captures tries s s'' [] (lacks ∷ []) (InventoryOrLeft (lacks ∷ []) image s.store id)
-  left_unread lacks of_id not_plain unread again = record {
+  left_unread : (lacks : Left) → LacksInventory id lacks → IsNotPlain ended → IsTrueOf s.store lacks
+      → AreCounted S tries (lacks ∷ []) s s''
+      → Captures S tries s s'' [] (lacks ∷ []) (InventoryOrLeft (lacks ∷ []) image s.store id)
+  left_unread lacks of_id not_plain is_true counts = record {
     more = lacks ∷ [];
     grows = refl;
-    counts = counted_inventory id lacks ended unread not_plain reads.counts after again;
+    counts = counts;
     fact = λ same. inr (none, any_of_one (LacksInventory id) lacks of_id);
-    told = λ same. one_told s.store lacks (told ended unread not_plain reads.counts);
+    told = λ same. one_told s.store lacks is_true;
     plain = λ p all. absurd (not_plain (reads.plain p).0);
   }
-    where
-      told : (e : FruEnded) → unread_in lacks ≡ unread_in (Left.Inventory id e) → IsNotPlain e
-          → InventoryCounts id tries s s' (Err e) → IsTrueOf s.store lacks
-      told FruEnded.Memory is not counts = absurd (not tt)
-      told FruEnded.GaveUp is not counts = told_unread s.store lacks Unread.GaveUp is
-      told (FruEnded.Refused code) is not counts = told_unread s.store lacks (Unread.Refused code) is
-      told FruEnded.Stalled is not counts = absurd counts
-      told FruEnded.Words is not counts = absurd counts
+
+  told_ended : (i : ℕ) (e : FruEnded) → IsNotPlain e → InventoryCounts id tries s s' (Err e)
+      → IsTrueOf s.store (Left.Inventory i e)
+  told_ended i FruEnded.Memory not counts = absurd (not tt)
+  told_ended i FruEnded.GaveUp not counts = tt
+  told_ended i (FruEnded.Refused code) not counts = tt
+  told_ended i FruEnded.Stalled not counts = absurd counts
+  told_ended i FruEnded.Words not counts = absurd counts
 
   -- from a store that stays, an inventory that is absent is not cut off
   never_cut : ended ≡ FruEnded.Refused not_present → IsSome (inventory_of id s''.store)
@@ -736,11 +735,11 @@ module _ {tries : ℕ} {s s' s'' : Seen} (id : ℕ) (ended : FruEnded) (image : 
       no_some (Some bytes) is none = none-some bytes (sym none)
 
   left_cut : ended ≡ FruEnded.Refused not_present → IsSome (inventory_of id s''.store)
-      → Captures tries s s'' [] (Left.CutOff id ∷ []) (InventoryOrLeft (Left.CutOff id ∷ []) image s.store id)
+      → Captures S tries s s'' [] (Left.CutOff id ∷ []) (InventoryOrLeft (Left.CutOff id ∷ []) image s.store id)
   left_cut is there = record {
     more = Left.CutOff id ∷ [];
     grows = refl;
-    counts = counted_nothing (Left.CutOff id) refl refl (counted_then [] [] (counted_within (absent is).0) (counted_less after));
+    counts = counted_nothing S tries (Left.CutOff id) refl (grown_then (grown_within (absent is).0) after);
     fact = λ same. inr (none, any_of_one (LacksInventory id) (Left.CutOff id) refl);
     told = λ same. absurd (never_cut is there same);
     plain = λ p all.
@@ -749,44 +748,35 @@ module _ {tries : ℕ} {s s' s'' : Seen} (id : ℕ) (ended : FruEnded) (image : 
         absurd (never_cut is there (twice ∙ once));
   }
 
-  left_one : (failure : Option ℕ) (lacks : Left) → IsLeftBy id ended failure lacks → IsRefusedAgain s' s'' lacks
+  left_one : (failure : Option ℕ) (lacks : Left) → S s → S s' → S s'' → IsLeftBy id ended failure lacks → IsRefusedAgain s' s'' lacks
       → CutOffIsIn s''.store lacks
-      → Captures tries s s'' [] (lacks ∷ []) (InventoryOrLeft (lacks ∷ []) image s.store id)
-  left_one failure (Left.Records shelf e) left again there = absurd left
-  left_one failure (Left.Info shelf unread) left again there = absurd left
-  left_one failure (Left.Reading lun number unread) left again there = absurd left
-  left_one failure (Left.Empty i) left again there = absurd left
-  left_one failure (Left.CutOff i) left again there =
-      subst (λ (x : ℕ). Captures tries s s'' [] (Left.CutOff x ∷ []) (InventoryOrLeft (Left.CutOff x ∷ []) image s.store id)) (sym left.0)
+      → Captures S tries s s'' [] (lacks ∷ []) (InventoryOrLeft (lacks ∷ []) image s.store id)
+  left_one failure (Left.Records shelf e) from to end left again there = absurd left
+  left_one failure (Left.Info shelf unread) from to end left again there = absurd left
+  left_one failure (Left.Reading lun number unread) from to end left again there = absurd left
+  left_one failure (Left.Empty i) from to end left again there = absurd left
+  left_one failure (Left.CutOff i) from to end left again there =
+      subst (λ (x : ℕ). Captures S tries s s'' [] (Left.CutOff x ∷ []) (InventoryOrLeft (Left.CutOff x ∷ []) image s.store id)) (sym left.0)
       (left_cut left.1 (subst (λ (x : ℕ). IsSome (inventory_of x s''.store)) left.0 there))
-  left_one failure (Left.Size i code) left again there =
-      left_unread (Left.Size i code) left.0 left.1 (ap (λ (e : FruEnded). unread_in (Left.Inventory id e)) (sym left.2)) again
-  left_one failure (Left.Inventory i e) left again there =
-      left_unread (Left.Inventory i e) left.0 left.1 (same_unread e ended left.2) again
-    where
-      by_end : (a : FruEnded) → unread_in (Left.Inventory i a) ≡ unread_in (Left.Inventory id a)
-      by_end FruEnded.Memory = refl
-      by_end (FruEnded.Refused code) = refl
-      by_end FruEnded.GaveUp = refl
-      by_end FruEnded.Stalled = refl
-      by_end FruEnded.Words = refl
+  left_one failure (Left.Size i code) from to end left again there =
+      left_unread (Left.Size i code) left.0 left.1 tt (counted_size S tries i id code from to end (rw left.2 at left.1) (rw left.2 at reads.counts) again)
+  left_one failure (Left.Inventory i e) from to end left again there =
+      subst (λ (x : FruEnded). Captures S tries s s'' [] (Left.Inventory i x ∷ []) (InventoryOrLeft (Left.Inventory i x ∷ []) image s.store id)) (sym left.2)
+      (left_unread (Left.Inventory i ended) left.0 left.1 (told_ended i ended left.1 reads.counts) (counted_inventory S tries i id ended from to left.1 reads.counts after))
 
-      same_unread : (a b : FruEnded) → a ≡ b → unread_in (Left.Inventory i a) ≡ unread_in (Left.Inventory id b)
-      same_unread a b is = by_end a ∙ ap (λ (e : FruEnded). unread_in (Left.Inventory id e)) is
-
-pub left_inventory : {tries : ℕ} {s s' s'' : Seen} (id : ℕ) (ended : FruEnded) (failure : Option ℕ)
-    (result : Result (Option Left) AllocError) (image : Store) → inventory_of id image ≡ None
-    → ReadsInventory id tries s s' (Err ended) → StaysHonest s' s'' → AreCounted 0 [] s' s''
+pub left_inventory : (S : Seen → Type 0) {tries : ℕ} {s s' s'' : Seen} (id : ℕ) (ended : FruEnded) (failure : Option ℕ)
+    (result : Result (Option Left) AllocError) (image : Store) → S s → S s' → S s'' → inventory_of id image ≡ None
+    → ReadsInventory id tries s s' (Err ended) → StaysHonest s' s'' → CountsGrow s' s''
     → IfOk result (λ o. MatchOption o (ended ≡ FruEnded.Refused not_present) (IsLeftBy id ended failure))
     → IfOk result (λ o. IfSome o (IsRefusedAgain s' s'')) → IfOk result (λ o. IfSome o (CutOffIsIn s''.store))
-    → IfOk result (λ o. Captures tries s s'' [] (option_to_list o)
+    → IfOk result (λ o. Captures S tries s s'' [] (option_to_list o)
     (InventoryOrLeft (option_to_list o) image s.store id))
-left_inventory id ended failure (Err e) image none reads later after left again there = tt
-left_inventory id ended failure (Ok None) image none reads later after left again there =
-    let gone = absent id ended image none reads later after left in
-    nothing_left [] (counted_then [] [] (counted_within gone.0) (counted_less after)) (λ same. inl (none ∙ sym (gone.1 same)))
-left_inventory id ended failure (Ok (Some lacks)) image none reads later after left again there =
-    left_one id ended image none reads later after failure lacks left again there
+left_inventory S id ended failure (Err e) image from to end none reads later after left again there = tt
+left_inventory S id ended failure (Ok None) image from to end none reads later after left again there =
+    let gone = absent S id ended image none reads later after left in
+    nothing_left [] (grown_then (grown_within gone.0) after) (λ same. inl (none ∙ sym (gone.1 same)))
+left_inventory S id ended failure (Ok (Some lacks)) image from to end none reads later after left again there =
+    left_one S id ended image none reads later after failure lacks from to end left again there
 
 lacks_by : (id : ℕ) (ended : FruEnded) (failure : Option ℕ) (l : Left) → IsLeftBy id ended failure l → LacksInventory id l
 lacks_by id ended failure (Left.Records shelf e) left = absurd left
@@ -812,11 +802,11 @@ lacks_left id ended failure (Ok (Some l)) image none left = (lacks_by id ended f
 abbrev pub Lasts : (Store → List Left → Type 0) → Type 0
 Lasts Fact = (store : Store) (left more : List Left) → Fact store left → Fact store (left ++ more)
 
-pub captures_with : {tries : ℕ} {s s' s'' : Seen} {left left' left'' : List Left}
+pub captures_with : {S : Seen → Type 0} {tries : ℕ} {s s' s'' : Seen} {left left' left'' : List Left}
     (First Second : Store → List Left → Type 0) → Lasts First → StaysHonest s s'
-    → StaysHonest s' s'' → Captures tries s s' left left' (First s.store left')
-    → Captures tries s' s'' left' left'' (Second s'.store left'')
-    → Captures tries s s'' left left'' (First s.store left'' × Second s.store left'')
+    → StaysHonest s' s'' → Captures S tries s s' left left' (First s.store left')
+    → Captures S tries s' s'' left' left'' (Second s'.store left'')
+    → Captures S tries s s'' left left'' (First s.store left'' × Second s.store left'')
 captures_with {s = s} {left' = left'} {left'' = left''} First Second lasts before later first second =
     captures_then before later first second (λ store more grows a b. (
       subst (λ (l : List Left). First s.store l) (sym grows) (lasts s.store left' more a),

@@ -12,11 +12,11 @@ use Rattle.ipmi_bus.proofs.DigitLemmas.{digits_most}
 use Rattle.ipmi_bus.proofs.ShelfLemmas.{look_row}
 use Rattle.ipmi_bus.proofs.WalkLaws.{has_walk}
 use Rattle.ipmi_capture.specs.Below.{asked_at, AsksAtMost, Cycle, cycle_at, CursorHoldsCurrent, CursorState, digits, End, Id, id_in, has_id, handed_id, may_follow, NotGivenUpOrRefused, Place, place_after, place_after_rows, StepAnswers, StepIsHonest, StepIsPlain, store_shelf, whole_len, Ended, EndsBy, First, first_row, GaveUp, HandsOut, IsHonest, IsStep, IsWalk, largest_len, Malformed, Missing, Refused, Row, rows_of, Sdr, Seen, Sel, Shelf, StandsAt, Stalled, stays_refl, stays_trans, StaysHonest, step_call_bound, Store, WalkEnd, WalkStep, with_rows, WithinTries}
-use Rattle.ipmi_capture.specs.Left.{AreCounted}
+use Rattle.ipmi_capture.specs.Left.{CountsGrow}
 use Rattle.ipmi_capture.specs.Phases.{CameOf, most_on_walk, NoneIsFaulty, PlainEnds, Walks}
 use Rattle.ipmi_capture.specs.declared.left.Left.{Left}
 use Rattle.std.specs.Option.{option_to_list}
-use Rattle.ipmi_capture.proofs.CountLemmas.{counted_less, counted_none, counted_nothing, counted_record, counted_then, counted_within}
+use Rattle.ipmi_capture.proofs.CountLemmas.{counted_after, counted_nothing, counted_record, grown_by, grown_none, grown_then, grown_within}
 
 -- ---- the rows of a shelf
 
@@ -113,7 +113,7 @@ pub record Walked (shelf : Shelf) (part tries : ℕ) (s s' : Seen) (cursor : Cur
       ≤ s.calls + set.len cursor.ids * step_call_bound tries (largest_len shelf) + digits part
   pub asked : AsksAtMost part s s'
   pub stays : IsHonest s → StaysHonest s s'
-  pub counts : IsHonest s → AreCounted tries [] s s'
+  pub counts : IsHonest s → CountsGrow s s'
   pub along : IsHonest s → Along shelf s s' cursor (rows_of shelf new)
   pub holds : IsHonest s → IsTrue s.plain → CursorHoldsCurrent cursor s'
 
@@ -142,7 +142,7 @@ walked_none shelf part tries s cursor old some none fresh stands =
       calls = rw (ids, part_is) (omega arith);
       asked = omega arith;
       stays = λ h. stays_refl s h;
-      counts = λ h. counted_none s;
+      counts = λ h. grown_none s;
       along = λ h same walk end is ends. rw none (refl, stands (rows_of shelf s.store) walk);
       holds = λ h p. record { held = λ n is. absurd (none-some n (sym (ap (λ (x : CursorState). x.reservation) fresh) ∙ is)) };
     }
@@ -191,13 +191,13 @@ module _ {shelf : Shelf} {part tries : ℕ} {s s' s'' : Seen} {now next : Cursor
   all_rows walk rows is all = is ∙ take_all (length rows) walk (omega (arith, all))
 
   -- the step ended the listing
-  pub came_ended : (ended : Ended) → result ≡ Err ended → IsHonest s
-      → Walks shelf tries s s'' (rows_of shelf new) (Some ended)
-  came_ended ended is h = record {
+  pub came_ended : {S : Seen → Type 0} → S s' → S s'' → (ended : Ended) → result ≡ Err ended → IsHonest s
+      → Walks S shelf tries s s'' (rows_of shelf new) (Some ended)
+  came_ended {S = S} from to ended is h = record {
     along = λ same walk end walks ends. by walk end ended (stepped h same walk end walks ends).0 (rw is at (stepped h same walk end walks ends).1);
     none_faulty = λ same. well ended (rw is at (step_honest h).answers);
     plain = λ p. fine ended (rw is at (step_honest h).answers) (rw is at (step_plain h p).fine);
-    counts = counted_then [] (Left.Records shelf ended ∷ []) (walked.counts h) (counted_record shelf now ended walked.tries_are (rw is at (step_honest h).answers));
+    counts = counted_after S tries (Left.Records shelf ended ∷ []) s'' (walked.counts h) (counted_record S tries shelf now ended walked.tries_are from to (rw is at (step_honest h).answers));
   }
     where
       well : (e : Ended) → StepAnswers now s' s'' (Err e) → NoneIsFaulty (Some e)
@@ -227,7 +227,7 @@ module _ {shelf : Shelf} {part tries : ℕ} {s s' s'' : Seen} {now next : Cursor
       by walk end (Stalled n) rows step = rows
       by walk end (Malformed n) rows step = rows
 
-  pub came_done : result ≡ Ok None → IsHonest s → Walks shelf tries s s'' (rows_of shelf new) None
+  pub came_done : {S : Seen → Type 0} → result ≡ Ok None → IsHonest s → Walks S shelf tries s s'' (rows_of shelf new) None
   came_done is h = record {
     along = λ same walk end walks ends.
         let at = stepped h same walk end walks ends in
@@ -235,15 +235,15 @@ module _ {shelf : Shelf} {part tries : ℕ} {s s' s'' : Seen} {now next : Cursor
         (all_rows walk (rows_of shelf new) at.0 step.0, step.1);
     none_faulty = λ same. tt;
     plain = λ p. tt;
-    counts = counted_then [] [] (walked.counts h) (counted_within (none (rw is at (step_honest h).answers)));
+    counts = grown_then (walked.counts h) (grown_within (none (rw is at (step_honest h).answers)));
   }
     where
       none : StepAnswers now s' s'' (Ok None) → WithinTries now.tries s' s''
       none answers = answers.0
 
   -- the step returned a record
-  came_record : {row : Row} → result ≡ Ok (Some row) → IsHonest s → AreCounted tries [] s s''
-  came_record {row = row} is h = counted_then [] [] (walked.counts h) (counted_within (one (rw is at (step_honest h).answers)))
+  came_record : {row : Row} → result ≡ Ok (Some row) → IsHonest s → CountsGrow s s''
+  came_record {row = row} is h = grown_then (walked.counts h) (grown_within (one (rw is at (step_honest h).answers)))
     where
       one : StepAnswers now s' s'' (Ok (Some row)) → WithinTries now.tries s' s''
       one answers = answers.0
@@ -266,17 +266,17 @@ module _ {shelf : Shelf} {part tries : ℕ} {s s' s'' : Seen} {now next : Cursor
       (id_now now.place now.ids (rows_of shelf new) row place hands.not_at_end none hands.id)
 
   -- a record that may not follow is left out
-  pub came_malformed : (n : ℕ) {row : Row} → result ≡ Ok (Some row)
+  pub came_malformed : {S : Seen → Type 0} (n : ℕ) {row : Row} → result ≡ Ok (Some row)
       → may_follow shelf (rows_of shelf new) row ≡ false
-      → IsHonest s → Walks shelf tries s s'' (rows_of shelf new) (Some (Malformed n))
-  came_malformed n {row = row} is left h = record {
+      → IsHonest s → Walks S shelf tries s s'' (rows_of shelf new) (Some (Malformed n))
+  came_malformed {S = S} n {row = row} is left h = record {
     along = λ same walk end walks ends. (stepped h same walk end walks ends).0;
     none_faulty = λ same. absurd (true≢false (sym (may_put h same row is) ∙ left));
     plain = λ p.
         let before = walked.stays h in
         let same = (step_honest h).stays.plain_store (before.plain p) ∙ before.plain_store p in
         absurd (true≢false (sym (may_put h same row is) ∙ left));
-    counts = counted_nothing (Left.Records shelf (Malformed n)) refl refl (came_record is h);
+    counts = counted_nothing S tries (Left.Records shelf (Malformed n)) refl (came_record is h);
   }
 
   -- the record adds one id
@@ -343,7 +343,7 @@ pub record IsAgain (shelf : Shelf) (part tries times : ℕ) (s s' : Seen) (old n
   pub calls : s'.calls ≤ s.calls + times * most_on_walk shelf tries
   pub asked : AsksAtMost part s s'
   pub stays : IsHonest s → StaysHonest s s'
-  pub counts : IsHonest s → AreCounted tries [] s s'
+  pub counts : IsHonest s → CountsGrow s s'
 
 module _ {shelf : Shelf} {part tries times : ℕ} {s s' s'' : Seen} {old now new : Store}
     (again : IsAgain shelf part tries times s s' old now)
@@ -364,9 +364,9 @@ module _ {shelf : Shelf} {part tries times : ℕ} {s s' s'' : Seen} {old now new
   pub asked_all : AsksAtMost part s s''
   asked_all = omega (arith, again.asked, asked)
 
-  pub walks_all : {ended : Option Ended} → (IsHonest s' → Walks shelf tries s' s'' (rows_of shelf new) ended)
-      → IsHonest s → Walks shelf tries s s'' (rows_of shelf new) ended
-  walks_all {ended = ended} walks h = record {
+  pub walks_all : {S : Seen → Type 0} {ended : Option Ended} → (IsHonest s' → Walks S shelf tries s' s'' (rows_of shelf new) ended)
+      → IsHonest s → Walks S shelf tries s s'' (rows_of shelf new) ended
+  walks_all {S = S} {ended = ended} walks h = record {
     along = λ same walk end is ends.
         let before = again.stays h in
         let parts = between s s' s'' before (stays before.honest) same in
@@ -376,23 +376,23 @@ module _ {shelf : Shelf} {part tries times : ℕ} {s s' s'' : Seen} {old now new
         let before = again.stays h in
         (walks before.honest).none_faulty (between s s' s'' before (stays before.honest) same).1;
     plain = λ p. let before = again.stays h in (walks before.honest).plain (before.plain p);
-    counts = counted_then [] (map (Left.Records shelf) (option_to_list ended)) (again.counts h) (walks (again.stays h).honest).counts;
+    counts = counted_after S tries (map (Left.Records shelf) (option_to_list ended)) s'' (again.counts h) (walks (again.stays h).honest).counts;
   }
 
-  pub walks_all_ok : (result : Result (Option Ended) AllocError)
-      → (IsHonest s' → IfOk result (λ ended. Walks shelf tries s' s'' (rows_of shelf new) ended))
-      → IsHonest s → IfOk result (λ ended. Walks shelf tries s s'' (rows_of shelf new) ended)
-  walks_all_ok (Ok ended) walks h = walks_all walks h
-  walks_all_ok (Err e) walks h = tt
+  pub walks_all_ok : (S : Seen → Type 0) (result : Result (Option Ended) AllocError)
+      → (IsHonest s' → IfOk result (λ ended. Walks S shelf tries s' s'' (rows_of shelf new) ended))
+      → IsHonest s → IfOk result (λ ended. Walks S shelf tries s s'' (rows_of shelf new) ended)
+  walks_all_ok S (Ok ended) walks h = walks_all walks h
+  walks_all_ok S (Err e) walks h = tt
 
   -- with its rows cleared
-  pub again_cleared : {cleared : Store} {ended : Option Ended} → cleared ≡ with_rows shelf [] new
-      → (IsHonest s' → Walks shelf tries s' s'' (rows_of shelf new) ended)
+  pub again_cleared : {S : Seen → Type 0} {cleared : Store} {ended : Option Ended} → cleared ≡ with_rows shelf [] new
+      → (IsHonest s' → Walks S shelf tries s' s'' (rows_of shelf new) ended)
       → IsAgain shelf part tries (times + 1) s s'' old cleared
-  again_cleared is walks = record {
+  again_cleared {S = S} {ended = ended} is walks = record {
     beside = is ∙ ap (with_rows shelf []) beside_all ∙ with_rows-again shelf [] (rows_of shelf new) old;
     calls = let next : (times + 1) * most_on_walk shelf tries ≡ times * most_on_walk shelf tries + most_on_walk shelf tries = omega arith in omega (arith, again.calls, calls, next);
     asked = asked_all;
     stays = stays_all;
-    counts = λ h. counted_then [] [] (again.counts h) (counted_less (walks (again.stays h).honest).counts);
+    counts = λ h. grown_then (again.counts h) (grown_by S tries (map (Left.Records shelf) (option_to_list ended)) s' s'' (walks (again.stays h).honest).counts);
   }

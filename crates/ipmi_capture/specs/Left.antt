@@ -1,8 +1,8 @@
 -- The items that an image lacks: which of them leave it whole or only note an end, the counts of the controller for them, and
 -- their lines.
-use Rattle.std.specs.Prelude.{◌≡◌, ℕ, ◌+◌, ◌≤◌, All, Bool, true, false, codes, decimal, Option, None, Some, List, [], ◌++◌, ◌⊎◌}
-use Rattle.std.specs.List.{Any, sum_by}
-use Rattle.ipmi_capture.specs.Below.{byte_h, Cycle, CycleAt, Done, Ended, ended_text, EndsBy, First, FruEnded, GaveUp, hex_byte, info_of, inventory_of, IsWalk, Malformed, Missing, MissingAt, reading_of, Refused, Row, rows_of, Sdr, Seen, Sel, Shelf, Stalled, Store, WalkEnd}
+use Rattle.std.specs.Prelude.{◌≡◌, ℕ, ◌+◌, ◌≤◌, Bool, true, false, codes, decimal, flat_map, Option, None, Some, List, [], ◌∷◌, ◌++◌, ◌⊎◌}
+use Rattle.std.specs.List.{Any}
+use Rattle.ipmi_capture.specs.Below.{byte_h, Cycle, CycleAt, Done, Ended, ended_text, EndsBy, First, FruEnded, GaveUp, hex_byte, info_of, inventory_of, IsRefusedWith, IsWalk, Malformed, Missing, MissingAt, reading_of, Refused, Row, rows_of, Sdr, Seen, Sel, Shelf, Stalled, Store, WalkEnd}
 use Rattle.ipmi_capture.specs.declared.left.Left.{Left}
 use Rattle.ipmi_capture.specs.declared.left.Unread.{Unread}
 
@@ -106,47 +106,47 @@ PlainLeaves store _ = ⊥
 
 -- ---- the counts of the controller
 
--- why the item was not read: refused or given up
-abbrev pub unread_in : Left → Option Unread
-unread_in (Left.Records shelf (GaveUp n)) = Some Unread.GaveUp
-unread_in (Left.Records shelf (Refused n code)) = Some (Unread.Refused code)
-unread_in (Left.Info shelf unread) = Some unread
-unread_in (Left.Reading lun number unread) = Some unread
-unread_in (Left.Size id code) = Some (Unread.Refused code)
-unread_in (Left.Inventory id FruEnded.GaveUp) = Some Unread.GaveUp
-unread_in (Left.Inventory id (FruEnded.Refused code)) = Some (Unread.Refused code)
-unread_in _ = None
+-- Why the item was not read: it was given up, or refused with a code. A size was requested once more, and refused again.
+abbrev pub unread_in : Left → List Unread
+unread_in (Left.Records shelf (GaveUp n)) = Unread.GaveUp ∷ []
+unread_in (Left.Records shelf (Refused n code)) = Unread.Refused code ∷ []
+unread_in (Left.Info shelf unread) = unread ∷ []
+unread_in (Left.Reading lun number unread) = unread ∷ []
+unread_in (Left.Size id code) = Unread.Refused code ∷ Unread.Refused code ∷ []
+unread_in (Left.Inventory id FruEnded.GaveUp) = Unread.GaveUp ∷ []
+unread_in (Left.Inventory id (FruEnded.Refused code)) = Unread.Refused code ∷ []
+unread_in _ = []
 
--- an item is given up after one trouble more than the tries
-abbrev pub troubles_for : ℕ → Option Unread → ℕ
-troubles_for tries (Some Unread.GaveUp) = tries + 1
-troubles_for tries _ = 0
+-- no count falls, and without a refusal the last code is unchanged
+pub record CountsGrow (s s' : Seen) : Type 0 where
+  pub troubles : s.troubles ≤ s'.troubles
+  pub refusals : s.refusals ≤ s'.refusals
+  pub code : s'.refusals ≡ s.refusals → s'.last_code ≡ s.last_code
 
-abbrev pub refusals_for : Option Unread → ℕ
-refusals_for (Some (Unread.Refused code)) = 1
-refusals_for _ = 0
+-- one trouble more than the tries, and no refusal
+pub record IsGivenUp (tries : ℕ) (s s' : Seen) : Type 0 where
+  pub troubles : s'.troubles ≡ s.troubles + tries + 1
+  pub refusals : s'.refusals ≡ s.refusals
+  pub code : s'.last_code ≡ s.last_code
 
--- a size was requested once more, and refused again
-abbrev pub refusals_in : Left → ℕ
-refusals_in (Left.Size id code) = 2
-refusals_in left = refusals_for (unread_in left)
+-- given up; or at most `tries` troubles, and one refusal, with this code
+abbrev pub IsUnreadOver : ℕ → Unread → Seen → Seen → Type 0
+IsUnreadOver tries Unread.GaveUp s s' = IsGivenUp tries s s'
+IsUnreadOver tries (Unread.Refused code) s s' = IsRefusedWith tries code.0 s s'
 
-abbrev pub HasCode : ℕ → Option Unread → Type 0
-HasCode last (Some (Unread.Refused code)) = code.0 ≡ last
-HasCode last _ = Unit {0}
+-- Each of these has a stretch of the run of its own, from one state of the controller to a later one, in this order.
+abbrev pub HaveStretches : (Seen → Type 0) → ℕ → List Unread → Seen → Seen → Type 0
+HaveStretches IsState tries [] s s' = CountsGrow s s'
+HaveStretches IsState tries (unread ∷ more) s s' = (from : Seen) × (to : Seen) × IsState from × IsState to
+    × CountsGrow s from × IsUnreadOver tries unread from to × HaveStretches IsState tries more to s'
 
-abbrev pub SizeHasCode : ℕ → Left → Type 0
-SizeHasCode last (Left.Size id code) = code.0 ≡ last
-SizeHasCode last _ = Unit {0}
+-- A state that a controller of this type has. Code that works with any such type meets no other states than those of its run.
+abbrev pub IsStateOf : {C : Type 0} → (C → Seen) → Seen → Type 0
+IsStateOf {C} seen s = (ctl : C) × (seen ctl ≡ s)
 
--- The counts include the troubles of all items given up, and all their refusals, two for a size. Without a refusal the last code
--- is unchanged. After exactly one refusal, the refused item has the last code. After exactly two, a size has it.
-pub record AreCounted (tries : ℕ) (left : List Left) (s s' : Seen) : Type 0 where
-  pub troubles : s.troubles + sum_by (λ l. troubles_for tries (unread_in l)) left ≤ s'.troubles
-  pub refusals : s.refusals + sum_by refusals_in left ≤ s'.refusals
-  pub none : s'.refusals ≡ s.refusals → s'.last_code ≡ s.last_code
-  pub one : s'.refusals ≡ s.refusals + 1 → All (λ l. HasCode s'.last_code (unread_in l)) left
-  pub two : s'.refusals ≡ s.refusals + 2 → All (SizeHasCode s'.last_code) left
+-- The controller counted each item left out: one after another, each was given up or refused in a stretch of its own, a size in two.
+abbrev pub AreCounted : (Seen → Type 0) → ℕ → List Left → Seen → Seen → Type 0
+AreCounted IsState tries left s s' = HaveStretches IsState tries (flat_map unread_in left) s s'
 
 -- ---- lines
 

@@ -1,10 +1,10 @@
 -- The effect of each phase of a capture, for the contracts of private functions.
-use Rattle.std.specs.Prelude.{◌≡◌, ◌≢◌, ℕ, ◌+◌, ◌*◌, ◌<◌, ◌≤◌, ◌==◌, ◌||◌, IsSome, IsTrue, Bool, false, true, Option, Some, None, Err, List, ◌++◌, All, map, take, length, slice_index_or, ◌⊎◌}
+use Rattle.std.specs.Prelude.{◌≡◌, ◌≢◌, ℕ, ◌+◌, ◌*◌, ◌<◌, ◌==◌, ◌||◌, IsSome, IsTrue, Bool, false, true, Option, Some, None, Err, List, ◌++◌, All, map, take, length, slice_index_or, ◌⊎◌}
 use Rattle.std.specs.List.{Any}
 use Rattle.std.specs.Option.{option_to_list}
-use Rattle.ipmi_capture.specs.Below.{Code, Cycle, CycleAt, Done, Ended, EndsBy, First, FruEnded, fru_call_bound, inventory_of, IsWalk, largest_len, Malformed, Missing, MissingAt, not_present, PlainMayAnswer, Reading, reading_of, Row, rows_of, Sdr, Seen, Sel, Shelf, Stalled, step_call_bound, Store, WalkEnd, with_inventory, with_reading}
+use Rattle.ipmi_capture.specs.Below.{Code, Cycle, CycleAt, Done, Ended, EndsBy, First, FruEnded, fru_call_bound, inventory_of, IsRefused, IsWalk, largest_len, Malformed, Missing, MissingAt, not_present, PlainMayAnswer, Reading, reading_of, Row, rows_of, Sdr, Seen, Sel, Shelf, Stalled, step_call_bound, Store, WalkEnd, with_inventory, with_reading}
 use Rattle.ipmi_capture.specs.Capture.{InventoryOrLeft, OwnInventories, OwnReadings, ReadingOrLeft}
-use Rattle.ipmi_capture.specs.Left.{AreCounted, EndIsNoted, IsTrueOf, LacksInventory, LacksReading, LacksRecords, PlainLeaves, refusals_for, refusals_in, SizeHasCode, unread_in}
+use Rattle.ipmi_capture.specs.Left.{AreCounted, EndIsNoted, IsTrueOf, LacksInventory, LacksReading, LacksRecords, PlainLeaves}
 use Rattle.ipmi_capture.specs.Named.{IsSensorKey, sensor_place}
 use Rattle.ipmi_capture.specs.declared.left.Left.{Left}
 
@@ -32,10 +32,10 @@ pub record IsUnkept (image : Store) (left : Left) : Type 0 where
 
 -- A phase of a capture, with the list of items left out before and after it: the list grows. If no store is added, the fact
 -- holds, and the new items are true of the store.
-pub record Captures (tries : ℕ) (s s' : Seen) (left left' : List Left) (Fact : Type 0) : Type 0 where
+pub record Captures (IsState : Seen → Type 0) (tries : ℕ) (s s' : Seen) (left left' : List Left) (Fact : Type 0) : Type 0 where
   pub more : List Left
   pub grows : left' ≡ left ++ more
-  pub counts : AreCounted tries more s s'
+  pub counts : AreCounted IsState tries more s s'
   pub fact : s'.stores_added ≡ s.stores_added → Fact
   pub told : s'.stores_added ≡ s.stores_added → All (IsTrueOf s.store) more
   pub plain : IsTrue s.plain → All (PlainLeaves s.store) left → All (PlainLeaves s.store) left'
@@ -72,13 +72,13 @@ NoneIsFaulty (Some (Malformed n)) = ⊥
 NoneIsFaulty ended = Unit {0}
 
 -- a shelf was read; if no store is added, along its walk
-pub record Walks (shelf : Shelf) (tries : ℕ) (s s' : Seen) (rows : List Row) (ended : Option Ended) : Type 0 where
+pub record Walks (IsState : Seen → Type 0) (shelf : Shelf) (tries : ℕ) (s s' : Seen) (rows : List Row) (ended : Option Ended) : Type 0 where
   pub along : s'.stores_added ≡ s.stores_added → (walk : List Row) (end : WalkEnd)
       → IsWalk (rows_of shelf s.store) First walk → EndsBy (rows_of shelf s.store) First walk end
       → CameOf walk end rows ended
   pub none_faulty : s'.stores_added ≡ s.stores_added → NoneIsFaulty ended
   pub plain : IsTrue s.plain → PlainEnds ended
-  pub counts : AreCounted tries (map (Left.Records shelf) (option_to_list ended)) s s'
+  pub counts : AreCounted IsState tries (map (Left.Records shelf) (option_to_list ended)) s s'
 
 -- ---- items put into the image
 
@@ -121,10 +121,10 @@ abbrev pub IsNotSize : Code → Option ℕ → Left → Type 0
 IsNotSize code failure (Left.Inventory id ended) = failure ≢ Some code.0
 IsNotSize code failure left = Unit {0}
 
--- there were as many refusals as the item counts, besides the one already counted, and a size has the code of the last one
+-- a size was refused once more, with the same code
 abbrev pub IsRefusedAgain : Seen → Seen → Left → Type 0
-IsRefusedAgain s s' left = (s.refusals + refusals_in left ≤ s'.refusals + refusals_for (unread_in left))
-    × SizeHasCode s'.last_code left
+IsRefusedAgain s s' (Left.Size id code) = IsRefused code.0 s s'
+IsRefusedAgain s s' left = Unit {0}
 
 -- an inventory that is cut off is in the store
 abbrev pub CutOffIsIn : Store → Left → Type 0

@@ -3,7 +3,7 @@ ghost use Rattle.std.specs.Prelude.{◌≡◌, ◌+◌, ◌<◌, ◌≤◌, All,
 ghost use Rattle.std.specs.List.{list_all};
 ghost use Rattle.ipmi_capture.specs.Below.{AsksAtMost, info_of, IsHonest, IsPlain, rows_of, StaysHonest, Store, with_info, with_rows};
 ghost use Rattle.ipmi_capture.specs.Capture.{IsCaptureBut, IsCaptureOf};
-ghost use Rattle.ipmi_capture.specs.Left.{AreCounted, IsLeftOut, IsTrueOf, LacksInfo, leaves_nothing, leaves_whole, PlainLeaves, SameOrLeft};
+ghost use Rattle.ipmi_capture.specs.Left.{AreCounted, IsLeftOut, IsStateOf, IsTrueOf, LacksInfo, leaves_nothing, leaves_whole, PlainLeaves, SameOrLeft};
 ghost use Rattle.ipmi_capture.specs.Phases.{Adds, AreWalk, Captures, most_calls, most_on_shelf};
 
 use crate::inventories::capture_inventories;
@@ -53,7 +53,7 @@ fn note_shelf<C: Controller, P: Progress>(
     ensures calls { (C.seen ctl.new).calls ≤ (C.seen ctl.old).calls + most_on_shelf shelf asking.tries }
     ensures asked { AsksAtMost asking.part (C.seen ctl.old) (C.seen ctl.new) }
     ensures stays { IsHonest (C.seen ctl.old) → StaysHonest (C.seen ctl.old) (C.seen ctl.new) }
-    ensures honest { IsHonest (C.seen ctl.old) → OnOk result (Captures asking.tries (C.seen ctl.old) (C.seen ctl.new)
+    ensures honest { IsHonest (C.seen ctl.old) → OnOk result (Captures (IsStateOf C.seen) asking.tries (C.seen ctl.old) (C.seen ctl.new)
         left.old.items left.new.items (AreWalk shelf left.new.items (C.seen ctl.old).store (rows_of shelf image.new))) }
 {
     match capture_shelf(asking, ctl, shelf, image, progress) {
@@ -78,7 +78,7 @@ fn note_info<C: Controller>(
     ensures calls { (C.seen ctl.new).calls ≤ (C.seen ctl.old).calls + (asking.tries + 1) }
     ensures asked { AsksAtMost asking.part (C.seen ctl.old) (C.seen ctl.new) }
     ensures stays { IsHonest (C.seen ctl.old) → StaysHonest (C.seen ctl.old) (C.seen ctl.new) }
-    ensures honest { IsHonest (C.seen ctl.old) → OnOk result (Captures asking.tries (C.seen ctl.old) (C.seen ctl.new)
+    ensures honest { IsHonest (C.seen ctl.old) → OnOk result (Captures (IsStateOf C.seen) asking.tries (C.seen ctl.old) (C.seen ctl.new)
         left.old.items left.new.items (SameOrLeft (LacksInfo shelf) left.new.items (info_of shelf image.new) (info_of shelf (C.seen ctl.old).store))) }
 {
     let lacks = capture_info(asking, ctl, shelf, image);
@@ -89,13 +89,14 @@ fn note_info<C: Controller>(
 /// device 0, and once each the readings of the sensors and the inventories of the devices that records name. A request is
 /// for at most `part` bytes. Each item may have `tries` troubles. After a refusal it continues with the next item.
 ///
-/// Over any controller, an item left out is not in the image; of a shelf, the first records may be. In all, an honest controller
-/// counted at least `tries` + 1 troubles for each item given up, one refusal for each refused item, and two for a size. If it adds
-/// no store meanwhile, the image has exactly the controller's items, except those left out. A walk that does not end with FFFFh is
-/// noted with its end. Such an end is true of the store, and so is an inventory noted as empty; nothing stalls, is malformed, cut
-/// off, or uses words. If nothing was left out, the image is a capture. Over a plain
-/// controller only inventories without bytes are left out. If stores are added, the contract of `Cursor::step` says that the
-/// controller had each record when it was returned; that the image has exactly these records is only tested.
+/// Over any controller, an item left out is not in the image; of a shelf, the first records may be. Over an honest controller, each
+/// item given up or refused has a stretch of the run of its own: with `tries` + 1 troubles and no refusal, or with at most `tries`
+/// troubles and one refusal, with the item's code. A size has two. If it adds no store meanwhile, the image has exactly the
+/// controller's items, except those left out. A walk that does not end with FFFFh is noted with its end. Such an end is true of the
+/// store, and so is an inventory noted as empty; nothing stalls, is malformed, cut off, or uses words. If nothing was left out, the
+/// image is a capture. Over a plain controller only inventories without bytes are left out. If stores are added, the contract of
+/// `Cursor::step` says that the controller had each record when it was returned; that the image has exactly these records is only
+/// tested.
 pub fn capture<C: Controller, P: Progress>(
     alloc: Global,
     ctl: &mut C,
@@ -111,7 +112,7 @@ pub fn capture<C: Controller, P: Progress>(
     ensures whole { IfOk result (λ c. c.is_whole ≡ list_all leaves_whole c.left.items) }
     ensures stays { IsHonest (C.seen ctl.old) → StaysHonest (C.seen ctl.old) (C.seen ctl.new) }
     ensures counts { IsHonest (C.seen ctl.old) →
-        IfOk result (λ c. AreCounted tries c.left.items (C.seen ctl.old) (C.seen ctl.new)) }
+        IfOk result (λ c. AreCounted (IsStateOf C.seen) tries c.left.items (C.seen ctl.old) (C.seen ctl.new)) }
     ensures honest { IsHonest (C.seen ctl.old) →
         (C.seen ctl.new).stores_added ≡ (C.seen ctl.old).stores_added →
         IfOk result (λ c. IsCaptureBut c.left.items c.image (C.seen ctl.old).store) }

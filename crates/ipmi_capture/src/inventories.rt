@@ -3,7 +3,7 @@ ghost use Rattle.std.specs.Prelude.{◌≡◌, ◌≢◌, ◌+◌, ◌*◌, ◌<
 ghost use Rattle.std.specs.Option.{option_to_list};
 ghost use Rattle.ipmi_capture.specs.Below.{AsksAtMost, FruEnded, inventory_of, IsHonest, LastFruCallSays, not_present, StaysHonest};
 ghost use Rattle.ipmi_capture.specs.Capture.{InventoryOrLeft};
-ghost use Rattle.ipmi_capture.specs.Left.{AreCounted, LacksInventory};
+ghost use Rattle.ipmi_capture.specs.Left.{CountsGrow, IsStateOf, LacksInventory};
 ghost use Rattle.ipmi_capture.specs.Phases.{Adds, Captures, CutOffIsIn, IsLeftBy, IsNotSize, IsRefusedAgain, IsUnkept, HasInventories, HasInventory, most_for_inventory};
 
 use crate::capturing::Asking;
@@ -23,7 +23,7 @@ fn left_by_refusal<C: Controller>(ctl: &mut C, id: u8, code: Code) -> Option<Lef
     ensures calls { (C.seen ctl.new).calls ≤ (C.seen ctl.old).calls + 1 }
     ensures asked { AsksAtMost 0 (C.seen ctl.old) (C.seen ctl.new) }
     ensures stays { IsHonest (C.seen ctl.old) → StaysHonest (C.seen ctl.old) (C.seen ctl.new) }
-    ensures counts { IsHonest (C.seen ctl.old) → AreCounted 0 [] (C.seen ctl.old) (C.seen ctl.new) }
+    ensures counts { IsHonest (C.seen ctl.old) → CountsGrow (C.seen ctl.old) (C.seen ctl.new) }
     ensures left { MatchOption result (code ≡ not_present)
         (IsLeftBy id (FruEnded.Refused code) (C.seen ctl.new).last_failure) }
     ensures why { MatchOption result ((C.seen ctl.new).last_failure ≢ None)
@@ -49,7 +49,7 @@ fn left_by<C: Controller>(ctl: &mut C, id: u8, ended: FruEnded) -> Result<Option
     ensures calls { (C.seen ctl.new).calls ≤ (C.seen ctl.old).calls + 1 }
     ensures asked { AsksAtMost 0 (C.seen ctl.old) (C.seen ctl.new) }
     ensures stays { IsHonest (C.seen ctl.old) → StaysHonest (C.seen ctl.old) (C.seen ctl.new) }
-    ensures counts { IsHonest (C.seen ctl.old) → AreCounted 0 [] (C.seen ctl.old) (C.seen ctl.new) }
+    ensures counts { IsHonest (C.seen ctl.old) → CountsGrow (C.seen ctl.old) (C.seen ctl.new) }
     ensures left { IfOk result (λ o. MatchOption o (ended ≡ FruEnded.Refused not_present)
         (IsLeftBy id ended (C.seen ctl.new).last_failure)) }
     ensures again { IsHonest (C.seen ctl.old) → LastFruCallSays ended (C.seen ctl.old) →
@@ -82,7 +82,7 @@ fn capture_inventory<C: Controller, P: Progress>(
     ensures calls { (C.seen ctl.new).calls ≤ (C.seen ctl.old).calls + most_for_inventory asking.tries }
     ensures asked { AsksAtMost asking.part (C.seen ctl.old) (C.seen ctl.new) }
     ensures stays { IsHonest (C.seen ctl.old) → StaysHonest (C.seen ctl.old) (C.seen ctl.new) }
-    ensures honest { IsHonest (C.seen ctl.old) → IfOk result (λ left. Captures asking.tries (C.seen ctl.old) (C.seen ctl.new) []
+    ensures honest { IsHonest (C.seen ctl.old) → IfOk result (λ left. Captures (IsStateOf C.seen) asking.tries (C.seen ctl.old) (C.seen ctl.new) []
         (option_to_list left) (InventoryOrLeft (option_to_list left) image.new (C.seen ctl.old).store id)) }
 {
     match read_fru(asking.alloc, ctl, id, asking.part, asking.tries) {
@@ -115,7 +115,7 @@ pub(crate) fn capture_inventories<C: Controller, P: Progress>(
     ensures calls { (C.seen ctl.new).calls ≤ (C.seen ctl.old).calls + 255 * most_for_inventory asking.tries }
     ensures asked { AsksAtMost asking.part (C.seen ctl.old) (C.seen ctl.new) }
     ensures stays { IsHonest (C.seen ctl.old) → StaysHonest (C.seen ctl.old) (C.seen ctl.new) }
-    ensures honest { IsHonest (C.seen ctl.old) → OnOk result (Captures asking.tries (C.seen ctl.old) (C.seen ctl.new)
+    ensures honest { IsHonest (C.seen ctl.old) → OnOk result (Captures (IsStateOf C.seen) asking.tries (C.seen ctl.old) (C.seen ctl.new)
         left.old.items left.new.items (HasInventories named.now.devices.items left.new.items image.new (C.seen ctl.old).store)) }
 {
     'devices: for id in 0..NO_DEVICE {

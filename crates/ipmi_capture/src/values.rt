@@ -3,7 +3,7 @@ ghost use Rattle.std.specs.Prelude.{◌≡◌, ◌+◌, ◌*◌, ◌<◌, ◌≤
 ghost use Rattle.std.specs.Option.{option_to_list};
 ghost use Rattle.ipmi_capture.specs.Below.{AsksAtMost, info_of, IsHonest, StaysHonest, reading_of, with_info};
 ghost use Rattle.ipmi_capture.specs.Capture.{ReadingOrLeft};
-ghost use Rattle.ipmi_capture.specs.Left.{LacksInfo, LacksReading, SameOrLeft};
+ghost use Rattle.ipmi_capture.specs.Left.{IsStateOf, LacksInfo, LacksReading, SameOrLeft};
 ghost use Rattle.ipmi_capture.specs.Phases.{Adds, Captures, HasRead, HasReadings, IsUnread};
 
 use crate::capturing::Asking;
@@ -27,7 +27,7 @@ pub(crate) fn capture_info<C: Controller>(
     ensures calls { (C.seen ctl.new).calls ≤ (C.seen ctl.old).calls + (asking.tries + 1) }
     ensures asked { AsksAtMost asking.part (C.seen ctl.old) (C.seen ctl.new) }
     ensures stays { IsHonest (C.seen ctl.old) → StaysHonest (C.seen ctl.old) (C.seen ctl.new) }
-    ensures honest { IsHonest (C.seen ctl.old) → Captures asking.tries (C.seen ctl.old) (C.seen ctl.new) []
+    ensures honest { IsHonest (C.seen ctl.old) → Captures (IsStateOf C.seen) asking.tries (C.seen ctl.old) (C.seen ctl.new) []
         (option_to_list result) (SameOrLeft (LacksInfo shelf) (option_to_list result)
         (info_of shelf image.new) (info_of shelf (C.seen ctl.old).store)) }
 {
@@ -59,7 +59,7 @@ fn capture_reading<C: Controller, P: Progress>(
     ensures calls { (C.seen ctl.new).calls ≤ (C.seen ctl.old).calls + (asking.tries + 1) }
     ensures asked { AsksAtMost asking.part (C.seen ctl.old) (C.seen ctl.new) }
     ensures stays { IsHonest (C.seen ctl.old) → StaysHonest (C.seen ctl.old) (C.seen ctl.new) }
-    ensures honest { IsHonest (C.seen ctl.old) → IfOk result (λ left. Captures asking.tries (C.seen ctl.old) (C.seen ctl.new) []
+    ensures honest { IsHonest (C.seen ctl.old) → IfOk result (λ left. Captures (IsStateOf C.seen) asking.tries (C.seen ctl.old) (C.seen ctl.new) []
         (option_to_list left) (ReadingOrLeft (option_to_list left) image.new (C.seen ctl.old).store (lun, number))) }
 {
     match read_reading(ctl, 0, lun, number, asking.tries) {
@@ -95,7 +95,7 @@ pub(crate) fn capture_readings<C: Controller, P: Progress>(
     ensures calls { (C.seen ctl.new).calls ≤ (C.seen ctl.old).calls + 1024 * (asking.tries + 1) }
     ensures asked { AsksAtMost asking.part (C.seen ctl.old) (C.seen ctl.new) }
     ensures stays { IsHonest (C.seen ctl.old) → StaysHonest (C.seen ctl.old) (C.seen ctl.new) }
-    ensures honest { IsHonest (C.seen ctl.old) → OnOk result (Captures asking.tries (C.seen ctl.old) (C.seen ctl.new)
+    ensures honest { IsHonest (C.seen ctl.old) → OnOk result (Captures (IsStateOf C.seen) asking.tries (C.seen ctl.old) (C.seen ctl.new)
         left.old.items left.new.items (HasReadings named.now.sensors.items left.new.items image.new (C.seen ctl.old).store)) }
 {
     'places: for place in 0..SENSOR_PLACES {

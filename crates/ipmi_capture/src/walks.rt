@@ -1,6 +1,7 @@
 //! Reads the records of a shelf into an image.
 ghost use Rattle.std.specs.Prelude.{◌≡◌, ◌+◌, ◌<◌, ◌≤◌, IfOk, [], Some};
 ghost use Rattle.ipmi_capture.specs.Below.{AsksAtMost, IsHonest, StaysHonest, rows_of, with_rows};
+ghost use Rattle.ipmi_capture.specs.Left.{IsStateOf};
 ghost use Rattle.ipmi_capture.specs.Phases.{most_on_shelf, most_on_walk, Walks};
 
 use crate::capturing::Asking;
@@ -30,7 +31,7 @@ fn walk_shelf<C: Controller, P: Progress>(
     ensures asked { AsksAtMost asking.part (C.seen ctl.old) (C.seen ctl.new) }
     ensures stays { IsHonest (C.seen ctl.old) → StaysHonest (C.seen ctl.old) (C.seen ctl.new) }
     ensures honest { IsHonest (C.seen ctl.old) → IfOk result (λ ended.
-        Walks shelf asking.tries (C.seen ctl.old) (C.seen ctl.new) (rows_of shelf image.new) ended) }
+        Walks (IsStateOf C.seen) shelf asking.tries (C.seen ctl.old) (C.seen ctl.new) (rows_of shelf image.new) ended) }
 {
     let mut cursor = Cursor::start(asking.alloc, shelf, None, asking.part, asking.tries)?;
     'records: loop {
@@ -65,7 +66,7 @@ pub(crate) fn capture_shelf<C: Controller, P: Progress>(
     ensures asked { AsksAtMost asking.part (C.seen ctl.old) (C.seen ctl.new) }
     ensures stays { IsHonest (C.seen ctl.old) → StaysHonest (C.seen ctl.old) (C.seen ctl.new) }
     ensures honest { IsHonest (C.seen ctl.old) → IfOk result (λ ended.
-        Walks shelf asking.tries (C.seen ctl.old) (C.seen ctl.new) (rows_of shelf image.new) ended) }
+        Walks (IsStateOf C.seen) shelf asking.tries (C.seen ctl.old) (C.seen ctl.new) (rows_of shelf image.new) ended) }
 {
     'walks: for _ in 0..TIMES_AGAIN {
         match walk_shelf(asking, ctl, shelf, image, progress) {

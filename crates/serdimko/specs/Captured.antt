@@ -61,7 +61,8 @@ SaysLost old new said said' status =
     × ((text : List ℕ) × ReceivesText said said' (line_text (codes "no reply from the controller: " ++ escaped_name text)))
 
 -- The controller was captured, as the contract of `capture` says, and the image was saved, unless the connection was lost.
-pub record Captures (part tries : ℕ) (seen seen' : Seen) (lost file old new : Option (List ℕ)) (said said' : Received)
+-- `IsState` says of which states is known that the controller was in them.
+pub record Captures (IsState : Seen → Type 0) (part tries : ℕ) (seen seen' : Seen) (lost file old new : Option (List ℕ)) (said said' : Received)
     (status : ℕ) : Type 0 where
   pub image : Store
   pub left : List Left
@@ -69,7 +70,7 @@ pub record Captures (part tries : ℕ) (seen seen' : Seen) (lost file old new : 
   pub asked : AsksAtMost part seen seen'
   pub lacks : All (IsLeftOut image) left
   pub stays : IsHonest seen → StaysHonest seen seen'
-  pub counts : IsHonest seen → AreCounted tries left seen seen'
+  pub counts : IsHonest seen → AreCounted IsState tries left seen seen'
   pub but : IsHonest seen → seen'.stores_added ≡ seen.stores_added → IsCaptureBut left image seen.store
   pub all : IsHonest seen → seen'.stores_added ≡ seen.stores_added → IsTrue (list_all leaves_nothing left)
       → IsCaptureOf image seen.store

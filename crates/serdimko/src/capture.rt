@@ -1,7 +1,7 @@
 //! Saves the contents of a live controller as an image.
 ghost use Rattle.std.specs.Prelude.{◌≡◌, ◌++◌, ℕ, codes, IfOk, List, map, OnErr, OnOk, Option, option_map, true};
 ghost use Rattle.ipmi_bus.specs.Seen.{Seen};
-ghost use Rattle.ipmi_capture.specs.Left.{left_text};
+ghost use Rattle.ipmi_capture.specs.Left.{IsStateOf, left_text};
 ghost use Rattle.ipmi_image.specs.Rewritten.{image_text_of};
 ghost use Rattle.ipmi_output.specs.Failure.{escaped_name, line_text};
 ghost use Rattle.ipmi_output.specs.Received.{ReceivesText};
@@ -227,7 +227,7 @@ fn capture_from<
     out: &mut W,
     err: &mut E,
 ) -> Result<u8, AllocError>
-    ensures { IfOk result (Captures command.now.part command.now.tries (seen_of P.seen controller.old)
+    ensures { IfOk result (Captures (IsStateOf (seen_of {K = K} P.seen)) command.now.part command.now.tries (seen_of P.seen controller.old)
         (seen_of P.seen controller.new) (last_words controller.new) (option_map (λ word. word.now) output.entry)
         (W.contents out.old) (W.contents out.new) (E.received err.old) (E.received err.new)) }
 {
@@ -258,7 +258,7 @@ pub(crate) fn capture_live<
     out: &mut W,
     err: &mut E,
 ) -> Result<u8, AllocError>
-    ensures { IfOk result (λ status. (seen seen' : Seen) × (lost : Option (List ℕ)) × Captures command.now.part command.now.tries
+    ensures { IfOk result (λ status. (seen seen' : Seen) × (lost : Option (List ℕ)) × Captures (λ s. Unit {0}) command.now.part command.now.tries
         seen seen' lost (option_map (λ word. word.now) output.entry) (W.contents out.old) (W.contents out.new)
         (E.received err.old) (E.received err.new) status) }
 {

@@ -1,3 +1,5 @@
+use Rattle.ipmi_capture.specs.Left.{IsStateOf}
+use Rattle.ipmi_capture.proofs.CountLemmas.{is_state}
 use Rattle.ipmi_capture.proofs.ReadLemmas.{came_inventory, has_inventory, lacks_left, left_inventory}
 use Rattle.ipmi_capture.proofs.inventories.capture_inventory.Goals as goal
 
@@ -12,7 +14,8 @@ returns-in_ok-put_inventory-in-Ok-clause-honest g c = λ h.
 pub returns-in-Err-clause-honest : goal.returns-in-Err-clause-honest
 returns-in-Err-clause-honest g c = λ h.
     let read = c.in-Err.ensures.honest h in
-    left_inventory c.args.id c.in-Err.ended _ c.left_by.result c.args.image.now c.requires.none read (c.left_by.ensures.stays read.stays.honest) (c.left_by.ensures.counts read.stays.honest) c.left_by.ensures.left (c.left_by.ensures.again read.stays.honest c.in-Err.ensures.says) (c.left_by.ensures.cut read.stays.honest)
+    left_inventory (IsStateOf g.C.Controller.seen) c.args.id c.in-Err.ended _ c.left_by.result c.args.image.now (is_state g.C.Controller.seen c.args.ctl.now)
+    (is_state g.C.Controller.seen c.read_fru.new.ctl) (is_state g.C.Controller.seen c.left_by.new.ctl) c.requires.none read (c.left_by.ensures.stays read.stays.honest) (c.left_by.ensures.counts read.stays.honest) c.left_by.ensures.left (c.left_by.ensures.again read.stays.honest c.in-Err.ensures.says) (c.left_by.ensures.cut read.stays.honest)
 
 pub returns-in-Err-clause-lacks : goal.returns-in-Err-clause-lacks
 returns-in-Err-clause-lacks g c =

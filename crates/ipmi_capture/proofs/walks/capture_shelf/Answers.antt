@@ -1,6 +1,21 @@
-use Rattle.ipmi_capture.proofs.StepLemmas.{walks_all_ok}
+use Rattle.std.proofs.Common.{rules}
+use Rattle.ipmi_capture.specs.Left.{IsStateOf}
+use Rattle.ipmi_capture.proofs.StepLemmas.{again_cleared, walks_all_ok}
 use Rattle.ipmi_capture.proofs.walks.capture_shelf.Goals as goal
+
+pub walks-preserved : goal.walks-preserved
+walks-preserved g c =
+    again_cleared c.walks.invariant c.walk_shelf.ensures.beside c.walk_shelf.ensures.calls c.walk_shelf.ensures.asked
+    c.walk_shelf.ensures.stays c.clear_records.ensures c.in-Ok-Some-Missing.ensures.honest
 
 pub returns-clause-honest : goal.returns-clause-honest
 returns-clause-honest g c =
-    walks_all_ok c.walks.invariant c.walk_shelf-2.ensures.beside c.walk_shelf-2.ensures.calls c.walk_shelf-2.ensures.asked c.walk_shelf-2.ensures.stays c.walk_shelf-2.result c.walk_shelf-2.ensures.honest
+    walks_all_ok c.walks.invariant c.walk_shelf-2.ensures.beside c.walk_shelf-2.ensures.calls c.walk_shelf-2.ensures.asked c.walk_shelf-2.ensures.stays
+    (IsStateOf g.C.Controller.seen) c.walk_shelf-2.result c.walk_shelf-2.ensures.honest
+
+pub returns-in-Ok-clause-honest : goal.returns-in-Ok-clause-honest
+returns-in-Ok-clause-honest g c = search (
+  rules,
+  walks_all_ok c.walks.invariant c.walk_shelf.ensures.beside c.walk_shelf.ensures.calls c.walk_shelf.ensures.asked c.walk_shelf.ensures.stays
+      (IsStateOf g.C.Controller.seen) c.walk_shelf.result c.walk_shelf.ensures.honest,
+)

@@ -1,5 +1,6 @@
 use Rattle.std.proofs.Common.{◌≡◌, Ok, arith, ap, refl, sym, ◌∙◌}
 use Rattle.ipmi_capture.specs.Below.{rows_of}
+use Rattle.ipmi_capture.proofs.CountLemmas.{is_state}
 use Rattle.ipmi_capture.proofs.StepLemmas.{calls_on, came_done, came_ended, came_malformed, ids_next, rows_of-with_rows, walked_more, walked_none}
 use Rattle.ipmi_capture.proofs.walks.walk_shelf.Goals as goal
 
@@ -21,7 +22,7 @@ returns-in-Err-clause-calls g c = calls_on c.records.invariant c.step.follows.ho
 pub returns-in-Err-clause-honest : goal.returns-in-Err-clause-honest
 returns-in-Err-clause-honest g c =
     let step = rw c.in-Err.is at c.step.follows.holds-at-none in
-    λ h. came_ended c.records.invariant step c.in-Err.ended refl h
+    λ h. came_ended c.records.invariant step (is_state g.C.Controller.seen c.records.ctl) (is_state g.C.Controller.seen c.step.new.ctl) c.in-Err.ended refl h
 
 pub records-smaller : goal.records-smaller
 records-smaller g c =
