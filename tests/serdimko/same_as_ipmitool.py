@@ -105,7 +105,7 @@ WHY_NOT_READ = b": (no such file|is a directory|permission denied|longer than 64
 EXPLANATION = rb" \([^\n]+\)"
 WHY_NO_HEADER = (
     rb"( \((the input is empty: an image was expected, whose first line is 'ipmi-image 1' or 'ipmi-image 2'|compressed: unpack it first|line ends are CR LF: use LF alone|line ends are CR: use LF alone|begins with a byte order mark: save it without"
-    rb"|is UTF-16 or UTF-32: save it as UTF-8|the first line has to be exactly 'ipmi-image 1' or 'ipmi-image 2', ended by a line feed)\))"
+    rb"|is UTF-16 or UTF-32: save it as UTF-8|not an image: the first line has to be exactly 'ipmi-image 1' or 'ipmi-image 2', ended by a line feed)\))"
 )
 
 

@@ -154,7 +154,7 @@ header_words Looks.Wide = codes " (is UTF-16 or UTF-32: save it as UTF-8)"
 header_words Looks.CrLf = codes " (line ends are CR LF: use LF alone)"
 header_words Looks.Cr = codes " (line ends are CR: use LF alone)"
 header_words _ =
-    codes " (the first line has to be exactly 'ipmi-image 1' or 'ipmi-image 2', ended by a line feed)"
+    codes " (not an image: the first line has to be exactly 'ipmi-image 1' or 'ipmi-image 2', ended by a line feed)"
 
 -- the rule that an invalid line breaks
 abbrev pub line_words : Looks → List ℕ
@@ -206,7 +206,7 @@ length_words _ = codes " (sdr takes 5 bytes and as many more as the fifth says, 
 abbrev pub end_words : Looks → List ℕ
 end_words Looks.End = codes " (after 'end' a line feed is missing)"
 end_words Looks.Cut = codes " (it is cut off: its last line has no line feed)"
-end_words _ = codes " (its last line is not 'end')"
+end_words _ = codes " (its last line is not 'end': it may be cut off)"
 
 -- what a fault of an image means, given what the image looks like there
 abbrev pub explanation : ImageFault → Looks → List ℕ

@@ -343,7 +343,7 @@ fn header_words(looks: Looks) -> &'static str
         Looks::CrLf => " (line ends are CR LF: use LF alone)",
         Looks::Cr => " (line ends are CR: use LF alone)",
         _ => {
-            " (the first line has to be exactly 'ipmi-image 1' or 'ipmi-image 2', ended by a line feed)"
+            " (not an image: the first line has to be exactly 'ipmi-image 1' or 'ipmi-image 2', ended by a line feed)"
         }
     }
 }
@@ -425,7 +425,7 @@ fn end_words(looks: Looks) -> &'static str
     match looks {
         Looks::End => " (after 'end' a line feed is missing)",
         Looks::Cut => " (it is cut off: its last line has no line feed)",
-        _ => " (its last line is not 'end')",
+        _ => " (its last line is not 'end': it may be cut off)",
     }
 }
 

@@ -242,7 +242,9 @@ fn print_commands<E: MessageSink>(
         // otherwise it would wait for an image in silence
         let _ = say_line(
             err,
-            &[Text("reading an image from the terminal: a file needs --image FILE")],
+            &[Text(
+                "reading an image from the terminal: a file needs --image FILE, a live machine serdimko-live",
+            )],
         );
     }
     let writer = Watch::new(io::writer(rt), own.strict);

@@ -401,6 +401,7 @@ pub(crate) fn too_many<'a>(
 fn instead_after(words: &[&str]) -> &'static str {
     match words {
         ["sensor", "list"] => ": one sensor is 'sensor get NAME'",
+        ["fru", "list"] => ": one device is 'fru print ID'",
         ["sel", "get", _] | ["fru", "print", _] => ": it takes one ID",
         ["sel", "list" | "elist", _] => ": for the oldest or newest events use first N or last N",
         _ => "",
@@ -435,10 +436,13 @@ pub(crate) fn maybe_unquoted<'a>(
         ["sensor", "get", names @ ..] if names.len() > 1 && !are_quoted(names) => names,
         _ => return Ok(None),
     };
-    let rule = "'sensor get' takes each word as a name: quote a name that has spaces, as '";
+    let rule = "'sensor get' takes each word as a name: quote a name that has spaces";
     let mut parts = line(alloc, &[Text(rule)])?;
-    push_joined(&mut parts, names)?;
-    parts.push(Text("'"))?;
+    if names.len() == 2 {
+        parts.push(Text(", as '"))?;
+        push_joined(&mut parts, names)?;
+        parts.push(Text("'"))?;
+    }
     Ok(Some(parts))
 }
 
