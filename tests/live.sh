@@ -149,9 +149,9 @@ TOOL_TROUBLES=
 : > "$TOOL_LOG"
 live --freeipmi -- --part 254 capture
 if [ "$(grep -c -E '^0 0a (22|42)' "$TOOL_LOG")" -ne 2 ]; then fault 'capture: reservations'; fi
-says 2 "'capture' takes only --part, --tries, --output and --quiet" -- --strict capture
+says 2 "'capture' takes only --part, --tries, --output (-o) and --quiet" -- --strict capture
 says 2 "unexpected word 'all' after 'capture'" -- capture all
-says 2 "--output and --quiet go only with 'capture'" -- -o x sdr
+says 2 "--output (-o) and --quiet go only with 'capture'" -- -o x sdr
 
 # ipmitool has one session for each unit used.
 : > "$TOOL_LOG"
