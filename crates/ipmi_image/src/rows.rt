@@ -6,8 +6,12 @@ ghost use Rattle.ipmi_image.specs.Prelude.{first_id, place_of, id_of, row_of};
 use crate::image_line::LineFault;
 use crate::table::{Table, TableItem};
 use ipmi_bus::NO_NEXT_ID;
-use std::alloc::Global;
+use std::alloc::{AllocError, Global};
 use std::marker::Model;
+
+/// The capacity that a shelf begins with, in bytes of records.
+// So much is mapped by itself: growing in the heap would leave gaps, and a page that is not used takes no memory.
+const FIRST_BYTES: usize = 1 << 18;
 
 /// A record of a shelf. If `next` is None, its next id is the id of the following record, or FFFFh for the last
 /// record.
@@ -34,6 +38,16 @@ impl TableItem for RowHead {
     fn key(&self) -> u16 {
         self.id
     }
+}
+
+/// Makes room for the first bytes of a shelf.
+fn begin(bytes: &mut Vec<u8>) -> Result<(), AllocError>
+    ensures { bytes.new.items ≡ bytes.old.items }
+{
+    if bytes.is_empty() {
+        bytes.reserve(FIRST_BYTES)?;
+    }
+    Ok(())
 }
 
 /// The records of a shelf, in order. Their bytes are in one `Vec`, so a record needs no allocation of its own.
@@ -140,6 +154,7 @@ impl Rows {
             (λ e. (e ≡ LineFault.Memory) ⊎ ((e ≡ LineFault.Twice) ×
             (is_some (place_of id_of row.now.id self.old) ≡ true))) }
     {
+        begin(&mut self.bytes)?;
         let start = self.bytes.len();
         self.bytes.extend_from_slice(row.bytes)?;
         let head = RowHead {
