@@ -9,9 +9,11 @@ use ipmi_bus::NO_NEXT_ID;
 use std::alloc::{AllocError, Global};
 use std::marker::Model;
 
-/// The capacity that a shelf begins with, in bytes of records.
-// So much is mapped by itself: growing in the heap would leave gaps, and a page that is not used takes no memory.
+/// The room that a shelf begins with, in bytes of records and in records.
+// More than 128 KiB is mapped by itself: growing in the heap would leave gaps, and a page that is not used takes no memory.
 const FIRST_BYTES: usize = 1 << 18;
+
+const FIRST_ROWS: usize = 1 << 14;
 
 /// A record of a shelf. If `next` is None, its next id is the id of the following record, or FFFFh for the last
 /// record.
@@ -40,11 +42,13 @@ impl TableItem for RowHead {
     }
 }
 
-/// Makes room for the first bytes of a shelf.
-fn begin(bytes: &mut Vec<u8>) -> Result<(), AllocError>
-    ensures { bytes.new.items ≡ bytes.old.items }
+/// Makes room for the first rows of a shelf.
+fn begin(heads: &mut Table<RowHead>, bytes: &mut Vec<u8>) -> Result<(), AllocError>
+    ensures heads { heads.new ≡ heads.old }
+    ensures bytes { bytes.new.items ≡ bytes.old.items }
 {
     if bytes.is_empty() {
+        heads.reserve(FIRST_ROWS)?;
         bytes.reserve(FIRST_BYTES)?;
     }
     Ok(())
@@ -154,7 +158,7 @@ impl Rows {
             (λ e. (e ≡ LineFault.Memory) ⊎ ((e ≡ LineFault.Twice) ×
             (is_some (place_of id_of row.now.id self.old) ≡ true))) }
     {
-        begin(&mut self.bytes)?;
+        begin(&mut self.heads, &mut self.bytes)?;
         let start = self.bytes.len();
         self.bytes.extend_from_slice(row.bytes)?;
         let head = RowHead {
