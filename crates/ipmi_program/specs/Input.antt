@@ -13,6 +13,9 @@ pub record IsFaultOf (kind : ErrorKind) (fault : InputFault) : Type 0 where
   pub memory : (kind ≡ ErrorKind.OutOfMemory) ↔ (fault ≡ InputFault.Memory)
   pub not_found : (kind ≡ ErrorKind.NotFound) ↔ (fault ≡ InputFault.NotFound)
   pub directory : (kind ≡ ErrorKind.IsADirectory) ↔ (fault ≡ InputFault.IsDirectory)
+  pub not_directory : (kind ≡ ErrorKind.NotADirectory) ↔ (fault ≡ InputFault.NotDirectory)
+  pub link_loop : (kind ≡ ErrorKind.FilesystemLoop) ↔ (fault ≡ InputFault.LinkLoop)
+  pub name_too_long : (kind ≡ ErrorKind.InvalidFilename) ↔ (fault ≡ InputFault.NameTooLong)
   pub denied : (kind ≡ ErrorKind.PermissionDenied) ↔ (fault ≡ InputFault.PermissionDenied)
   pub short : fault ≢ InputFault.TooLong
 
@@ -20,6 +23,9 @@ abbrev pub input_fault_words : InputFault → List ℕ
 input_fault_words InputFault.Memory = codes "out of memory"
 input_fault_words InputFault.NotFound = codes "no such file"
 input_fault_words InputFault.IsDirectory = codes "is a directory"
+input_fault_words InputFault.NotDirectory = codes "part of its path is not a directory"
+input_fault_words InputFault.LinkLoop = codes "too many symbolic links"
+input_fault_words InputFault.NameTooLong = codes "file name too long"
 input_fault_words InputFault.PermissionDenied = codes "permission denied"
 input_fault_words InputFault.TooLong = codes "longer than 64 MiB"
 input_fault_words InputFault.Other = codes "reason not known"

@@ -25,6 +25,12 @@ pub enum InputFault {
     NotFound,
     /// The file is a directory.
     IsDirectory,
+    /// The path goes through a file that is not a directory.
+    NotDirectory,
+    /// The path goes through too many symbolic links.
+    LinkLoop,
+    /// The path or a name in it is too long.
+    NameTooLong,
     /// There is no permission to read the file.
     PermissionDenied,
     /// The image is longer than 64 MiB.
@@ -42,6 +48,9 @@ impl InputFault {
             InputFault::Memory => "out of memory",
             InputFault::NotFound => "no such file",
             InputFault::IsDirectory => "is a directory",
+            InputFault::NotDirectory => "part of its path is not a directory",
+            InputFault::LinkLoop => "too many symbolic links",
+            InputFault::NameTooLong => "file name too long",
             InputFault::PermissionDenied => "permission denied",
             InputFault::TooLong => "longer than 64 MiB",
             InputFault::Other => "reason not known",
@@ -67,6 +76,9 @@ impl From<io::Error> for InputFault {
             ErrorKind::OutOfMemory => InputFault::Memory,
             ErrorKind::NotFound => InputFault::NotFound,
             ErrorKind::IsADirectory => InputFault::IsDirectory,
+            ErrorKind::NotADirectory => InputFault::NotDirectory,
+            ErrorKind::FilesystemLoop => InputFault::LinkLoop,
+            ErrorKind::InvalidFilename => InputFault::NameTooLong,
             ErrorKind::PermissionDenied => InputFault::PermissionDenied,
             _ => InputFault::Other,
         }

@@ -59,13 +59,28 @@ impl Read for Failing {
 }
 
 /// `(error of the reader, fault, text of the fault)`.
-const FAULTS: [(ErrorKind, InputFault, &str); 5] = [
+const FAULTS: [(ErrorKind, InputFault, &str); 8] = [
     (ErrorKind::OutOfMemory, InputFault::Memory, "out of memory"),
     (ErrorKind::NotFound, InputFault::NotFound, "no such file"),
     (
         ErrorKind::IsADirectory,
         InputFault::IsDirectory,
         "is a directory",
+    ),
+    (
+        ErrorKind::NotADirectory,
+        InputFault::NotDirectory,
+        "part of its path is not a directory",
+    ),
+    (
+        ErrorKind::FilesystemLoop,
+        InputFault::LinkLoop,
+        "too many symbolic links",
+    ),
+    (
+        ErrorKind::InvalidFilename,
+        InputFault::NameTooLong,
+        "file name too long",
     ),
     (
         ErrorKind::PermissionDenied,
