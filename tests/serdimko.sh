@@ -65,6 +65,7 @@ for name in größe 'a file' $'a\nb'; do echo 'no image' > "$name"; done
 printf 'ipmi-image 1\nend\n' > ./-
 echo 'no image' > secret
 chmod 000 secret
+ln -s loop loop
 # Sparse files of zeros: of 64 MiB, and of one byte more.
 truncate -s $((64 * 1024 * 1024)) longest
 truncate -s $((64 * 1024 * 1024 + 1)) too_long

@@ -1,4 +1,4 @@
-//! Laws of fields, records and texts. Each law is the contract of an empty function.
+//! Laws of fields, records and texts. Each law is the contract of a function that computes nothing.
 ghost use Rattle.std.specs.Prelude.{◌≡◌, ℕ, List, None, Option, Some};
 ghost use Rattle.ipmi_text.specs.Bytes.{AreBytes};
 ghost use Rattle.ipmi_fru.specs.Prelude.{AreaField, Spells, MultiFault, MultiRecord, IsRecordList, IsFruLine, IsFruText};

@@ -1,4 +1,4 @@
-//! Sinks for messages: any writer, or a `Written`; and writing a whole text to a sink.
+//! Where messages go: `MessageSink`, for any writer and for `Written`; and a function that writes a whole text there.
 ghost use Rattle.std.specs.Prelude.{ℕ, ◌≤◌, ◌<◌, length, IfOk, Some};
 ghost use Rattle.ipmi_output.specs.Received.{Received, Receives, WritesAll, of_writer};
 

@@ -1,4 +1,4 @@
-//! Sinks for output: any writer can be one; and writing a whole text to a sink.
+//! Where output goes: `Sink`, which `Written` makes of any writer; and a function that writes a whole text there.
 ghost use Rattle.std.specs.Prelude.{◌≡◌, ℕ, ◌≤◌, ◌<◌, ◌+◌, List, [], ◌++◌, length, IfOk, OnOk, OnErr, IsSome, Some, option_map, unwrap_or};
 ghost use Rattle.std.specs.Borrow.{ftrue};
 ghost use Rattle.ipmi_output.specs.Sink.{taken_by, faults_by, TakesPart};

@@ -147,38 +147,38 @@ looks_in bytes fault = Looks.Unknown
 -- what is known of input that does not begin as an image
 abbrev pub header_words : Looks → List ℕ
 header_words Looks.Empty =
-    codes " (the input is empty: an image was expected, whose first line is 'ipmi-image 1' or 'ipmi-image 2')"
+    codes " (the input is empty: --image FILE reads an image, and serdimko-live a live machine)"
 header_words Looks.Compressed = codes " (compressed: unpack it first)"
 header_words Looks.ByteOrderMark = codes " (begins with a byte order mark: save it without)"
 header_words Looks.Wide = codes " (is UTF-16 or UTF-32: save it as UTF-8)"
 header_words Looks.CrLf = codes " (line ends are CR LF: use LF alone)"
 header_words Looks.Cr = codes " (line ends are CR: use LF alone)"
 header_words _ =
-    codes " (not an image: the first line has to be exactly 'ipmi-image 1' or 'ipmi-image 2', ended by a line feed)"
+    codes " (not an image: the first line has to be exactly 'ipmi-image 1' or 'ipmi-image 2', ended by a line feed; 'serdimko-live ... -- capture' makes an image)"
 
 -- the rule that an invalid line breaks
 abbrev pub line_words : Looks → List ℕ
 line_words Looks.CrLf = codes " (it ends with CR LF: use LF alone)"
 line_words Looks.Blank = codes " (it is empty: remove it)"
-line_words Looks.Tab = codes " (it has a tab: between two fields one space)"
+line_words Looks.Tab = codes " (it has a tab: between two fields one space, and none at the end)"
 line_words Looks.Indented = codes " (it begins with a space: remove it)"
 line_words Looks.Dash = codes " (NEXT is a dash: the first line has to be 'ipmi-image 2')"
 line_words Looks.Spaces = codes " (a field is empty: between two fields one space, and none at the end)"
 line_words Looks.Record = codes " (sdr and sel take three fields: ID NEXT HEX)"
 line_words Looks.Event = codes " (sdr and sel take three fields: ID NEXT HEX)"
-line_words Looks.RecordFields = codes " (ID and NEXT are four hex digits each, as 002a)"
+line_words Looks.RecordFields = codes " (ID and NEXT are four hex digits each, as 002a; in 'ipmi-image 2' NEXT may be a dash)"
 line_words Looks.Inventory = codes " (fru takes two fields: ID HEX)"
 line_words Looks.InventoryFields = codes " (the ID of fru is two hex digits, 00 to fe, as 0a)"
 line_words Looks.Reading = codes " (reading takes three fields: LUN NUM HEX)"
 line_words Looks.ReadingFields = codes " (LUN is one digit, 0 to 3, and NUM two hex digits, as 0 2a)"
 line_words Looks.Info = codes " (info takes sdr HEX or sel HEX)"
-line_words Looks.End = codes " (end stands alone)"
+line_words Looks.End = codes " (end stands alone, with no space after it)"
 line_words _ = codes " (its first word is none of sdr, sel, fru, reading, info, end)"
 
 -- what is wrong with the digits of a line
 abbrev pub digit_words : Looks → List ℕ
 digit_words Looks.CrLf = codes " (it ends with CR LF: use LF alone)"
-digit_words Looks.Tab = codes " (it has a tab: between two fields one space)"
+digit_words Looks.Tab = codes " (it has a tab: between two fields one space, and none at the end)"
 digit_words Looks.Odd = codes " (an odd number of digits: each byte has two)"
 digit_words _ = codes " (a character is no hex digit)"
 
@@ -219,6 +219,6 @@ explanation (ImageFault.Length line) looks = length_words looks
 explanation (ImageFault.FirstId line) looks =
     codes " (the first record's bytes have to begin with its own id, low byte first: id 0001 as 0100)"
 explanation (ImageFault.AfterEnd line) looks = codes " (the line 'end' has to be the last)"
-explanation (ImageFault.TooMany line) looks = codes " (an inventory has at most 65,535)"
+explanation (ImageFault.TooMany line) looks = codes " (all lines of an inventory have at most 65,535)"
 explanation ImageFault.NoEnd looks = end_words looks
 explanation ImageFault.Memory looks = []

@@ -61,7 +61,7 @@ abbrev pub json_rule : Own → List (List ℕ) → Option (List ℕ)
 json_rule own words =
     if not own.json
     then (if length own.labels == 0 then None else Some (codes "--label goes only with --json"))
-    else (if own.strict then Some (codes "--strict does not go with --json: objects tell their faults")
+    else (if own.strict then Some (codes "--strict does not go with --json: each object names its faults")
     else (if begins_with words (codes "capture") then Some (codes "--json does not go with 'capture'")
     else (if is_rewriting words then Some (codes "--json does not go with 'image rewrite'")
     else None)))

@@ -45,7 +45,7 @@ const ENTRY: Number = Number {
     range: "1 to 65534",
     after: &["--", "sel", "get"],
     is_id: true,
-    listed: "'sel list' prints the ID of each event in hex, as --id takes it",
+    listed: "'sel list' prints IDs in hex, and 'sel get --id ID' takes them",
 };
 
 const DEVICE: Number = Number {

@@ -336,14 +336,14 @@ fn header_words(looks: Looks) -> &'static str
 {
     match looks {
         Looks::Empty =>
-            " (the input is empty: an image was expected, whose first line is 'ipmi-image 1' or 'ipmi-image 2')",
+            " (the input is empty: --image FILE reads an image, and serdimko-live a live machine)",
         Looks::Compressed => " (compressed: unpack it first)",
         Looks::ByteOrderMark => " (begins with a byte order mark: save it without)",
         Looks::Wide => " (is UTF-16 or UTF-32: save it as UTF-8)",
         Looks::CrLf => " (line ends are CR LF: use LF alone)",
         Looks::Cr => " (line ends are CR: use LF alone)",
         _ => {
-            " (not an image: the first line has to be exactly 'ipmi-image 1' or 'ipmi-image 2', ended by a line feed)"
+            " (not an image: the first line has to be exactly 'ipmi-image 1' or 'ipmi-image 2', ended by a line feed; 'serdimko-live ... -- capture' makes an image)"
         }
     }
 }
@@ -355,18 +355,19 @@ fn line_words(looks: Looks) -> &'static str
     match looks {
         Looks::CrLf => " (it ends with CR LF: use LF alone)",
         Looks::Blank => " (it is empty: remove it)",
-        Looks::Tab => " (it has a tab: between two fields one space)",
+        Looks::Tab => " (it has a tab: between two fields one space, and none at the end)",
         Looks::Indented => " (it begins with a space: remove it)",
         Looks::Dash => " (NEXT is a dash: the first line has to be 'ipmi-image 2')",
         Looks::Spaces => " (a field is empty: between two fields one space, and none at the end)",
         Looks::Record | Looks::Event => " (sdr and sel take three fields: ID NEXT HEX)",
-        Looks::RecordFields => " (ID and NEXT are four hex digits each, as 002a)",
+        Looks::RecordFields =>
+            " (ID and NEXT are four hex digits each, as 002a; in 'ipmi-image 2' NEXT may be a dash)",
         Looks::Inventory => " (fru takes two fields: ID HEX)",
         Looks::InventoryFields => " (the ID of fru is two hex digits, 00 to fe, as 0a)",
         Looks::Reading => " (reading takes three fields: LUN NUM HEX)",
         Looks::ReadingFields => " (LUN is one digit, 0 to 3, and NUM two hex digits, as 0 2a)",
         Looks::Info => " (info takes sdr HEX or sel HEX)",
-        Looks::End => " (end stands alone)",
+        Looks::End => " (end stands alone, with no space after it)",
         _ => " (its first word is none of sdr, sel, fru, reading, info, end)",
     }
 }
@@ -377,7 +378,7 @@ fn digit_words(looks: Looks) -> &'static str
 {
     match looks {
         Looks::CrLf => " (it ends with CR LF: use LF alone)",
-        Looks::Tab => " (it has a tab: between two fields one space)",
+        Looks::Tab => " (it has a tab: between two fields one space, and none at the end)",
         Looks::Odd => " (an odd number of digits: each byte has two)",
         _ => " (a character is no hex digit)",
     }
@@ -444,7 +445,7 @@ pub(crate) fn explanation(fault: ImageFault, looks: Looks) -> &'static str
             " (the first record's bytes have to begin with its own id, low byte first: id 0001 as 0100)"
         }
         ImageFault::AfterEnd(_) => " (the line 'end' has to be the last)",
-        ImageFault::TooMany(_) => " (an inventory has at most 65,535)",
+        ImageFault::TooMany(_) => " (all lines of an inventory have at most 65,535)",
         ImageFault::NoEnd => end_words(looks),
         ImageFault::Memory => "",
     }

@@ -118,7 +118,7 @@ pub(crate) fn json_rule(own: &Own, words: &[Word]) -> Option<&'static str>
         return Some("--label goes only with --json");
     }
     if own.strict {
-        return Some("--strict does not go with --json: objects tell their faults");
+        return Some("--strict does not go with --json: each object names its faults");
     }
     if begins_with(words, "capture") {
         return Some("--json does not go with 'capture'");

@@ -4,7 +4,7 @@ ghost use Rattle.std.specs.Prelude.{◌≡◌, IfOk};
 use crate::grammar::{COMMANDS, ENDS, KINDS, Next, Number, next_of};
 use crate::live::Live;
 use crate::own::{Own, id_word, is_option};
-use crate::scan::Scan;
+use crate::scan::{Scan, is_below_zero};
 use crate::suggestion::nearest;
 use ipmi_command_line::{UsageFault, Words, command_of};
 use ipmi_output::Part::{self, Name, Text};
@@ -100,6 +100,12 @@ fn push_corrected<'a>(
     value: &'a str,
     parts: &mut Line<'a>,
 ) -> Result<(), AllocError> {
+    if option == "--from" && value == "0000" {
+        return push_all(
+            parts,
+            &[Text(": leave it out to begin with the first record")],
+        );
+    }
     let digits = bare_digits(value);
     let zeros = match (option, digits.len()) {
         ("--from", 1) => "000",
@@ -196,6 +202,9 @@ fn of_word<'a>(
     if is_allowed(alloc, next, word)? {
         return Ok(None);
     }
+    if is_option(word) && word != "--" && !is_below_zero(word) {
+        return after_dashes(alloc, word).map(Some);
+    }
     match next {
         Next::Nothing => too_many(alloc, words, place),
         _ if word == "help" && place > 0 => late_help(alloc, before),
@@ -204,10 +213,34 @@ fn of_word<'a>(
         Next::Count(_) if place.saturating_add(1) < words.len() => {
             unknown(alloc, own, scanned, place, word, ENDS)
         }
+        Next::Number(_) | Next::Count(_) if word == "all" && prints_all(before) => {
+            without_all(alloc, before)
+        }
         Next::Number(number) | Next::Count(number) => not_a_number(alloc, number, word),
         Next::Name => return Ok(None),
     }
     .map(Some)
+}
+
+/// What is wrong with an option after `--`.
+const LATE_OPTION: &str = "' comes after --, where nothing is an option";
+
+/// An option after `--` that is not allowed there as a word.
+fn after_dashes<'a>(alloc: Global, word: &'a str) -> Result<Line<'a>, AllocError> {
+    line(alloc, &[Text("'"), Name(word), Text(LATE_OPTION)])
+}
+
+/// Whether these words print all, and take a number that says what to print.
+fn prints_all(words: &[&str]) -> bool {
+    matches!(words, ["sel", "list" | "elist"] | ["fru", "print"])
+}
+
+/// `all` in place of a number, after words that print all without one.
+fn without_all<'a>(alloc: Global, before: &[&'a str]) -> Result<Line<'a>, AllocError> {
+    let mut parts = line(alloc, &[Text("leave out 'all': '")])?;
+    push_joined(&mut parts, before)?;
+    parts.push(Text("' prints all"))?;
+    Ok(parts)
 }
 
 /// Whether the word may come next.
@@ -344,7 +377,6 @@ fn hint(scanned: &Scan<'_>, before: &[&str], word: &str) -> Option<&'static str>
         [] | ["help"] if word == "version" => "did you mean '--version'?",
         [] if word.contains(' ') => "write its words without quotes around them",
         _ if is_dashed => "an option begins with two plain dashes",
-        _ if is_option(word) => "after -- nothing is an option",
         _ if is_file && scanned.image.is_some() => "each file needs its own --image",
         _ if is_file => "a file comes after --image",
         _ => return None,
@@ -376,7 +408,7 @@ pub(crate) fn too_many<'a>(
     }
     let word = words.get(place).copied().unwrap_or("");
     if is_option(word) {
-        let parts = [Text("'"), Name(word), Text("' is no option after --")];
+        let parts = [Text("'"), Name(word), Text(LATE_OPTION)];
         return line(alloc, &parts);
     }
     let before = words.get(..place).unwrap_or(&[]);
@@ -400,8 +432,8 @@ pub(crate) fn too_many<'a>(
 /// The probable meaning of a word after these, if there is one.
 fn instead_after(words: &[&str]) -> &'static str {
     match words {
-        ["sensor", "list"] => ": one sensor is 'sensor get NAME'",
-        ["fru", "list"] => ": one device is 'fru print ID'",
+        ["sensor", "list"] => ": it takes no kind; for one sensor write 'sensor get NAME'",
+        ["fru", "list"] => ": for one device write 'fru print ID'",
         ["sel", "get", _] | ["fru", "print", _] => ": it takes one ID",
         ["sel", "list" | "elist", _] => ": for the oldest or newest events use first N or last N",
         _ => "",
@@ -518,6 +550,11 @@ fn only_in_hex<'a>(
         Name(word),
         Text("' is not a decimal number from "),
         Text(number.range),
+        Text(if word.starts_with('0') {
+            " without leading zeros"
+        } else {
+            ""
+        }),
         Text(": in hex write 0x"),
         Name(digits),
     ];

@@ -12,7 +12,7 @@ use ipmi_command_line::{Word, Words};
 use ipmi_output::Part::{Name, Text};
 use std::alloc::{AllocError, Global};
 
-/// All options.
+/// This program's options.
 const OPTIONS: [&str; 13] = [
     "--image",
     "--live",
@@ -29,7 +29,7 @@ const OPTIONS: [&str; 13] = [
     "--version",
 ];
 
-/// Those that have none.
+/// The options without a value.
 const FLAGS: [&str; 7] = [
     "--strict",
     "--quiet",
@@ -40,12 +40,12 @@ const FLAGS: [&str; 7] = [
     "-V",
 ];
 
-/// The options with which stock `ipmitool` connects. `serdimko-live` takes them.
+/// Options with which stock `ipmitool` connects, recognised as a whole word. `serdimko-live` takes them.
 const OF_TOOL: [&str; 11] = [
     "-E", "-p", "-f", "-t", "-b", "-B", "-d", "-K", "-m", "-T", "-z",
 ];
 
-/// And those whose value may follow at once.
+/// Such options that are also recognised with their value in the same word.
 const OF_TOOL_WITH_VALUE: [&str; 11] = [
     "-I", "-H", "-U", "-P", "-L", "-N", "-A", "-C", "-R", "-k", "-y",
 ];
@@ -86,7 +86,7 @@ impl<'a> Scan<'a> {
         }
     }
 
-    /// Keeps the option's value; true if it had none before. The first one of this program's own was taken out with its value.
+    /// Keeps the option's value. Returns false if the option was given before, or is one of serdimko's own, whose first was taken out.
     fn keep(&mut self, option: &str, value: &'a str) -> bool
         ensures value { kept (scan_of self.old) option.now value.entry.now ≡ (if result then Some (scan_of self.new) else None) }
         ensures words { HasWords self.old → HasWords self.new }
@@ -189,7 +189,11 @@ impl<'a> Scan<'a> {
             return of_tool(alloc, word, option);
         }
         if let Next::Name = next {
-            return unknown_option(alloc, word, ["put -- before names", "", ""]);
+            return unknown_option(
+                alloc,
+                word,
+                ["if it is a name, put the word -- before it", "", ""],
+            );
         }
         match word.strip_prefix("-o") {
             Some(value) if !value.is_empty() => next_value(alloc, value),
@@ -368,11 +372,20 @@ fn unknown_option<'a>(
 
 /// The word is, or begins with, this option of stock `ipmitool`. No password or key is shown.
 fn of_tool<'a>(alloc: Global, word: &'a str, option: &'static str) -> Result<Line<'a>, AllocError> {
-    let (write, end) = ("for a live machine write serdimko-live ", " .. -- COMMAND");
+    let (write, end) = ("for a live machine write serdimko-live ", " ... -- COMMAND");
     let password = "for a live machine put the password in IPMI_PASSWORD, and write serdimko-live ";
     match option {
         "-P" => unknown_option(alloc, option, [password, "-E", end]),
         "-k" | "-y" => unknown_option(alloc, option, [write, option, end]),
+        "-f" => unknown_option(
+            alloc,
+            option,
+            [
+                "for an image write --image FILE, ",
+                write,
+                "-f ... -- COMMAND",
+            ],
+        ),
         _ => unknown_option(alloc, word, [write, option, end]),
     }
 }
@@ -387,9 +400,9 @@ fn next_value<'a>(alloc: Global, value: &'a str) -> Result<Line<'a>, AllocError>
 /// What serves in place of an option that stock `ipmitool` has and this program lacks.
 fn instead_of(option: &str) -> &'static str {
     match option {
-        "-c" | "--csv" => "for a program write --json",
+        "-c" | "--csv" => "there is no CSV, but scripts can read --json",
         "-v" | "-vv" | "-vvv" | "--verbose" =>
-            "all about one thing is sdr get NAME, sensor get NAME or sel get ID",
+            "for all about one thing write sdr get NAME, sensor get NAME or sel get ID",
         _ => "see serdimko --help",
     }
 }
@@ -402,7 +415,7 @@ fn option_of_tool(word: &str) -> Option<&'static str> {
 }
 
 /// Whether the word begins as a number below zero.
-fn is_below_zero(word: &str) -> bool {
+pub(crate) fn is_below_zero(word: &str) -> bool {
     word.as_bytes()
         .get(1)
         .is_some_and(|byte| byte.is_ascii_digit())
