@@ -1,10 +1,9 @@
 -- Adding an item to an image that is being built keeps it the store of an image.
-use Rattle.std.proofs.Common.{◌≡◌, ℕ, suc, zero, ◌<◌, ◌≤◌, Bool, true, false, None, Some, is_some, not, Option, IsSome, List, [], ◌∷◌, ◌++◌, length, map, refl, sym, ap, subst, ◌∙◌, arith, option_map, slice_get, All, unwrap_or}
+use Rattle.std.proofs.Common.{◌≡◌, ℕ, suc, zero, ◌<◌, ◌≤◌, None, Some, Option, IsSome, List, [], ◌∷◌, ◌++◌, length, map, refl, ap, subst, arith, option_map, slice_get, unwrap_or}
 use Rattle.std.proofs.lemmas.Bool.Decides.{nat_tests}
 use Rattle.std.proofs.lemmas.Bool.{false≢true}
-use Rattle.std.proofs.lemmas.List.Elements.{All-push}
-use Rattle.ipmi_image.specs.Below.{AreBytes, Inventory, Reading, Row, Shelf, inventory_in, reading_in, IsInfo}
-use Rattle.ipmi_image.specs.Prelude.{SavedRow, StoredInventory, chained, HaveNext, kept_inventory, place_of, saved_row, with_bytes, inventory_fault, AreInventories}
+use Rattle.ipmi_image.specs.Below.{AreBytes, Row, inventory_in}
+use Rattle.ipmi_image.specs.Prelude.{SavedRow, StoredInventory, chained, HaveNext, kept_inventory, place_of, saved_row, inventory_fault, AreInventories}
 use Rattle.ipmi_image.proofs.StoreLemmas.{AreInventories-more}
 use Rattle.ipmi_image.proofs.TableLemmas.{with_bytes_new, inventory_in_place}
 

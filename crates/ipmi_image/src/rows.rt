@@ -1,7 +1,7 @@
 //! The records of a shelf, with all their bytes in one buffer.
 ghost use Rattle.ipmi_image.specs.declared.image_line.LineFault.{LineFault};
-ghost use Rattle.std.specs.Prelude.{◌≡◌, ◌≤◌, ◌<◌, ◌==◌, ◌^◌, ◌++◌, ◌∷◌, [], MatchBool, IfOk, IfSome, None, true, is_some, option_map, length, drop, slice_get, MatchResult, OnErr, ◌⊎◌};
-ghost use Rattle.ipmi_image.specs.Prelude.{first_id, place_of, id_of, row_of};
+ghost use Rattle.std.specs.Prelude.{◌≡◌, ◌+◌, ◌≤◌, ◌<◌, ◌==◌, ◌^◌, ◌++◌, ◌∷◌, [], MatchBool, IfOk, IfSome, None, true, is_some, option_map, length, drop, slice_get, MatchResult, OnErr, ◌⊎◌};
+ghost use Rattle.ipmi_image.specs.Prelude.{first_id, place_of, id_of, row_of, start_of};
 
 use crate::image_line::LineFault;
 use crate::table::{Table, TableItem};
@@ -9,11 +9,9 @@ use ipmi_bus::NO_NEXT_ID;
 use std::alloc::{AllocError, Global};
 use std::marker::Model;
 
-/// The room that a shelf begins with, in bytes of records and in records.
-// More than 128 KiB is mapped by itself: growing in the heap would leave gaps, and a page that is not used takes no memory.
+/// The capacity that a shelf begins with, in bytes of records.
+// So much is mapped by itself: growing in the heap would leave gaps, and a page that is not used takes no memory.
 const FIRST_BYTES: usize = 1 << 18;
-
-const FIRST_ROWS: usize = 1 << 14;
 
 /// A record of a shelf. If `next` is None, its next id is the id of the following record, or FFFFh for the last
 /// record.
@@ -24,14 +22,46 @@ pub(crate) struct StoredRow<'a> {
     pub(crate) bytes: &'a [u8],
 }
 
-/// A record of a shelf, with the offset and the number of its bytes in the buffer of the shelf.
-// The order of the fields leaves no gaps: an image has many of these.
+/// A record of a shelf, and where its bytes are in the buffer of the shelf.
+// An image has many of these, so they take 10 bytes each: no field needs an alignment of 4.
 #[derive(Clone, Copy)]
 pub(crate) struct RowHead {
-    start: u32,
-    len: u16,
     id: u16,
     next: Option<u16>,
+    /// The lower 16 bits of the offset of the first byte.
+    start_low: u16,
+    /// The upper 8 bits of that offset.
+    start_high: u8,
+    /// The distance from the first byte to the last one.
+    last: u8,
+}
+
+impl RowHead {
+    /// The head of a record whose bytes are at this offset.
+    fn new(row: &StoredRow, start: usize) -> RowHead
+        requires start { start < 2 ^ 24 }
+        requires some { 1 ≤ length row.now.bytes.now }
+        requires fits { length row.now.bytes.now ≤ 256 }
+        ensures id { result.id ≡ row.now.id }
+        ensures next { result.next ≡ row.now.next }
+        ensures start { start_of result ≡ start }
+        ensures len { result.last + 1 ≡ length row.now.bytes.now }
+    {
+        RowHead {
+            id: row.id,
+            next: row.next,
+            start_low: (start & 0xFFFF) as u16,
+            start_high: (start >> 16) as u8,
+            last: (row.bytes.len() - 1) as u8,
+        }
+    }
+
+    /// The offset of the first byte.
+    fn start(&self) -> usize
+        ensures { result ≡ start_of self.now }
+    {
+        (usize::from(self.start_high) << 16) + usize::from(self.start_low)
+    }
 }
 
 impl TableItem for RowHead {
@@ -42,13 +72,11 @@ impl TableItem for RowHead {
     }
 }
 
-/// Makes room for the first rows of a shelf.
-fn begin(heads: &mut Table<RowHead>, bytes: &mut Vec<u8>) -> Result<(), AllocError>
-    ensures heads { heads.new ≡ heads.old }
-    ensures bytes { bytes.new.items ≡ bytes.old.items }
+/// Makes room for the first bytes of a shelf.
+fn begin(bytes: &mut Vec<u8>) -> Result<(), AllocError>
+    ensures { bytes.new.items ≡ bytes.old.items }
 {
     if bytes.is_empty() {
-        heads.reserve(FIRST_ROWS)?;
         bytes.reserve(FIRST_BYTES)?;
     }
     Ok(())
@@ -113,12 +141,11 @@ impl Rows {
         ensures few { IfSome result (λ row. place < 65535) }
     {
         let head = self.heads.as_slice().get(place)?;
-        let start = head.start as usize;
-        let end = start + usize::from(head.len);
+        let start = head.start();
         Some(StoredRow {
             id: head.id,
             next: head.next,
-            bytes: &self.bytes[start..end],
+            bytes: &self.bytes[start..=start + usize::from(head.last)],
         })
     }
 
@@ -151,6 +178,7 @@ impl Rows {
     #[tactic(auto, using(crate::proofs::RowsLemmas::place_of_row_in))]
     pub(crate) fn push(&mut self, row: &StoredRow) -> Result<(), LineFault>
         requires id { row.now.id < 65535 }
+        requires some { 1 ≤ length row.now.bytes.now }
         requires fits { length row.now.bytes.now ≤ 256 }
         ensures err { OnErr result (self.new ≡ self.old) }
         ensures put { MatchResult result (λ done. (place_of id_of row.now.id self.old ≡ None) ×
@@ -158,16 +186,10 @@ impl Rows {
             (λ e. (e ≡ LineFault.Memory) ⊎ ((e ≡ LineFault.Twice) ×
             (is_some (place_of id_of row.now.id self.old) ≡ true))) }
     {
-        begin(&mut self.heads, &mut self.bytes)?;
+        begin(&mut self.bytes)?;
         let start = self.bytes.len();
         self.bytes.extend_from_slice(row.bytes)?;
-        let head = RowHead {
-            id: row.id,
-            next: row.next,
-            start: start as u32,
-            len: row.bytes.len() as u16,
-        };
-        if let Err(fault) = self.heads.push(head) {
+        if let Err(fault) = self.heads.push(RowHead::new(row, start)) {
             self.bytes.truncate(start);
             return Err(fault);
         }

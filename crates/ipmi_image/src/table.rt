@@ -55,14 +55,6 @@ impl<T: TableItem + Drop> Table<T> {
         self.items.as_slice()
     }
 
-    /// Makes room for as many more items.
-    pub(crate) fn reserve(&mut self, more: usize) -> Result<(), AllocError>
-        ensures { self.new ≡ self.old }
-    {
-        self.items.reserve(more)?;
-        Ok(())
-    }
-
     /// The index of the item with this key.
     pub(crate) fn place(&self, key: u16) -> Option<usize>
         ensures { result ≡ place_of T.key key self.now }

@@ -1,4 +1,4 @@
-use Rattle.std.proofs.Common.{◌≡◌, ◌++◌, ◌∷◌, [], ap, sym, subst, ◌∙◌, map, All, arith}
+use Rattle.std.proofs.Common.{◌≡◌, ◌++◌, ◌∷◌, [], ap, sym, subst, ◌∙◌, map, arith}
 use Rattle.std.proofs.lemmas.List.{map-append}
 use Rattle.ipmi_image.specs.Below.{AreBytes}
 use Rattle.ipmi_image.specs.Prelude.{AreInventories, kept_inventory}

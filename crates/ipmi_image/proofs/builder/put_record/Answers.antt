@@ -1,6 +1,5 @@
-use Rattle.std.proofs.Common.{◌≡◌, sym, ap, ◌∙◌, not, is_some, subst, refl}
+use Rattle.std.proofs.Common.{refl}
 use Rattle.ipmi_image.specs.Below.{row_of_record}
-use Rattle.ipmi_image.specs.Prelude.{chained, HaveNext}
 use Rattle.ipmi_image.proofs.BuildLemmas.{chained-snoc, HaveNext-snoc}
 use Rattle.ipmi_image.proofs.builder.put_record.Goals as goal
 

@@ -1,7 +1,7 @@
-use Rattle.std.proofs.Common.{◌≡◌, ℕ, List, Option, None, Some, ap, sym, ◌∙◌, slice_get, option_map}
+use Rattle.std.proofs.Common.{ℕ, List, Option, ap, sym, ◌∙◌, slice_get, option_map}
 use Rattle.std.specs.Borrow.{Bor}
 use Rattle.ipmi_image.specs.Below.{Row, rows_of, Store}
-use Rattle.ipmi_image.specs.Prelude.{chained, SavedRow}
+use Rattle.ipmi_image.specs.Prelude.{SavedRow}
 use Rattle.ipmi_image.proofs.BuildLemmas.{bytes-chained}
 use Rattle.ipmi_image.proofs.builder.ImageBuilder.record_bytes.Goals as goal
 
