@@ -101,10 +101,10 @@ def generated_line(rng, images):
 
 OWN = {"-h", "--help", "-V", "--version", "--strict", "--id", "help", "sensor"}
 USAGE = b"usage: ipmitool [--image FILE] [--from HEX4] [--part N] [--tries N] fru|sdr|sel WORDS\n"
-WHY_NOT_READ = b": (no such file|is a directory|part of its path is not a directory|too many symbolic links|file name too long|permission denied|longer than 64 MiB|reason not known)"
+WHY_NOT_READ = b": (no such file|is a directory|part of its path is not a directory|too many symbolic links|file name too long|permission denied|longer than 64 MiB|input/output error)"
 EXPLANATION = rb" \([^\n]+\)"
 WHY_NO_HEADER = (
-    rb"( \((the input is empty: --image FILE reads an image, and serdimko-live a live machine|compressed: unpack it first|line ends are CR LF: use LF alone|line ends are CR: use LF alone|begins with a byte order mark: save it without"
+    rb"( \((it is empty: make an image with 'serdimko-live \.\.\. -- capture', and read it with --image FILE|compressed: unpack it first|line ends are CR LF: use LF alone|line ends are CR: use LF alone|begins with a byte order mark: save it without"
     rb"|is UTF-16 or UTF-32: save it as UTF-8|not an image: the first line has to be exactly 'ipmi-image 1' or 'ipmi-image 2', ended by a line feed; 'serdimko-live ... -- capture' makes an image)\))"
 )
 

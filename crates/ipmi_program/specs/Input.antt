@@ -28,7 +28,7 @@ input_fault_words InputFault.LinkLoop = codes "too many symbolic links"
 input_fault_words InputFault.NameTooLong = codes "file name too long"
 input_fault_words InputFault.PermissionDenied = codes "permission denied"
 input_fault_words InputFault.TooLong = codes "longer than 64 MiB"
-input_fault_words InputFault.Other = codes "reason not known"
+input_fault_words InputFault.Other = codes "input/output error"
 
 -- the name of the input in messages
 abbrev pub input_name : Option (List ℕ) → List ℕ

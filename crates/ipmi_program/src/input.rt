@@ -53,7 +53,7 @@ impl InputFault {
             InputFault::NameTooLong => "file name too long",
             InputFault::PermissionDenied => "permission denied",
             InputFault::TooLong => "longer than 64 MiB",
-            InputFault::Other => "reason not known",
+            InputFault::Other => "input/output error",
         }
     }
 }

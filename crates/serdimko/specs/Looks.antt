@@ -147,7 +147,7 @@ looks_in bytes fault = Looks.Unknown
 -- what is known of input that does not begin as an image
 abbrev pub header_words : Looks → List ℕ
 header_words Looks.Empty =
-    codes " (the input is empty: --image FILE reads an image, and serdimko-live a live machine)"
+    codes " (it is empty: make an image with 'serdimko-live ... -- capture', and read it with --image FILE)"
 header_words Looks.Compressed = codes " (compressed: unpack it first)"
 header_words Looks.ByteOrderMark = codes " (begins with a byte order mark: save it without)"
 header_words Looks.Wide = codes " (is UTF-16 or UTF-32: save it as UTF-8)"
@@ -200,7 +200,7 @@ abbrev pub length_words : Looks → List ℕ
 length_words Looks.Event = codes " (sel takes 16 bytes)"
 length_words Looks.Reading = codes " (reading takes 4 bytes)"
 length_words Looks.Info = codes " (info takes 14 bytes)"
-length_words _ = codes " (sdr takes 5 bytes and as many more as the fifth says, at most 256)"
+length_words _ = codes " (sdr takes 5 bytes and as many more as the fifth says, at most 256 in all)"
 
 -- what is missing at the end
 abbrev pub end_words : Looks → List ℕ
@@ -217,8 +217,8 @@ explanation (ImageFault.Id line) looks = id_words looks
 explanation (ImageFault.Twice line) looks = twice_words looks
 explanation (ImageFault.Length line) looks = length_words looks
 explanation (ImageFault.FirstId line) looks =
-    codes " (the first record's bytes have to begin with its own id, low byte first: id 0001 as 0100)"
+    codes " (the first record's bytes have to begin with the ID of its line, low byte first: ID 12ab as ab12)"
 explanation (ImageFault.AfterEnd line) looks = codes " (the line 'end' has to be the last)"
-explanation (ImageFault.TooMany line) looks = codes " (all lines of an inventory have at most 65,535)"
+explanation (ImageFault.TooMany line) looks = codes " (with this line the inventory has more than 65,535)"
 explanation ImageFault.NoEnd looks = end_words looks
 explanation ImageFault.Memory looks = []

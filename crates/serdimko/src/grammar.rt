@@ -30,6 +30,8 @@ pub(crate) struct Number {
     pub(crate) is_id: bool,
     /// Which listing prints it, if it is an ID.
     pub(crate) listed: &'static str,
+    /// Its range in hex, if it is an ID.
+    pub(crate) in_hex: &'static str,
 }
 
 const COUNT: Number = Number {
@@ -38,6 +40,7 @@ const COUNT: Number = Number {
     after: &["--", "sel", "list"],
     is_id: false,
     listed: "",
+    in_hex: "",
 };
 
 const ENTRY: Number = Number {
@@ -46,6 +49,7 @@ const ENTRY: Number = Number {
     after: &["--", "sel", "get"],
     is_id: true,
     listed: "'sel list' prints IDs in hex, and 'sel get --id ID' takes them",
+    in_hex: "IDs in hex are 0x1 to 0xFFFE",
 };
 
 const DEVICE: Number = Number {
@@ -54,6 +58,7 @@ const DEVICE: Number = Number {
     after: &["--", "fru", "print"],
     is_id: false,
     listed: "'fru list' prints the ID of each device",
+    in_hex: "IDs in hex are 0x0 to 0xFE",
 };
 
 /// The words that may come next.

@@ -336,7 +336,7 @@ fn header_words(looks: Looks) -> &'static str
 {
     match looks {
         Looks::Empty =>
-            " (the input is empty: --image FILE reads an image, and serdimko-live a live machine)",
+            " (it is empty: make an image with 'serdimko-live ... -- capture', and read it with --image FILE)",
         Looks::Compressed => " (compressed: unpack it first)",
         Looks::ByteOrderMark => " (begins with a byte order mark: save it without)",
         Looks::Wide => " (is UTF-16 or UTF-32: save it as UTF-8)",
@@ -415,7 +415,7 @@ fn length_words(looks: Looks) -> &'static str
         Looks::Event => " (sel takes 16 bytes)",
         Looks::Reading => " (reading takes 4 bytes)",
         Looks::Info => " (info takes 14 bytes)",
-        _ => " (sdr takes 5 bytes and as many more as the fifth says, at most 256)",
+        _ => " (sdr takes 5 bytes and as many more as the fifth says, at most 256 in all)",
     }
 }
 
@@ -442,10 +442,10 @@ pub(crate) fn explanation(fault: ImageFault, looks: Looks) -> &'static str
         ImageFault::Twice(_) => twice_words(looks),
         ImageFault::Length(_) => length_words(looks),
         ImageFault::FirstId(_) => {
-            " (the first record's bytes have to begin with its own id, low byte first: id 0001 as 0100)"
+            " (the first record's bytes have to begin with the ID of its line, low byte first: ID 12ab as ab12)"
         }
         ImageFault::AfterEnd(_) => " (the line 'end' has to be the last)",
-        ImageFault::TooMany(_) => " (all lines of an inventory have at most 65,535)",
+        ImageFault::TooMany(_) => " (with this line the inventory has more than 65,535)",
         ImageFault::NoEnd => end_words(looks),
         ImageFault::Memory => "",
     }

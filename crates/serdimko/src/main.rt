@@ -243,7 +243,7 @@ fn print_commands<E: MessageSink>(
         let _ = say_line(
             err,
             &[Text(
-                "reading an image from the terminal: a file needs --image FILE, a live machine serdimko-live",
+                "waiting for an image from the terminal: write --image FILE to read a file, or use serdimko-live for a live machine",
             )],
         );
     }

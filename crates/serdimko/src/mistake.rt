@@ -504,8 +504,7 @@ pub(crate) fn not_a_number<'a>(
     if let Some(digits) = hex_in(alloc, number, word)? {
         return only_in_hex(alloc, number, word, digits);
     }
-    let why = if is_name(word) { number.listed } else { "" };
-    let (before, why, after) = match why {
+    let (before, why, after) = match reason(number, word) {
         "" => (
             " (",
             "decimal without leading zeros, or 0x and up to four hex digits",
@@ -565,11 +564,20 @@ fn only_in_hex<'a>(
     Ok(parts)
 }
 
-/// Whether the word is no attempt at a number: it begins with a letter, and has one that is no hex digit.
-fn is_name(word: &str) -> bool {
-    let bytes = word.as_bytes();
-    bytes.first().is_some_and(|byte| byte.is_ascii_alphabetic())
-        && !bytes.iter().all(|byte| byte.is_ascii_hexdigit())
+/// Why a word that begins with a letter is not this number: it is out of range in hex, or a name. Empty for other words.
+fn reason(number: Number, word: &str) -> &'static str {
+    let digits = word.strip_suffix("h").unwrap_or(word).as_bytes();
+    if !digits
+        .first()
+        .is_some_and(|byte| byte.is_ascii_alphabetic())
+    {
+        return "";
+    }
+    if digits.iter().all(|byte| byte.is_ascii_hexdigit()) {
+        number.in_hex
+    } else {
+        number.listed
+    }
 }
 
 // ---- parts

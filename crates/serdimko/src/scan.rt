@@ -402,7 +402,7 @@ fn instead_of(option: &str) -> &'static str {
     match option {
         "-c" | "--csv" => "there is no CSV, but scripts can read --json",
         "-v" | "-vv" | "-vvv" | "--verbose" =>
-            "for all about one thing write sdr get NAME, sensor get NAME or sel get ID",
+            "for the details of one record, sensor or event write sdr get NAME, sensor get NAME or sel get ID; for the version -V",
         _ => "see serdimko --help",
     }
 }

@@ -87,7 +87,7 @@ const FAULTS: [(ErrorKind, InputFault, &str); 8] = [
         InputFault::PermissionDenied,
         "permission denied",
     ),
-    (ErrorKind::TimedOut, InputFault::Other, "reason not known"),
+    (ErrorKind::TimedOut, InputFault::Other, "input/output error"),
 ];
 
 /// Asserts the fault of a reader that fails with this kind of error.
