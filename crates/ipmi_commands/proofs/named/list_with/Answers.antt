@@ -1,3 +1,4 @@
+use Rattle.std.proofs.Common.{rules}
 use Rattle.ipmi_commands.specs.Below.{records_in}
 use Rattle.ipmi_commands.proofs.AskLemmas.{passed}
 use Rattle.ipmi_commands.proofs.NamedLemmas.{with_without_memory}
@@ -10,3 +11,6 @@ returns-in_err-of-in-Events-clause-runs g c =
 pub returns-in_err-name-in-Devices-clause-runs : goal.returns-in_err-name-in-Devices-clause-runs
 returns-in_err-name-in-Devices-clause-runs g c =
     rw (passed _ _ c.from_residual-in_err-name-in-Devices.ensures.1) (with_without_memory c.args.wording (records_in c.args.records.items) c.args.named c.args.cmd.now.tries (g.C.Controller.seen c.args.ctl.now) (g.O.Sink.taken c.args.out.now))
+
+pub returns-clause-runs : goal.returns-clause-runs
+returns-clause-runs g c = search rules

@@ -1,3 +1,4 @@
+use Rattle.std.proofs.Common.{rules}
 use Rattle.ipmi_commands.proofs.AskLemmas.{passed}
 use Rattle.ipmi_commands.proofs.PerformLemmas.{info_found, info_unread}
 use Rattle.ipmi_commands.proofs.perform.print_info.Goals as goal
@@ -10,3 +11,6 @@ pub returns-in-Some-clause-runs : goal.returns-in-Some-clause-runs
 returns-in-Some-clause-runs g c =
     rw (← c.tries.ensures) (info_found c.args.wording c.args.shelf _ _ _ c.info_text.ensures.calls _ _ c.in-Some.text c.write_text.result (rw c.in-Some.is at c.in_ok-text.ensures.honest)
     (rw c.as_slice.ensures.value at c.write_text.ensures.text))
+
+pub returns-in-None-clause-runs : goal.returns-in-None-clause-runs
+returns-in-None-clause-runs g c = search rules
