@@ -79,7 +79,9 @@ pub(crate) struct FaultLines {
 
 impl FaultLines {
     /// At the beginning of a line.
-    pub(crate) fn new() -> FaultLines {
+    pub(crate) fn new() -> FaultLines
+        ensures { result.faults ≡ 0 }
+    {
         FaultLines {
             line: [0; KEPT],
             len: 0,

@@ -1,5 +1,5 @@
 //! Counts the lines of the output, and those that tell a fault, and notes that the output was closed.
-ghost use Rattle.std.specs.Prelude.{◌≡◌, ◌==◌, ◌++◌, [], IsSome, List, ℕ, Some, count_by, length, option_map, unwrap_or};
+ghost use Rattle.std.specs.Prelude.{◌≡◌, ◌==◌, ◌++◌, [], false, is_some, IsSome, List, ℕ, Some, count_by, length, option_map, unwrap_or};
 ghost use Rattle.std.specs.Borrow.{ftrue};
 ghost use Rattle.serdimko.specs.Watch.{lines_in, faults_in};
 
@@ -73,9 +73,12 @@ pub(crate) struct Watch<W: Write> {
 }
 
 impl<W: Write> Watch<W> {
-    /// Over a writer, at the beginning of a line.
+    /// Over a writer, at the beginning of a line. It looks for faults only if it counts them.
     pub(crate) fn new(writer: W, counts_faults: bool) -> Watch<W>
-        ensures { result.taken.bytes ≡ [] }
+        ensures taken { result.taken.bytes ≡ [] }
+        ensures counts { is_some result.fault_lines ≡ counts_faults }
+        ensures faults { faults_in result.fault_lines ≡ 0 }
+        ensures open { result.is_closed ≡ false }
     {
         let begun = Snapshot::of(&writer);
         Watch {
