@@ -28,9 +28,16 @@ pub(crate) struct Number {
     pub(crate) after: &'static [&'static str],
     /// Whether listings print it in hex without `0x`, as `--id` takes it.
     pub(crate) is_id: bool,
-    /// Which listing prints it, if it is an ID.
+    /// What messages say of its IDs, if it is one.
+    pub(crate) ids: Option<Ids>,
+}
+
+/// What messages say of the IDs of entries or devices.
+#[derive(Clone, Copy)]
+pub(crate) struct Ids {
+    /// Which listing prints them.
     pub(crate) listed: &'static str,
-    /// Its range in hex, if it is an ID.
+    /// Their range in hex.
     pub(crate) in_hex: &'static str,
 }
 
@@ -39,8 +46,7 @@ const COUNT: Number = Number {
     range: "0 to 65535",
     after: &["--", "sel", "list"],
     is_id: false,
-    listed: "",
-    in_hex: "",
+    ids: None,
 };
 
 const ENTRY: Number = Number {
@@ -48,8 +54,10 @@ const ENTRY: Number = Number {
     range: "1 to 65534",
     after: &["--", "sel", "get"],
     is_id: true,
-    listed: "'sel list' prints IDs in hex, and 'sel get --id ID' takes them",
-    in_hex: "IDs in hex are 0x1 to 0xFFFE",
+    ids: Some(Ids {
+        listed: "'sel list' prints IDs in hex, and 'sel get --id ID' takes them",
+        in_hex: "IDs in hex are 0x1 to 0xFFFE",
+    }),
 };
 
 const DEVICE: Number = Number {
@@ -57,8 +65,10 @@ const DEVICE: Number = Number {
     range: "0 to 254",
     after: &["--", "fru", "print"],
     is_id: false,
-    listed: "'fru list' prints the ID of each device",
-    in_hex: "IDs in hex are 0x0 to 0xFE",
+    ids: Some(Ids {
+        listed: "'fru list' prints the ID of each device",
+        in_hex: "IDs in hex are 0x0 to 0xFE",
+    }),
 };
 
 /// The words that may come next.

@@ -505,12 +505,12 @@ pub(crate) fn not_a_number<'a>(
         return only_in_hex(alloc, number, word, digits);
     }
     let (before, why, after) = match reason(number, word) {
-        "" => (
+        None => (
             " (",
             "decimal without leading zeros, or 0x and up to four hex digits",
             ")",
         ),
-        listed => (": ", listed, ""),
+        Some(reason) => (": ", reason, ""),
     };
     let parts = [
         Text("'"),
@@ -564,20 +564,18 @@ fn only_in_hex<'a>(
     Ok(parts)
 }
 
-/// Why a word that begins with a letter is not this number: it is out of range in hex, or a name. Empty for other words.
-fn reason(number: Number, word: &str) -> &'static str {
+/// Why a word that begins with a letter is not this number, if that is an ID: it is out of range in hex, or a name.
+fn reason(number: Number, word: &str) -> Option<&'static str> {
+    let ids = number.ids?;
     let digits = word.strip_suffix("h").unwrap_or(word).as_bytes();
-    if !digits
-        .first()
-        .is_some_and(|byte| byte.is_ascii_alphabetic())
-    {
-        return "";
+    if !digits.first()?.is_ascii_alphabetic() {
+        return None;
     }
-    if digits.iter().all(|byte| byte.is_ascii_hexdigit()) {
-        number.in_hex
+    Some(if digits.iter().all(|byte| byte.is_ascii_hexdigit()) {
+        ids.in_hex
     } else {
-        number.listed
-    }
+        ids.listed
+    })
 }
 
 // ---- parts
