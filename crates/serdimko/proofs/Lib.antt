@@ -1,5 +1,6 @@
 pub mod AskedLemmas
 pub mod CapturedLemmas
+pub mod FaultLemmas
 pub mod ImageLemmas
 pub mod LabelLemmas
 pub mod ObjectLemmas

@@ -1,5 +1,6 @@
 pub mod Asked
 pub mod Captured
+pub mod FaultLines
 pub mod Labels
 pub mod Live
 pub mod Looks

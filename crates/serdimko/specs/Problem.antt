@@ -1,5 +1,5 @@
 -- Why an image was not printed, or not completely: when, with which message, and with which status.
-use Rattle.std.specs.Prelude.{◌≡◌, ◌==◌, ◌⊎◌, not, ℕ, max, ◌∷◌, Bool, true, false, List, [], ◌++◌, codes, decimal, Option, Some, None, Result, Ok, Err, String, string_bytes, unwrap_or, Vec}
+use Rattle.std.specs.Prelude.{◌≡◌, ◌==◌, ◌⊎◌, not, ℕ, max, ◌∷◌, Bool, true, false, List, [], ◌++◌, codes, decimal, is_some, Option, Some, None, Result, Ok, Err, String, string_bytes, unwrap_or, Vec}
 use Rattle.std.specs.declared.alloc.Global.{Global}
 use Rattle.std.specs.Io.Buffered.{writer_buffer, writer_inner}
 use Rattle.std.specs.declared.io.buffered.BufWriter.{BufWriter}
@@ -128,8 +128,8 @@ abbrev pub held_by : {W : Type 0} {inner : Ghosts W} {write : Ghosts (BufWriter 
     → Written (BufWriter (Watch W inner) Global) write → List ℕ
 held_by out = writer_buffer (writer_of out)
 
--- what left its buffer, and how many lines that is; how many with faults its watch counted, and whether it noted that the output
--- was closed
+-- what left its buffer, how many lines that is, and how many of them tell a fault, if its watch counts these; whether it noted
+-- that the output was closed
 abbrev pub handed_on : {W : Type 0} {inner : Ghosts W} {write : Ghosts (BufWriter (Watch W inner) Global)}
     → Written (BufWriter (Watch W inner) Global) write → List ℕ
 handed_on out = (writer_inner (writer_of out)).taken.bytes
@@ -140,7 +140,7 @@ lines_seen out = lines_in (handed_on out)
 
 abbrev pub faults_seen : {W : Type 0} {inner : Ghosts W} {write : Ghosts (BufWriter (Watch W inner) Global)}
     → Written (BufWriter (Watch W inner) Global) write → ℕ
-faults_seen out = faults_in (writer_inner (writer_of out)).fault_lines
+faults_seen out = faults_in (is_some (writer_inner (writer_of out)).fault_lines) (handed_on out)
 
 abbrev pub is_closed : {W : Type 0} {inner : Ghosts W} {write : Ghosts (BufWriter (Watch W inner) Global)}
     → Written (BufWriter (Watch W inner) Global) write → Bool

@@ -1,6 +1,8 @@
 //! Counts the lines of the output, and those that tell a fault, and notes that the output was closed.
-ghost use Rattle.std.specs.Prelude.{◌≡◌, ◌==◌, ◌++◌, [], false, is_some, IsSome, List, ℕ, Some, count_by, length, option_map, unwrap_or};
+ghost use Rattle.std.specs.Prelude.{◌≡◌, ◌==◌, ◌++◌, [], false, is_some, IsSome, List, ℕ, Some, count_by, length, option_map, take, unwrap_or};
 ghost use Rattle.std.specs.Borrow.{ftrue};
+ghost use Rattle.std.specs.Option.{ForSome};
+ghost use Rattle.serdimko.specs.FaultLines.{HasSeen};
 ghost use Rattle.serdimko.specs.Watch.{lines_in, faults_in};
 
 use crate::fault_lines::FaultLines;
@@ -69,6 +71,7 @@ pub(crate) struct Watch<W: Write> {
     fault_lines: Option<FaultLines>,
     is_closed: bool,
     ghost counted: { lines ≡ lines_in taken.bytes },
+    ghost looked: { ForSome fault_lines (λ seen. HasSeen seen.faults (take seen.len seen.line) taken.bytes) },
     ghost told: { ((w : W) → IsSome (W.contents w)) → W.contents writer ≡ Some (unwrap_or (W.contents begun.value) [] ++ taken.bytes) },
 }
 
@@ -77,7 +80,6 @@ impl<W: Write> Watch<W> {
     pub(crate) fn new(writer: W, counts_faults: bool) -> Watch<W>
         ensures taken { result.taken.bytes ≡ [] }
         ensures counts { is_some result.fault_lines ≡ counts_faults }
-        ensures faults { faults_in result.fault_lines ≡ 0 }
         ensures open { result.is_closed ≡ false }
     {
         let begun = Snapshot::of(&writer);
@@ -102,9 +104,9 @@ impl<W: Write> Watch<W> {
         self.lines
     }
 
-    /// The number of lines with faults.
+    /// How many of the lines that were taken tell a fault, if these are counted.
     pub(crate) fn faults(&self) -> usize
-        ensures { result ≡ faults_in self.now.fault_lines }
+        ensures { result ≡ faults_in (is_some self.now.fault_lines) self.now.taken.bytes }
     {
         match &self.fault_lines {
             Some(lines) => lines.faults(),
