@@ -166,7 +166,11 @@ says 2 '--image does not go with a live controller' -- --image x sdr
 says 2 "'image rewrite' needs a saved image" -- image rewrite
 says 2 'live: -- is missing before the command, as in: live -I open -- sdr list' sdr list
 says 2 'live: all users would see the password of -P: use -E with IPMI_PASSWORD, or -f FILE' -P secret -- sdr
-says 2 'live: all users would see the password of -psecret: use -P, or --config-file=FILE' --freeipmi -psecret -- sdr
+says 2 'live: all users would see the key of -k or -y: use -K with IPMI_KGKEY, or -Y' -k secret -- sdr
+says 2 'live: all users would see the password of -p: use -P, or --config-file=FILE' --freeipmi -psecret -- sdr
+says 2 'live: all users would see the password of -p: use -P, or --config-file=FILE' --freeipmi --password=secret -- sdr
+says 2 'live: all users would see the key of -k: use -K, or --config-file=FILE' --freeipmi --k-g=secret -- sdr
+says 2 'live: -- is missing before the command, as in: live -I open -- sdr list' --freeipmi --password-prompt sdr
 live --help
 if [ "$status" -ne 0 ] || ! grep -q '^usage: live ' "$work/out"; then fault '--help'; fi
 

@@ -36,7 +36,7 @@ labels_of image texts = fold (λ labels text. with_label labels (label_of text))
 -- a key of an object, or of an earlier label
 abbrev pub key_fault : List ℕ → List KeyValue → Option (List ℕ)
 key_fault key before =
-    if list_any (λ own. bytes_eq own.now key) KEYS then Some (codes "': objects already have this key")
+    if list_any (λ own. bytes_eq own.now key) KEYS then Some (codes "': --json has a key of its own with this name")
     else (if list_any (λ label. bytes_eq label.key key) before then Some (codes "': an earlier label has this key")
     else None)
 

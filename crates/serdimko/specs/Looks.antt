@@ -180,7 +180,7 @@ abbrev pub digit_words : Looks → List ℕ
 digit_words Looks.CrLf = codes " (it ends with CR LF: use LF alone)"
 digit_words Looks.Tab = codes " (it has a tab: between two fields one space, and none at the end)"
 digit_words Looks.Odd = codes " (an odd number of digits: each byte has two)"
-digit_words _ = codes " (a character is no hex digit)"
+digit_words _ = codes " (a field has a character that is not a hex digit)"
 
 -- why a line may not have its id
 abbrev pub id_words : Looks → List ℕ

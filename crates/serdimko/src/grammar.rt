@@ -66,7 +66,7 @@ const DEVICE: Number = Number {
     after: &["--", "fru", "print"],
     is_id: false,
     ids: Some(Ids {
-        listed: "'fru list' prints the ID of each device",
+        listed: "'fru list' prints IDs",
         in_hex: "IDs in hex are 0x0 to 0xFE",
     }),
 };

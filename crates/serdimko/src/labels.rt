@@ -118,7 +118,7 @@ fn fault_of(label: Option<Label<'_>>, before: &[Label<'_>]) -> Option<&'static s
         return Some("' is not KEY=VALUE");
     };
     if KEYS.contains(&label.key) {
-        return Some("': objects already have this key");
+        return Some("': --json has a key of its own with this name");
     }
     if has_key(before, label.key) {
         return Some("': an earlier label has this key");

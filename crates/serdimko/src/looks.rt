@@ -380,7 +380,7 @@ fn digit_words(looks: Looks) -> &'static str
         Looks::CrLf => " (it ends with CR LF: use LF alone)",
         Looks::Tab => " (it has a tab: between two fields one space, and none at the end)",
         Looks::Odd => " (an odd number of digits: each byte has two)",
-        _ => " (a character is no hex digit)",
+        _ => " (a field has a character that is not a hex digit)",
     }
 }
 

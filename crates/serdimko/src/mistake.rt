@@ -171,7 +171,10 @@ fn of_values<'a>(
 fn misplaced_from<'a>(alloc: Global, words: &[&'a str]) -> Result<Line<'a>, AllocError> {
     let mut parts = line(alloc, &[Text("--from does not go with '")])?;
     push_joined(&mut parts, words.get(..2).unwrap_or(words))?;
-    parts.push(Text("'"))?;
+    parts.push(Text(match words {
+        ["sel"] => "', which is 'sel info': write 'sel list' or 'sel elist'",
+        _ => "'",
+    }))?;
     Ok(parts)
 }
 
