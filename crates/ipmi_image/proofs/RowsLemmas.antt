@@ -1,9 +1,9 @@
 -- The records of a shelf, whose bytes are in one list.
-use Rattle.std.proofs.Common.{◌≡◌, ℕ, zero, suc, ◌+◌, ◌<◌, ◌≤◌, None, Some, List, [], ◌∷◌, ◌++◌, length, drop, map, refl, ◌∙◌, arith, All, option_map, slice_get, unwrap_or, length-drop}
+use Rattle.std.proofs.Common.{◌≡◌, ℕ, zero, suc, ◌+◌, ◌<◌, ◌≤◌, Option, None, Some, List, [], ◌∷◌, ◌++◌, length, drop, map, refl, ◌∙◌, arith, All, option_map, slice_get, unwrap_or, length-drop}
 use Rattle.std.proofs.lemmas.Option.{get_or_from_slice_get, slice_get_cases, slice_get_within}
 use Rattle.std.proofs.lemmas.List.{map-append, take-append-le, drop-append-le, drop_more, drop_all}
 use Rattle.std.proofs.Math.Seq.{take-length, drop-append_seam}
-use Rattle.ipmi_image.specs.Prelude.{RowHead, SavedRow, first_id, place_of, id_of, row_in, start_of}
+use Rattle.ipmi_image.specs.Prelude.{RowHead, SavedRow, first_id, place_of, id_of, row_in}
 
 abbrev pub head_id : RowHead → ℕ
 head_id head = head.id
@@ -35,19 +35,20 @@ pub drop-past : (rows : List SavedRow) (place : ℕ) → slice_get rows place �
     → drop place rows ≡ []
 drop-past rows place past = drop_all place rows (grind (arith, slice_get_cases rows place))
 
--- appending bytes does not change the existing rows
-pub map-row_in_longer : (bytes more : List ℕ) (heads : List RowHead)
-    → All (λ head. start_of head + (head.last + 1) ≤ length bytes) heads
-    → map (row_in (bytes ++ more)) heads ≡ map (row_in bytes) heads
-map-row_in_longer bytes more [] within = refl
-map-row_in_longer bytes more (head ∷ heads) within =
-    let fits = within 0 head (omega arith) in
-    let len = length-drop (start_of head) bytes in
-    rw (drop-append-le (start_of head) bytes more (omega (arith, fits)), take-append-le (head.last + 1) (drop (start_of head) bytes) more (omega (arith, fits, len)), map-row_in_longer bytes more heads (λ k d lt. within (suc k) d (omega (arith, lt)))) refl
+module _ (bytes more : List ℕ) where
+  -- appending bytes does not change the existing rows
+  pub map-row_in_longer : (heads : List RowHead)
+      → All (λ head. head.start + head.len ≤ length bytes) heads
+      → map (row_in (bytes ++ more)) heads ≡ map (row_in bytes) heads
+  map-row_in_longer [] within = refl
+  map-row_in_longer (head ∷ heads) within =
+      let fits = within 0 head (omega arith) in
+      let len = length-drop head.start bytes in
+      rw (drop-append-le head.start bytes more (omega (arith, fits)), take-append-le head.len (drop head.start bytes) more (omega (arith, fits, len)), map-row_in_longer heads (λ k d lt. within (suc k) d (omega (arith, lt)))) refl
 
-module _ (bytes : List ℕ) (heads : List RowHead) (row : SavedRow) (head : RowHead) where
-  pub map-row_in_with : head.id ≡ row.id → head.next ≡ row.next → start_of head ≡ length bytes
-      → head.last + 1 ≡ length row.bytes
-      → All (λ head. start_of head + (head.last + 1) ≤ length bytes) heads
-      → map (row_in (bytes ++ row.bytes)) (heads ++ head ∷ []) ≡ map (row_in bytes) heads ++ row ∷ []
-  map-row_in_with id next start len within = map-append (row_in (bytes ++ row.bytes)) heads _ ∙ rw (map-row_in_longer bytes row.bytes heads within, id, next, start, len, drop-append_seam bytes row.bytes, take-length row.bytes) refl
+  pub map-row_in_with : (heads : List RowHead) (id : ℕ) (next : Option ℕ)
+      → All (λ head. head.start + head.len ≤ length bytes) heads
+      → map (row_in (bytes ++ more)) (heads
+      ++ record { id = id; next = next; start = length bytes; len = length more } ∷ [])
+      ≡ map (row_in bytes) heads ++ record { id = id; next = next; bytes = more } ∷ []
+  map-row_in_with heads id next within = map-append (row_in (bytes ++ more)) heads _ ∙ rw (map-row_in_longer heads within, drop-append_seam bytes more, take-length more) refl

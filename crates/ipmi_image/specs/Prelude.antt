@@ -8,7 +8,7 @@ unfoldable pub use Rattle.ipmi_image.specs.Line.{line_of}
 pub use Rattle.ipmi_image.specs.Responder.{fru_answer, IsCopied, number_after, out_of_range, part_answer, place_asked, seen_as, size_answer, with_reservation}
 pub use Rattle.ipmi_image.specs.Rewritten.{first_parts, hex_of, info_lines, inventory_lines, IsSaved, line_text, lines_text, next_field, other_lines, part_fields, parts_of, reading_fields, record_line_of, RewritingKeepsStores, row_fields, rows_lines}
 unfoldable pub use Rattle.ipmi_image.specs.Rewritten.{image_text_of}
-pub use Rattle.ipmi_image.specs.Rows.{row_in, row_of, start_of}
+pub use Rattle.ipmi_image.specs.Rows.{row_in, row_of}
 pub use Rattle.ipmi_image.specs.Stored.{AreInventories, AreReadings, HoldsLines, IsRead, Puts, said, sensor_of, store_of}
 pub use Rattle.ipmi_image.specs.Table.{HasRoom, kept_inventory, IsIndex, place_in, place_of, sensor_key}
 unfoldable pub use Rattle.ipmi_image.specs.Text.{pieces}

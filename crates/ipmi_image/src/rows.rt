@@ -1,7 +1,7 @@
 //! The records of a shelf, with all their bytes in one buffer.
 ghost use Rattle.ipmi_image.specs.declared.image_line.LineFault.{LineFault};
 ghost use Rattle.std.specs.Prelude.{◌≡◌, ◌+◌, ◌≤◌, ◌<◌, ◌==◌, ◌^◌, ◌++◌, ◌∷◌, [], MatchBool, IfOk, IfSome, None, true, is_some, option_map, length, drop, slice_get, MatchResult, OnErr, ◌⊎◌};
-ghost use Rattle.ipmi_image.specs.Prelude.{first_id, place_of, id_of, row_of, start_of};
+ghost use Rattle.ipmi_image.specs.Prelude.{first_id, place_of, id_of, row_of};
 
 use crate::image_line::LineFault;
 use crate::table::{Table, TableItem};
@@ -22,46 +22,81 @@ pub(crate) struct StoredRow<'a> {
     pub(crate) bytes: &'a [u8],
 }
 
-/// A record of a shelf, and where its bytes are in the buffer of the shelf.
-// An image has many of these, so they take 10 bytes each: no field needs an alignment of 4.
-#[derive(Clone, Copy)]
-pub(crate) struct RowHead {
-    id: u16,
-    next: Option<u16>,
-    /// The lower 16 bits of the offset of the first byte.
-    start_low: u16,
-    /// The upper 8 bits of that offset.
-    start_high: u8,
-    /// The distance from the first byte to the last one.
-    last: u8,
+/// A number below 2^24. Three bytes need no alignment.
+#[derive(Drop)]
+pub(crate) struct Offset {
+    low: u8,
+    middle: u8,
+    high: u8,
 }
 
-impl RowHead {
-    /// The head of a record whose bytes are at this offset.
-    fn new(row: &StoredRow, start: usize) -> RowHead
-        requires start { start < 2 ^ 24 }
-        requires some { 1 ≤ length row.now.bytes.now }
-        requires fits { length row.now.bytes.now ≤ 256 }
-        ensures id { result.id ≡ row.now.id }
-        ensures next { result.next ≡ row.now.next }
-        ensures start { start_of result ≡ start }
-        ensures len { result.last + 1 ≡ length row.now.bytes.now }
+impl Model for Offset {
+    ghost use Rattle.std.specs.Prelude.{ℕ, ◌+◌, ◌*◌};
+
+    ghost Value = { ℕ };
+
+    ghost view = { λ offset. offset.high * 65536 + offset.middle * 256 + offset.low };
+}
+
+impl Offset {
+    fn new(offset: usize) -> Offset
+        requires { offset < 2 ^ 24 }
+        ensures { result ≡ offset }
     {
-        RowHead {
-            id: row.id,
-            next: row.next,
-            start_low: (start & 0xFFFF) as u16,
-            start_high: (start >> 16) as u8,
-            last: (row.bytes.len() - 1) as u8,
+        Offset {
+            low: (offset & 0xFF) as u8,
+            middle: ((offset >> 8) & 0xFF) as u8,
+            high: (offset >> 16) as u8,
         }
     }
 
-    /// The offset of the first byte.
-    fn start(&self) -> usize
-        ensures { result ≡ start_of self.now }
+    fn get(&self) -> usize
+        ensures { result ≡ self.now }
     {
-        (usize::from(self.start_high) << 16) + usize::from(self.start_low)
+        (usize::from(self.high) << 16) + (usize::from(self.middle) << 8) + usize::from(self.low)
     }
+}
+
+/// The number of a record's bytes, from 1 to 256.
+#[derive(Drop)]
+pub(crate) struct RecordLen {
+    less_one: u8,
+}
+
+impl Model for RecordLen {
+    ghost use Rattle.std.specs.Prelude.{ℕ, ◌+◌};
+
+    ghost Value = { ℕ };
+
+    ghost view = { λ len. len.less_one + 1 };
+}
+
+impl RecordLen {
+    fn new(len: usize) -> RecordLen
+        requires some { 1 ≤ len }
+        requires fits { len ≤ 256 }
+        ensures { result ≡ len }
+    {
+        RecordLen {
+            less_one: (len - 1) as u8,
+        }
+    }
+
+    fn get(&self) -> usize
+        ensures { result ≡ self.now }
+    {
+        usize::from(self.less_one) + 1
+    }
+}
+
+/// A record of a shelf, with the offset and the number of its bytes in the buffer of the shelf.
+// An image has many of these, so they take 10 bytes each: no field needs an alignment of 4.
+#[derive(Drop)]
+pub(crate) struct RowHead {
+    start: Offset,
+    len: RecordLen,
+    id: u16,
+    next: Option<u16>,
 }
 
 impl TableItem for RowHead {
@@ -141,11 +176,11 @@ impl Rows {
         ensures few { IfSome result (λ row. place < 65535) }
     {
         let head = self.heads.as_slice().get(place)?;
-        let start = head.start();
+        let start = head.start.get();
         Some(StoredRow {
             id: head.id,
             next: head.next,
-            bytes: &self.bytes[start..=start + usize::from(head.last)],
+            bytes: &self.bytes[start..start + head.len.get()],
         })
     }
 
@@ -189,7 +224,13 @@ impl Rows {
         begin(&mut self.bytes)?;
         let start = self.bytes.len();
         self.bytes.extend_from_slice(row.bytes)?;
-        if let Err(fault) = self.heads.push(RowHead::new(row, start)) {
+        let head = RowHead {
+            start: Offset::new(start),
+            len: RecordLen::new(row.bytes.len()),
+            id: row.id,
+            next: row.next,
+        };
+        if let Err(fault) = self.heads.push(head) {
             self.bytes.truncate(start);
             return Err(fault);
         }

@@ -1,5 +1,5 @@
-use Rattle.std.proofs.Common.{◌≡◌, ◌++◌, ◌∷◌, [], ap, sym, ◌∙◌, length, List, map}
-use Rattle.ipmi_image.specs.Prelude.{place_of, id_of, row_in, row_of, start_of, SavedRow, RowHead}
+use Rattle.std.proofs.Common.{◌≡◌, ℕ, ◌++◌, ◌∷◌, [], ap, sym, ◌∙◌, length, List, map}
+use Rattle.ipmi_image.specs.Prelude.{place_of, id_of, row_in, row_of, SavedRow, RowHead}
 use Rattle.ipmi_image.proofs.RowsLemmas.{place_of_row_in, map-row_in_with}
 use Rattle.ipmi_image.proofs.rows.Rows.push.Goals as goal
 
@@ -8,13 +8,14 @@ returns-clause-put c =
     let put = c.in_default.ensures.put in
     let bytes = c.self.inside.bytes.items in
     let heads = c.self.inside.heads in
-    let row : SavedRow = row_of c.args.row.now in
-    let head = c.new.result in
-    let at = c.new.ensures in
-    let start : start_of head ≡ length bytes = at.start ∙ c.len-start.ensures ∙ c.begin.new.bytes.ok.0 ∙ ap length c.in_ok-begin.ensures in (
-      ap (place_of id_of row.id) (sym c.self.view_is) ∙ place_of_row_in bytes row.id heads ∙ ap (λ id. place_of (λ (head : RowHead). head.id) id heads) (sym at.id) ∙ put.0,
-      ap (λ l. map (row_in l) c.push.new.self) (c.in_ok-extend_from_slice.ensures.items ∙ ap (λ l. l ++ row.bytes) c.in_ok-begin.ensures)
-          ∙ ap (map (row_in (bytes ++ row.bytes))) put.1
-          ∙ map-row_in_with bytes heads row head at.id at.next start at.len c.self.invariant.within
-          ∙ ap (λ (l : List SavedRow). l ++ row ∷ []) c.self.view_is,
+    let more = c.args.row.now.bytes.now in
+    let id = c.args.row.now.id in
+    let next = c.args.row.now.next in
+    let with_head : ℕ → ℕ → List RowHead = λ start len. heads ++ record { start = start; len = len; id = id; next = next } ∷ [] in
+    let start : c.new.result ≡ length bytes = c.new.ensures ∙ c.len-start.ensures ∙ c.begin.new.bytes.ok.0 ∙ ap length c.in_ok-begin.ensures in (
+      ap (place_of id_of id) (sym c.self.view_is) ∙ place_of_row_in bytes id heads ∙ put.0,
+      ap (λ l. map (row_in l) c.push.new.self) (c.in_ok-extend_from_slice.ensures.items ∙ ap (λ l. l ++ more) c.in_ok-begin.ensures)
+          ∙ ap (map (row_in (bytes ++ more))) (put.1 ∙ ap (λ n. with_head n c.new-2.result) start ∙ ap (with_head (length bytes)) c.new-2.ensures)
+          ∙ map-row_in_with bytes more heads id next c.self.invariant.within
+          ∙ ap (λ (l : List SavedRow). l ++ row_of c.args.row.now ∷ []) c.self.view_is,
     )
