@@ -2,7 +2,9 @@
 //! one controller the tests play the tools. For another the tool is in memory, over an image, and is proved honest.
 #![tactic(auto)]
 
+#[cfg(test)]
 mod answer;
+#[cfg(test)]
 mod asked;
 #[cfg(test)]
 mod calls;
@@ -16,8 +18,11 @@ mod freeipmi;
 mod ipmitool;
 #[cfg(test)]
 mod listings;
+#[cfg(test)]
 pub mod memory;
+#[cfg(test)]
 mod message;
+#[cfg(test)]
 mod printed;
 #[cfg(test)]
 mod requests;
