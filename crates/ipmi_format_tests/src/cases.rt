@@ -1,4 +1,4 @@
-//! Splitting a case, reading bytes in hex, and comparing a text with the expected one.
+//! Splitting a case, reading bytes in hex, and comparing a text or a line with the expected one.
 use std::alloc::{AllocError, Global};
 use std::process::Abort;
 
@@ -77,4 +77,25 @@ pub(crate) fn line_of<'a>(rt: &impl Abort, case: &'a str, place: usize) -> &'a s
 /// The id of four hex digits.
 pub(crate) fn id_of(rt: &impl Abort, digits: &str) -> u16 {
     u16::from_str_radix(digits, 16).expect(rt, digits)
+}
+
+/// Asserts that a call returned the expected line, which ends with a line feed.
+pub(crate) fn assert_line(rt: &impl Abort, got: Result<Vec<u8>, AllocError>, wanted: &str) {
+    let got = got.expect(rt, wanted);
+    let got = std::str::from_utf8(&got).expect(rt, wanted);
+    assert!(rt;
+        got.strip_suffix("\n") == Some(wanted),
+        "wanted {wanted}: got {got}"
+    );
+}
+
+/// Asserts that a call returned the expected line, or that memory was refused.
+pub(crate) fn assert_line_or_refused(
+    rt: &impl Abort,
+    got: Result<Vec<u8>, AllocError>,
+    wanted: &str,
+) {
+    if got.is_ok() {
+        assert_line(rt, got, wanted);
+    }
 }

@@ -71,9 +71,9 @@ failure_text Failure.Usage =
 failure_text (Failure.Image fault) = image_fault_text fault
 failure_text (Failure.Ended ended) = ended_text ended
 failure_text (Failure.Inventory id ended) = inventory_text id ended
-failure_text (Failure.NamesCycle id) = codes "names of sensors may be missing: cycle at " ++ word_h id
+failure_text (Failure.NamesCycle id) = codes "names of sensors may be missing: sensor data records have a cycle at " ++ word_h id
 failure_text (Failure.NamesMissing id) =
-    codes "names of sensors may be missing: record " ++ (word_h id ++ codes " not present")
+    codes "names of sensors may be missing: sensor data record " ++ (word_h id ++ codes " not present")
 failure_text (Failure.NoName name) = codes "no record named " ++ name
 failure_text Failure.NoInfo = codes "info not present"
 failure_text Failure.WriteFault = codes "write fault"

@@ -105,14 +105,14 @@ impl<'a> Failure<'a> {
             Failure::Inventory(id, ended) => of_inventory(*id, *ended),
             Failure::NamesCycle(id) => {
                 Message(
-                    "names of sensors may be missing: cycle at ",
+                    "names of sensors may be missing: sensor data records have a cycle at ",
                     Word(*id),
                     "",
                     NONE,
                 )
             }
             Failure::NamesMissing(id) => {
-                let before = "names of sensors may be missing: record ";
+                let before = "names of sensors may be missing: sensor data record ";
                 Message(before, Word(*id), " not present", NONE)
             }
             Failure::NoName(name) => Message("no record named ", Text(name.as_str()), "", NONE),

@@ -154,7 +154,7 @@ header_words Looks.Wide = codes " (is UTF-16 or UTF-32: save it as UTF-8)"
 header_words Looks.CrLf = codes " (line ends are CR LF: use LF alone)"
 header_words Looks.Cr = codes " (line ends are CR: use LF alone)"
 header_words _ =
-    codes " (not an image: the first line has to be exactly 'ipmi-image 1' or 'ipmi-image 2', ended by a line feed; 'serdimko-live ... -- capture' makes an image)"
+    codes " (not an image: the first line has to be 'ipmi-image 1' or 'ipmi-image 2', with nothing after it but a line feed, not even a space; 'serdimko-live ... -- capture' makes an image)"
 
 -- the rule that an invalid line breaks
 abbrev pub line_words : Looks → List ℕ
@@ -173,7 +173,7 @@ line_words Looks.Reading = codes " (reading takes three fields: LUN NUM HEX)"
 line_words Looks.ReadingFields = codes " (LUN is one digit, 0 to 3, and NUM two hex digits, as 0 2a)"
 line_words Looks.Info = codes " (info takes sdr HEX or sel HEX)"
 line_words Looks.End = codes " (end stands alone, with no space after it)"
-line_words _ = codes " (its first word is none of sdr, sel, fru, reading, info, end)"
+line_words _ = codes " (it has to begin with sdr, sel, fru, reading, info or end, in lower case)"
 
 -- what is wrong with the digits of a line
 abbrev pub digit_words : Looks → List ℕ

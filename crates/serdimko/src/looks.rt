@@ -343,7 +343,7 @@ fn header_words(looks: Looks) -> &'static str
         Looks::CrLf => " (line ends are CR LF: use LF alone)",
         Looks::Cr => " (line ends are CR: use LF alone)",
         _ => {
-            " (not an image: the first line has to be exactly 'ipmi-image 1' or 'ipmi-image 2', ended by a line feed; 'serdimko-live ... -- capture' makes an image)"
+            " (not an image: the first line has to be 'ipmi-image 1' or 'ipmi-image 2', with nothing after it but a line feed, not even a space; 'serdimko-live ... -- capture' makes an image)"
         }
     }
 }
@@ -368,7 +368,7 @@ fn line_words(looks: Looks) -> &'static str
         Looks::ReadingFields => " (LUN is one digit, 0 to 3, and NUM two hex digits, as 0 2a)",
         Looks::Info => " (info takes sdr HEX or sel HEX)",
         Looks::End => " (end stands alone, with no space after it)",
-        _ => " (its first word is none of sdr, sel, fru, reading, info, end)",
+        _ => " (it has to begin with sdr, sel, fru, reading, info or end, in lower case)",
     }
 }
 

@@ -185,7 +185,7 @@ fn events_have_the_names_of_their_sensors(rt: HostRuntime) {
 /// `words|image|moods`, then the outcome.
 const ENDED: &str = "sel list|cycle|
 1 8
-names of sensors may be missing: cycle at 0001h
+names of sensors may be missing: sensor data records have a cycle at 0001h
 --
 0001 | 1987-01-05 18:48:33 | CPU Temp | Upper Critical going high | Asserted | Reading 95 degrees C > threshold 90
 0002 | 1987-01-05 18:48:33 | Drive Slot #0x40 | Drive Fault | Asserted
@@ -193,14 +193,14 @@ names of sensors may be missing: cycle at 0001h
 ====
 sel list last 2|cycle|
 1 12
-names of sensors may be missing: cycle at 0001h
+names of sensors may be missing: sensor data records have a cycle at 0001h
 --
 0002 | 1987-01-05 18:48:33 | Drive Slot #0x40 | Drive Fault | Asserted
 0003 | unspecified | OEM record 0xc0 | 001357 | 010203040506
 ====
 sel list|nowhere|
 1 9
-names of sensors may be missing: record 0009h not present
+names of sensors may be missing: sensor data record 0009h not present
 --
 0001 | 1987-01-05 18:48:33 | CPU Temp | Upper Critical going high | Asserted | Reading 95 degrees C > threshold 90
 0002 | 1987-01-05 18:48:33 | Drive Slot #0x40 | Drive Fault | Asserted
@@ -208,7 +208,7 @@ names of sensors may be missing: record 0009h not present
 ====
 sel list 1|nowhere|
 1 7
-names of sensors may be missing: record 0009h not present
+names of sensors may be missing: sensor data record 0009h not present
 --
 0001 | 1987-01-05 18:48:33 | CPU Temp | Upper Critical going high | Asserted | Reading 95 degrees C > threshold 90
 ";

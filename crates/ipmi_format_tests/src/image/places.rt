@@ -1,5 +1,5 @@
 //! Each fault of each kind of line, at each position in the line.
-use crate::faults::assert_verdicts;
+use super::faults::assert_verdicts;
 
 /// `records up to the end of the image|fault`. A semicolon is a line feed.
 const RECORDS: &str = "sel;end;|line 2: not a line

@@ -1,5 +1,5 @@
 //! Lines that belong together: inventories on several lines, ids in either case, and dashes.
-use crate::images::assert_answers_of_text;
+use super::images::assert_answers_of_text;
 
 /// The lines of inventory 00 have lines of another kind and of inventory 01 between them.
 const APART: &str = "ipmi-image 1

@@ -1,6 +1,6 @@
 //! Images with and without a fault.
-use crate::calls::parts;
-use crate::images::fault_of;
+use super::images::fault_of;
+use crate::cases::parts;
 use std::alloc::Global;
 use std::process::Abort;
 

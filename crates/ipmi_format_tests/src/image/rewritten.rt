@@ -1,7 +1,7 @@
 //! Images in the one spelling of version 2, and the lines of single records.
 ghost use Rattle.std.specs.Prelude.{◌≤◌, length};
 
-use crate::images::{REWRITTEN, SAVED, image};
+use super::images::{REWRITTEN, SAVED, image};
 use ipmi_bus::Record;
 use ipmi_fixtures::THREE_ROWS;
 use ipmi_image::{LineBuffer, image_text, record_line};

@@ -1,6 +1,7 @@
 //! Calls of a controller and its answers, as lines of text. No memory is taken here.
 ghost use Rattle.std.specs.Prelude.{◌<◌, ◌≤◌};
 
+use crate::cases::parts;
 use ipmi_bus::{Code, Controller, Part, Shelf};
 use std::process::Abort;
 use std::str::SplitWhitespace;
@@ -232,11 +233,6 @@ pub fn ask<C: Controller>(rt: &impl Abort, ctl: &mut C, call: &str) -> Answer {
         "fru_part" => fru_part(rt, ctl, &mut words),
         _ => panic!(rt; "{call} is no call"),
     }
-}
-
-/// A line before and after its first bar.
-pub fn parts<'a>(rt: &impl Abort, line: &'a str) -> (&'a str, &'a str) {
-    line.split_once('|').expect(rt, line)
 }
 
 /// Asserts the answer to the call of a line `call|answer`. A failure names the case.

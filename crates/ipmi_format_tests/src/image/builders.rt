@@ -1,6 +1,6 @@
 //! Building images record by record.
-use crate::images::{ANSWERS, REWRITTEN, assert_answers_of_image};
-use crate::rewritten::assert_text;
+use super::images::{ANSWERS, REWRITTEN, assert_answers_of_image};
+use super::rewritten::assert_text;
 use ipmi_bus::{Record, Shelf};
 use ipmi_fixtures::{EVENT, INFO};
 use ipmi_image::{ImageBuilder, image_text};

@@ -1,6 +1,6 @@
 //! Records found by the owner, LUN and number of a sensor, and the names of sensors.
+use super::records::sensors;
 use crate::cases::{assert_text, byte_of, parts};
-use crate::records::sensors;
 use hex::FromHex;
 use ipmi_events::{Sensors, push_sensor_name, record_for, status_in_words};
 use ipmi_records::{SdrView, SelView};

@@ -1,6 +1,7 @@
 //! The effect of each mood on each call of a scripted controller.
-use crate::calls::{LineWords, assert_answer_of_case, assert_answers, parts};
-use crate::images::{ANSWERS, OTHER, SAVED, image};
+use super::calls::{LineWords, assert_answer_of_case, assert_answers};
+use super::images::{ANSWERS, OTHER, SAVED, image};
+use crate::cases::parts;
 use ipmi_bus::Code;
 use ipmi_image::{Mood, Scripted};
 use std::alloc::{AllocError, Global};

@@ -1,6 +1,6 @@
 //! Lines of entries, with events in words.
+use super::records::sensors;
 use crate::cases::parts;
-use crate::records::sensors;
 use hex::FromHex;
 use ipmi_events::{Sensors, event_line};
 use ipmi_records::SelView;

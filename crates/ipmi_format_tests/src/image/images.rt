@@ -1,5 +1,5 @@
 //! Images that several tests use, and the first answers of a controller over one.
-use crate::calls::assert_answers;
+use super::calls::assert_answers;
 use ipmi_image::{Image, ImageController, ImageFault};
 use std::alloc::Global;
 use std::process::Abort;

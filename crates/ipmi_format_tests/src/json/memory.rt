@@ -1,9 +1,9 @@
 //! Each call that makes a line, with ample memory and with requests refused.
+use super::entries::{MEMORY, MEMORY_LINE, SENSORS};
+use super::infos::{END_LINE, INFO, OTHER_INFO, SDR_INFO_LINE, SEL_INFO_LINE};
+use super::inventories::{ELSEWHERE_LINE, HOST, MIXED, MIXED_LINE};
+use super::records::{FAULT_LINE, FAULTY, FULL, HOT, OTHER, RAW_LINE, READ_LINE};
 use crate::cases::{assert_line, assert_line_or_refused};
-use crate::entries::{MEMORY, MEMORY_LINE, SENSORS};
-use crate::infos::{END_LINE, INFO, OTHER_INFO, SDR_INFO_LINE, SEL_INFO_LINE};
-use crate::inventories::{ELSEWHERE_LINE, HOST, MIXED, MIXED_LINE};
-use crate::records::{FAULT_LINE, FAULTY, FULL, HOT, OTHER, RAW_LINE, READ_LINE};
 use ipmi_events::Sensors;
 use ipmi_json::{
     end_line, fru_elsewhere_line, fru_line, sdr_fault_line, sdr_info_line, sdr_raw_line,

@@ -1,6 +1,6 @@
 //! The answers of a controller over an image.
-use crate::calls::{assert_answer, assert_answers};
-use crate::images::{ANSWERS, SAVED, assert_answers_of_text, over};
+use super::calls::{assert_answer, assert_answers};
+use super::images::{ANSWERS, SAVED, assert_answers_of_text, over};
 use ipmi_bus::{Code, Controller, Part, Shelf};
 use ipmi_image::ImageController;
 use std::alloc::Global;

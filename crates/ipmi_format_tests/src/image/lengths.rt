@@ -1,6 +1,6 @@
 //! Images that are cut off, and records and inventories up to their greatest length and beyond.
-use crate::images::{assert_answers_of_text, fault_of};
-use crate::rewritten::assert_image_text;
+use super::images::{assert_answers_of_text, fault_of};
+use super::rewritten::assert_image_text;
 use ipmi_fixtures::THREE_ROWS;
 use ipmi_image::ImageFault;
 use std::alloc::Global;

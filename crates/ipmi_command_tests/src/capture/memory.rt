@@ -1,5 +1,5 @@
 //! A capture, once with ample memory, and once with requests refused.
-use crate::captures::{Came, SAVED};
+use super::captures::{Came, SAVED};
 use ipmi_capture::capture;
 use ipmi_image::{Image, ImageController, image_text};
 use std::alloc::{AllocError, Global};

@@ -1,5 +1,5 @@
 //! Moods at calls for the event log, at calls for absent items, and in sequence.
-use crate::moods::{assert_answers_after_moods, assert_answers_in_moods};
+use super::moods::{assert_answers_after_moods, assert_answers_in_moods};
 
 /// `mood|call|answer`.
 const OF_THE_EVENT_LOG: &str = "cancel|reserve sel|code c5

@@ -1,6 +1,6 @@
 //! Reading and writing an image, once with ample memory, and once with requests refused.
-use crate::images::{ANSWERS, REWRITTEN, SAVED, assert_answers_of_image};
-use crate::rewritten::assert_text;
+use super::images::{ANSWERS, REWRITTEN, SAVED, assert_answers_of_image};
+use super::rewritten::assert_text;
 use ipmi_image::{Image, ImageFault, image_text};
 use std::alloc::AllocError;
 use std::process::Abort;

@@ -1,0 +1,13 @@
+//! Images and their faults, both controllers, and rewritten images.
+mod answers;
+mod builders;
+mod calls;
+mod faults;
+mod images;
+mod lengths;
+mod memory;
+mod mood_order;
+mod moods;
+mod places;
+mod rewritten;
+mod tables;
