@@ -154,14 +154,14 @@ header_words Looks.Wide = codes " (is UTF-16 or UTF-32: save it as UTF-8)"
 header_words Looks.CrLf = codes " (line ends are CR LF: use LF alone)"
 header_words Looks.Cr = codes " (line ends are CR: use LF alone)"
 header_words _ =
-    codes " (not an image: the first line has to be 'ipmi-image 1' or 'ipmi-image 2', with nothing after it but a line feed, not even a space; 'serdimko-live ... -- capture' makes an image)"
+    codes " (not an image: the first line has to be 'ipmi-image 1' or 'ipmi-image 2', with a line feed and no space after it; 'serdimko-live ... -- capture' makes an image)"
 
 -- the rule that an invalid line breaks
 abbrev pub line_words : Looks → List ℕ
 line_words Looks.CrLf = codes " (it ends with CR LF: use LF alone)"
-line_words Looks.Blank = codes " (it is empty: remove it)"
-line_words Looks.Tab = codes " (it has a tab: between two fields one space, and none at the end)"
-line_words Looks.Indented = codes " (it begins with a space: remove it)"
+line_words Looks.Blank = codes " (it is empty: remove the line)"
+line_words Looks.Tab = codes " (it has a tab: between two fields one space, none at the start or the end)"
+line_words Looks.Indented = codes " (it begins with a space: remove the space, or the line if that is all it has)"
 line_words Looks.Dash = codes " (NEXT is a dash: the first line has to be 'ipmi-image 2')"
 line_words Looks.Spaces = codes " (a field is empty: between two fields one space, and none at the end)"
 line_words Looks.Record = codes " (sdr and sel take three fields: ID NEXT HEX)"
@@ -178,7 +178,7 @@ line_words _ = codes " (it has to begin with sdr, sel, fru, reading, info or end
 -- what is wrong with the digits of a line
 abbrev pub digit_words : Looks → List ℕ
 digit_words Looks.CrLf = codes " (it ends with CR LF: use LF alone)"
-digit_words Looks.Tab = codes " (it has a tab: between two fields one space, and none at the end)"
+digit_words Looks.Tab = codes " (it has a tab: between two fields one space, none at the start or the end)"
 digit_words Looks.Odd = codes " (an odd number of digits: each byte has two)"
 digit_words _ = codes " (a field has a character that is not a hex digit)"
 

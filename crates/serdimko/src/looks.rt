@@ -343,7 +343,7 @@ fn header_words(looks: Looks) -> &'static str
         Looks::CrLf => " (line ends are CR LF: use LF alone)",
         Looks::Cr => " (line ends are CR: use LF alone)",
         _ => {
-            " (not an image: the first line has to be 'ipmi-image 1' or 'ipmi-image 2', with nothing after it but a line feed, not even a space; 'serdimko-live ... -- capture' makes an image)"
+            " (not an image: the first line has to be 'ipmi-image 1' or 'ipmi-image 2', with a line feed and no space after it; 'serdimko-live ... -- capture' makes an image)"
         }
     }
 }
@@ -354,9 +354,10 @@ fn line_words(looks: Looks) -> &'static str
 {
     match looks {
         Looks::CrLf => " (it ends with CR LF: use LF alone)",
-        Looks::Blank => " (it is empty: remove it)",
-        Looks::Tab => " (it has a tab: between two fields one space, and none at the end)",
-        Looks::Indented => " (it begins with a space: remove it)",
+        Looks::Blank => " (it is empty: remove the line)",
+        Looks::Tab => " (it has a tab: between two fields one space, none at the start or the end)",
+        Looks::Indented =>
+            " (it begins with a space: remove the space, or the line if that is all it has)",
         Looks::Dash => " (NEXT is a dash: the first line has to be 'ipmi-image 2')",
         Looks::Spaces => " (a field is empty: between two fields one space, and none at the end)",
         Looks::Record | Looks::Event => " (sdr and sel take three fields: ID NEXT HEX)",
@@ -378,7 +379,7 @@ fn digit_words(looks: Looks) -> &'static str
 {
     match looks {
         Looks::CrLf => " (it ends with CR LF: use LF alone)",
-        Looks::Tab => " (it has a tab: between two fields one space, and none at the end)",
+        Looks::Tab => " (it has a tab: between two fields one space, none at the start or the end)",
         Looks::Odd => " (an odd number of digits: each byte has two)",
         _ => " (a field has a character that is not a hex digit)",
     }
