@@ -23,5 +23,5 @@ pub use Rattle.ipmi_bus.specs.declared.step.Ended.{Ended}
 pub use Rattle.ipmi_bus.specs.declared.step.Ended.TheVariants.{Cycle, GaveUp, Malformed, Missing, Refused, Stalled}
 pub use Rattle.ipmi_bus.specs.declared.step.Place.TheVariants.{End, First, Id}
 pub use Rattle.ipmi_bus.specs.declared.step.Place.{Place}
-pub use Rattle.ipmi_image.specs.Built.{may_follow, with_info, with_inventory, with_reading, with_rows}
+pub use Rattle.ipmi_image.specs.Built.{empty_store, may_follow, with_info, with_inventory, with_reading, with_rows}
 pub use Rattle.ipmi_output.specs.Failure.{ended_text}

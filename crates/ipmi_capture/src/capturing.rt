@@ -1,7 +1,7 @@
 //! Captures a controller: reads its contents into an image.
 ghost use Rattle.std.specs.Prelude.{◌≡◌, ◌+◌, ◌<◌, ◌≤◌, All, IfOk, IsTrue, None, OnOk, []};
 ghost use Rattle.std.specs.List.{list_all};
-ghost use Rattle.ipmi_capture.specs.Below.{AsksAtMost, info_of, IsHonest, IsPlain, rows_of, StaysHonest, Store, with_info, with_rows};
+ghost use Rattle.ipmi_capture.specs.Below.{AsksAtMost, empty_store, info_of, IsHonest, IsPlain, IsStore, rows_of, StaysHonest, Store, with_info, with_rows};
 ghost use Rattle.ipmi_capture.specs.Capture.{IsCaptureBut, IsCaptureOf};
 ghost use Rattle.ipmi_capture.specs.Left.{AreCounted, IsLeftOut, IsStateOf, IsTrueOf, LacksInfo, leaves_nothing, leaves_whole, PlainLeaves, SameOrLeft};
 ghost use Rattle.ipmi_capture.specs.Phases.{Adds, AreWalk, Captures, most_calls, most_on_shelf};
@@ -85,6 +85,43 @@ fn note_info<C: Controller>(
     note(left, lacks)
 }
 
+/// Puts the items of the controller into an empty image, and notes those that are left out.
+fn capture_into<C: Controller, P: Progress>(
+    asking: Asking,
+    ctl: &mut C,
+    image: &mut ImageBuilder,
+    left: &mut Vec<Left>,
+    progress: &mut P,
+) -> Result<(), AllocError>
+    requires some { 0 < asking.part }
+    requires fits { asking.part < 255 }
+    requires empty { image.old ≡ empty_store }
+    requires none { left.old.items ≡ [] }
+    ensures calls { (C.seen ctl.new).calls ≤ (C.seen ctl.old).calls + most_calls asking.tries }
+    ensures asked { AsksAtMost asking.part (C.seen ctl.old) (C.seen ctl.new) }
+    ensures lacks { OnOk result (All (IsLeftOut image.new) left.new.items) }
+    ensures stays { IsHonest (C.seen ctl.old) → StaysHonest (C.seen ctl.old) (C.seen ctl.new) }
+    ensures counts { IsHonest (C.seen ctl.old) →
+        OnOk result (AreCounted (IsStateOf C.seen) asking.tries left.new.items (C.seen ctl.old) (C.seen ctl.new)) }
+    ensures honest { IsHonest (C.seen ctl.old) →
+        (C.seen ctl.new).stores_added ≡ (C.seen ctl.old).stores_added →
+        OnOk result (IsStore image.new → IsCaptureBut left.new.items image.new (C.seen ctl.old).store) }
+    ensures told { IsHonest (C.seen ctl.old) →
+        (C.seen ctl.new).stores_added ≡ (C.seen ctl.old).stores_added →
+        OnOk result (All (IsTrueOf (C.seen ctl.old).store) left.new.items) }
+    ensures plain { IsPlain (C.seen ctl.old) →
+        OnOk result (All (PlainLeaves (C.seen ctl.old).store) left.new.items) }
+{
+    note_shelf(asking, ctl, Shelf::Sdr, image, left, progress)?;
+    note_shelf(asking, ctl, Shelf::Sel, image, left, progress)?;
+    note_info(asking, ctl, Shelf::Sdr, image, left)?;
+    note_info(asking, ctl, Shelf::Sel, image, left)?;
+    let named = Named::of(asking.alloc, image)?;
+    capture_readings(asking, ctl, &named, image, left, progress)?;
+    capture_inventories(asking, ctl, &named, image, left, progress)?;
+    Ok(())
+}
+
 /// Reads the contents of the controller: the records of both shelves along their next ids, both infos, the inventory of
 /// device 0, and once each the readings of the sensors and the inventories of the devices that records name. A request is
 /// for at most `part` bytes. Each item may have `tries` troubles. After a refusal it continues with the next item.
@@ -129,13 +166,7 @@ pub fn capture<C: Controller, P: Progress>(
     let asking = Asking { alloc, part, tries };
     let mut image = ImageBuilder::new(alloc);
     let mut left = Vec::new(alloc);
-    note_shelf(asking, ctl, Shelf::Sdr, &mut image, &mut left, progress)?;
-    note_shelf(asking, ctl, Shelf::Sel, &mut image, &mut left, progress)?;
-    note_info(asking, ctl, Shelf::Sdr, &mut image, &mut left)?;
-    note_info(asking, ctl, Shelf::Sel, &mut image, &mut left)?;
-    let named = Named::of(alloc, &image)?;
-    capture_readings(asking, ctl, &named, &mut image, &mut left, progress)?;
-    capture_inventories(asking, ctl, &named, &mut image, &mut left, progress)?;
+    capture_into(asking, ctl, &mut image, &mut left, progress)?;
     let is_whole = is_whole(&left);
     Ok(Captured {
         image: image.finish(),

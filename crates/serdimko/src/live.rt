@@ -53,11 +53,14 @@ fn tool_of(name: &str) -> Option<Tool>
 }
 
 impl<'a> Live<'a> {
-    /// The value of `--live`: the tool and the folder of its pipes.
+    /// The value of `--live`: the tool and the folder of its pipes, which is not empty.
     pub(crate) fn of(value: &'a str) -> Option<Live<'a>>
         ensures { option_map (λ live. (live.tool, live.folder.now)) result ≡ live_of value.entry.now }
     {
         let (tool, folder) = value.split_once(':')?;
+        if folder.is_empty() {
+            return None;
+        }
         Some(Live {
             tool: tool_of(tool)?,
             folder,

@@ -1,71 +1,7 @@
-use Rattle.std.proofs.Common.{List, ◌++◌, ap, sym, ◌∙◌}
-use Rattle.std.proofs.lemmas.List.Elements.{All-nil}
-use Rattle.ipmi_capture.specs.Left.{PlainLeaves}
-use Rattle.ipmi_capture.specs.declared.left.Left.{Left}
-use Rattle.ipmi_capture.proofs.CaptureLemmas.{assemble, captures_parts, left_out, stays_on, whole_capture}
+use Rattle.ipmi_capture.proofs.CaptureLemmas.{whole_capture}
 use Rattle.ipmi_capture.proofs.capturing.capture.Goals as goal
 
-pub returns-in_err-named-clause-stays : goal.returns-in_err-named-clause-stays
-returns-in_err-named-clause-stays g c =
-    stays_on (stays_on (stays_on c.note_shelf.ensures.stays c.note_shelf-2.ensures.stays) c.note_info.ensures.stays) c.note_info-2.ensures.stays
-
-pub returns-in_err-capture_readings-clause-stays : goal.returns-in_err-capture_readings-clause-stays
-returns-in_err-capture_readings-clause-stays g c =
-    stays_on (stays_on (stays_on (stays_on c.note_shelf.ensures.stays c.note_shelf-2.ensures.stays) c.note_info.ensures.stays) c.note_info-2.ensures.stays) c.capture_readings.ensures.stays
-
-pub returns-in_err-capture_inventories-clause-stays : goal.returns-in_err-capture_inventories-clause-stays
-returns-in_err-capture_inventories-clause-stays g c =
-    stays_on (stays_on (stays_on (stays_on (stays_on c.note_shelf.ensures.stays c.note_shelf-2.ensures.stays) c.note_info.ensures.stays) c.note_info-2.ensures.stays) c.capture_readings.ensures.stays) c.capture_inventories.ensures.stays
-
-pub returns-clause-stays : goal.returns-clause-stays
-returns-clause-stays g c =
-    stays_on (stays_on (stays_on (stays_on (stays_on c.note_shelf.ensures.stays c.note_shelf-2.ensures.stays) c.note_info.ensures.stays) c.note_info-2.ensures.stays) c.capture_readings.ensures.stays) c.capture_inventories.ensures.stays
-
-pub returns-clause-honest : goal.returns-clause-honest
-returns-clause-honest g c = λ h same.
-    let all = captures_parts c.note_shelf.new.image c.note_shelf-2.new.image c.note_info.new.image c.note_info-2.new.image c.capture_readings.new.image c.capture_inventories.new.image
-    c.in_ok-named.named.sensors.items c.in_ok-named.named.devices.items
-    c.note_shelf.ensures.stays c.note_shelf-2.ensures.stays c.note_info.ensures.stays c.note_info-2.ensures.stays c.capture_readings.ensures.stays c.capture_inventories.ensures.stays
-    c.in_ok-note_shelf.ensures.honest c.in_ok-note_shelf-2.ensures.honest c.in_ok-note_info.ensures.honest c.in_ok-note_info-2.ensures.honest c.in_ok-capture_readings.ensures.honest
-    c.in_ok-capture_inventories.ensures.honest h in
-    let is_image = c.finish.ensures.store in
-    rw c.finish.ensures.is (assemble _ _ c.new-image.result c.note_shelf.new.image c.note_shelf-2.new.image c.note_info.new.image c.note_info-2.new.image c.capture_readings.new.image
-    c.capture_inventories.new.image c.note_shelf.ensures.beside c.note_shelf-2.ensures.beside c.note_info.ensures.beside c.note_info-2.ensures.beside c.capture_readings.ensures.beside
-    c.capture_inventories.ensures.beside (rw c.finish.ensures.is at is_image) h.store c.in_ok-named.named.sensors.items c.in_ok-named.named.devices.items c.in_ok-named.ensures (all.fact same))
-
 pub returns-clause-all : goal.returns-clause-all
-returns-clause-all g c = λ h same nothing. whole_capture _ nothing _ _ (returns-clause-honest g c h same)
-
-pub returns-clause-counts : goal.returns-clause-counts
-returns-clause-counts g c = λ h.
-    let all = captures_parts c.note_shelf.new.image c.note_shelf-2.new.image c.note_info.new.image c.note_info-2.new.image c.capture_readings.new.image c.capture_inventories.new.image
-    c.in_ok-named.named.sensors.items c.in_ok-named.named.devices.items
-    c.note_shelf.ensures.stays c.note_shelf-2.ensures.stays c.note_info.ensures.stays c.note_info-2.ensures.stays c.capture_readings.ensures.stays c.capture_inventories.ensures.stays
-    c.in_ok-note_shelf.ensures.honest c.in_ok-note_shelf-2.ensures.honest c.in_ok-note_info.ensures.honest c.in_ok-note_info-2.ensures.honest c.in_ok-capture_readings.ensures.honest
-    c.in_ok-capture_inventories.ensures.honest h in
-    rw (sym (all.grows ∙ ap (λ (l : List Left). l ++ all.more) c.new-left.ensures.items)) at all.counts
-
-pub returns-clause-told : goal.returns-clause-told
-returns-clause-told g c = λ h same.
-    let all = captures_parts c.note_shelf.new.image c.note_shelf-2.new.image c.note_info.new.image c.note_info-2.new.image c.capture_readings.new.image c.capture_inventories.new.image
-    c.in_ok-named.named.sensors.items c.in_ok-named.named.devices.items
-    c.note_shelf.ensures.stays c.note_shelf-2.ensures.stays c.note_info.ensures.stays c.note_info-2.ensures.stays c.capture_readings.ensures.stays c.capture_inventories.ensures.stays
-    c.in_ok-note_shelf.ensures.honest c.in_ok-note_shelf-2.ensures.honest c.in_ok-note_info.ensures.honest c.in_ok-note_info-2.ensures.honest c.in_ok-capture_readings.ensures.honest
-    c.in_ok-capture_inventories.ensures.honest h in
-    rw (sym (all.grows ∙ ap (λ (l : List Left). l ++ all.more) c.new-left.ensures.items)) at (all.told same)
-
-pub returns-clause-plain : goal.returns-clause-plain
-returns-clause-plain g c = λ plain.
-    let all = captures_parts c.note_shelf.new.image c.note_shelf-2.new.image c.note_info.new.image c.note_info-2.new.image c.capture_readings.new.image c.capture_inventories.new.image
-    c.in_ok-named.named.sensors.items c.in_ok-named.named.devices.items
-    c.note_shelf.ensures.stays c.note_shelf-2.ensures.stays c.note_info.ensures.stays c.note_info-2.ensures.stays c.capture_readings.ensures.stays c.capture_inventories.ensures.stays
-    c.in_ok-note_shelf.ensures.honest c.in_ok-note_shelf-2.ensures.honest c.in_ok-note_info.ensures.honest c.in_ok-note_info-2.ensures.honest c.in_ok-capture_readings.ensures.honest
-    c.in_ok-capture_inventories.ensures.honest plain.honest in
-    all.plain plain.said (rw c.new-left.ensures.items (All-nil (PlainLeaves _)))
-
-pub returns-clause-lacks : goal.returns-clause-lacks
-returns-clause-lacks g c =
-    rw c.finish.ensures.is (left_out c.capture_inventories.new.image c.note_info.new.image c.note_info-2.new.image c.capture_readings.new.image
-    c.note_info-2.ensures.beside c.capture_readings.ensures.beside c.capture_inventories.ensures.beside c.new-left.ensures.items
-    c.in_ok-note_shelf.ensures.lacks c.in_ok-note_shelf-2.ensures.lacks c.in_ok-note_info.ensures.lacks c.in_ok-note_info-2.ensures.lacks
-    c.in_ok-capture_readings.ensures.lacks c.in_ok-capture_inventories.ensures.lacks)
+returns-clause-all g c = λ h same nothing.
+    let is_image = c.finish.ensures.store in
+    rw c.finish.ensures.is (whole_capture _ nothing _ _ (c.in_ok-capture_into.ensures.honest h same (rw c.finish.ensures.is at is_image)))
