@@ -67,17 +67,13 @@ pub(crate) fn list_entries<'a, C: Controller, O: Sink>(
     ensures runs { Runs (entries_job entries.entry count from) cmd.now.tries
         (change (C.seen ctl.old) (C.seen ctl.new) (O.taken out.old) (O.taken out.new)) result }
 {
-    match count {
-        Count::All => {
-            let listing = Listing::new(Form::EntryLine(entries), from, None);
-            list(alloc, ctl, cmd, &listing, out)
-        }
-        Count::First(n) => {
-            let listing = Listing::new(Form::EntryLine(entries), from, Some(u32::from(n)));
-            list(alloc, ctl, cmd, &listing, out)
-        }
-        Count::Last(n) => list_last(alloc, ctl, cmd, entries, n, from, out),
-    }
+    let most = match count {
+        Count::All => None,
+        Count::First(n) => Some(u32::from(n)),
+        Count::Last(n) => return list_last(alloc, ctl, cmd, entries, n, from, out),
+    };
+    let listing = Listing::new(Form::EntryLine(entries), from, most);
+    list(alloc, ctl, cmd, &listing, out)
 }
 
 /// Prints the info of the shelf, in this wording.
