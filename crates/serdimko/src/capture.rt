@@ -1,12 +1,13 @@
 //! Saves the contents of a live controller as an image.
-ghost use Rattle.std.specs.Prelude.{◌≡◌, ◌++◌, ℕ, codes, IfOk, List, map, OnErr, OnOk, Option, option_map, true};
+ghost use Rattle.std.specs.Prelude.{◌≡◌, ◌++◌, ℕ, codes, IfOk, List, map, MatchOption, OnErr, OnOk, Option, option_map, true};
+ghost use Rattle.std.specs.List.{list_all};
 ghost use Rattle.ipmi_bus.specs.Seen.{Seen};
-ghost use Rattle.ipmi_capture.specs.Left.{IsStateOf, left_text};
+ghost use Rattle.ipmi_capture.specs.Left.{IsStateOf, leaves_whole, left_text};
 ghost use Rattle.ipmi_image.specs.Rewritten.{image_text_of};
 ghost use Rattle.ipmi_output.specs.Failure.{escaped_name, line_text};
 ghost use Rattle.ipmi_output.specs.Received.{ReceivesText};
 ghost use Rattle.ipmi_raw.specs.Controller.{last_words, seen_of};
-ghost use Rattle.serdimko.specs.Captured.{Captures, printed_text, PrintsText, SavesText, SaysLines, status_of_image, WritesText};
+ghost use Rattle.serdimko.specs.Captured.{Captures, printed_text, PrintsText, SavesImage, SavesText, SaysLines, SaysLost, status_of_image, WritesText};
 
 use crate::live::{Live, controller_of, lost_line};
 use crate::problem::CLOSED;
@@ -210,6 +211,31 @@ fn write_captured<R: Files + AllocGlobal, W: Write, E: MessageSink>(
     })
 }
 
+/// Reports what was captured: that the connection was lost, or the items left out. Then writes the image, and returns the exit
+/// status.
+fn report_captured<R: Files + AllocGlobal, W: Write, E: MessageSink>(
+    rt: &R,
+    lost: Option<&[u8]>,
+    captured: &Captured,
+    output: Option<&Word>,
+    out: &mut W,
+    err: &mut E,
+) -> Result<u8, AllocError>
+    requires { captured.now.is_whole ≡ list_all leaves_whole captured.now.left.items }
+    ensures { IfOk result (λ status. MatchOption (option_map (λ text. text.now) lost.entry)
+        (SavesImage (option_map (λ word. word.now) output.entry) captured.now.image captured.now.left.items
+        (W.contents out.old) (W.contents out.new) (E.received err.old) (E.received err.new) status)
+        (λ text. SaysLost (W.contents out.old) (W.contents out.new) (E.received err.old) (E.received err.new) status)) }
+{
+    if let Some(text) = lost {
+        let line = lost_line(rt.alloc(), text)?;
+        say_lost(line.as_str(), err);
+        return Ok(NOT_WHOLE);
+    }
+    say_left(rt.alloc(), captured.left.as_slice(), err)?;
+    write_captured(rt, captured, output, out, err)
+}
+
 /// Reads the contents of the controller, writes them as an image, reports the items left out, and returns the exit status.
 fn capture_from<
     R: Files + AllocGlobal,
@@ -234,13 +260,9 @@ fn capture_from<
     let (part, tries) = (command.part(), command.tries());
     let captured = capture(rt.alloc(), controller, part, tries, counter)?;
     counter.clear();
-    if let Some(text) = controller.lost() {
-        let line = lost_line(rt.alloc(), text)?;
-        say_lost(line.as_str(), err);
-        return Ok(NOT_WHOLE);
-    }
-    say_left(rt.alloc(), captured.left.as_slice(), err)?;
-    write_captured(rt, &captured, output, out, err)
+    let status = report_captured(rt, controller.lost(), &captured, output, out, err);
+    drop(captured);
+    status
 }
 
 /// Saves the contents of the live controller, and returns the exit status.
@@ -264,5 +286,8 @@ pub(crate) fn capture_live<
 {
     let mut counter = Counter::new(terminal);
     let mut controller = controller_of(rt, live);
-    capture_from(rt, &mut controller, command, output, &mut counter, out, err)
+    let saved = capture_from(rt, &mut controller, command, output, &mut counter, out, err);
+    drop(controller);
+    drop(counter);
+    saved
 }
