@@ -1,10 +1,11 @@
 -- Appending lists of parts to a text.
-use Rattle.std.proofs.Common.{◌≡◌, ◌∙◌, ℕ, ◌+◌, ◌<◌, Bool, true, false, ◌||◌, List, [], ◌∷◌, ◌++◌, append_assoc, ap, sym, refl, length, get_or, drop}
+use Rattle.std.proofs.Common.{◌≡◌, ◌∙◌, ℕ, ◌+◌, ◌<◌, Bool, true, false, ◌||◌, List, [], ◌∷◌, ◌++◌, append_assoc, ap, sym, refl, length, get_or, drop, map}
 use Rattle.std.proofs.lemmas.List.{drop_more}
 use Rattle.ipmi_events.specs.declared.event_data.EventData.{EventData}
 use Rattle.ipmi_events.specs.declared.event_data.Byte.{Byte}
+use Rattle.ipmi_events.specs.declared.extensions.Field.{Field}
 use Rattle.ipmi_events.specs.Discrete.{or_raw}
-use Rattle.ipmi_events.specs.Extensions.{ExtensionField, field_parts, fields_text}
+use Rattle.ipmi_events.specs.Extensions.{field_parts, fields_text, said_by}
 use Rattle.ipmi_events.specs.Parts.{comma, has_parts, parts_text}
 
 pub parts_text-append : (before : Bool) (parts more : List (List ℕ))
@@ -47,14 +48,11 @@ said_parts false [] more all h = h
 said_parts false (part ∷ parts) more all h = h
 
 -- the text of the fields from an index: that of the first, then that of the others
-pub fields_text-drop : (fields : List ExtensionField) (i : ℕ) (field : ExtensionField)
-    (event : EventData) (byte : ℕ) → i < length fields → field ≡ get_or fields i field
-    → fields_text (drop i fields) event byte
-    ≡ field_parts field event byte ++ fields_text (drop (i + 1) fields) event byte
+pub fields_text-drop : (fields : List Field) (i : ℕ) (d : Field) (event : EventData) (byte : ℕ)
+    → i < length fields → fields_text (map said_by (drop i fields)) event byte
+    ≡ field_parts (said_by (get_or fields i d)) event byte ++ fields_text (map said_by (drop (i + 1) fields)) event byte
 unfolding fields_text
-fields_text-drop fields i field event byte below field_is =
-    ap (λ rest. fields_text rest event byte) (drop_more fields i field below)
-    ∙ ap (λ f. field_parts f event byte ++ fields_text (drop (i + 1) fields) event byte) (sym field_is)
+fields_text-drop fields i d event byte below = ap (λ rest. fields_text (map said_by rest) event byte) (drop_more fields i d below)
 
 pub has_parts_or_raw : (byte : Byte) (value : ℕ) (parts : List (List ℕ))
     → has_parts (or_raw byte value parts) ≡ true

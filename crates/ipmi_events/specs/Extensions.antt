@@ -1,9 +1,10 @@
 -- The extension codes in event data 2 and 3 (IPMI v2.0, table 42-3).
-use Rattle.std.specs.Prelude.{ℕ, ◌/◌, ◌%◌, ◌==◌, ◌&&◌, nat_le, Bool, if◌then◌else◌, List, [], ◌∷◌, ◌++◌, codes, decimal, Option, Some, None, option_map, option_to_list, unwrap_or}
+use Rattle.std.specs.Prelude.{ℕ, ◌/◌, ◌%◌, ◌==◌, ◌&&◌, nat_le, Bool, if◌then◌else◌, List, [], ◌∷◌, ◌++◌, codes, decimal, map, Option, Some, None, option_map, option_to_list, unwrap_or}
 use Rattle.ipmi_text.specs.Hex.{hex_byte}
 use Rattle.ipmi_events.specs.declared.event_data.Byte.{Byte}
 use Rattle.ipmi_events.specs.declared.event_data.EventData.{EventData}
 use Rattle.ipmi_events.specs.declared.extensions.Bits.{Bits}
+use Rattle.ipmi_events.specs.declared.extensions.Field.{Field}
 use Rattle.ipmi_events.specs.declared.extensions.Form.{Form}
 use Rattle.ipmi_events.specs.Specific.{acpi_states, fru_state}
 use Rattle.ipmi_events.specs.Table.{reserved, silent, words_at}
@@ -260,6 +261,18 @@ pub record ExtensionField : Type 0 where
   pub label : List ℕ
   pub form : Form
   pub words : List (List ℕ)
+
+-- what a field of the program's tables says
+abbrev pub said_by : Field → ExtensionField
+said_by f = record {
+  sensor_type = f.sensor_type;
+  first_offset = f.first_offset;
+  last_offset = f.last_offset;
+  bits = f.bits;
+  label = f.label.now;
+  form = f.form;
+  words = map (λ s. s.now) f.words.now;
+}
 
 abbrev pub field : ℕ → ℕ → ℕ → Bits → List ℕ → Form → List (List ℕ)
     → ExtensionField

@@ -1,7 +1,7 @@
 //! The details in event data 2 and 3 of a discrete event (IPMI v2.0, table 29-6).
-ghost use Rattle.std.specs.Prelude.{◌≡◌, ◌++◌, OnOk, IfOk, option_map, string_bytes};
+ghost use Rattle.std.specs.Prelude.{◌≡◌, ◌++◌, OnOk, IfOk, map, option_map, string_bytes};
 ghost use Rattle.ipmi_events.specs.Discrete.{byte_parts, data_label, discrete_details, extension_parts, raw_part, state_part, states_parts};
-ghost use Rattle.ipmi_events.specs.Extensions.{field_parts, fields_of, fields_text, words_parts};
+ghost use Rattle.ipmi_events.specs.Extensions.{field_parts, fields_of, fields_text, said_by, words_parts};
 ghost use Rattle.ipmi_events.specs.Parts.{has_parts, parts_text};
 
 use crate::event_data::{Byte, EventData, Holding};
@@ -117,9 +117,9 @@ fn push_field(
     byte: u8,
 ) -> Result<bool, AllocError>
     ensures text { OnOk result (string_bytes text.new ≡ string_bytes text.old
-        ++ parts_text before (field_parts field.now event.now byte)) }
+        ++ parts_text before (field_parts (said_by field.now) event.now byte)) }
     ensures said { IfOk result
-        (λ said. said ≡ has_parts (field_parts field.now event.now byte)) }
+        (λ said. said ≡ has_parts (field_parts (said_by field.now) event.now byte)) }
 {
     if !field.is_of(event) {
         return Ok(false);
@@ -156,9 +156,9 @@ fn push_fields(
     value: u8,
 ) -> Result<bool, AllocError>
     ensures text { OnOk result (string_bytes text.new ≡ string_bytes text.old
-        ++ parts_text before (fields_text fields.now event.now value)) }
+        ++ parts_text before (fields_text (map said_by fields.now) event.now value)) }
     ensures said { IfOk result
-        (λ said. said ≡ has_parts (fields_text fields.now event.now value)) }
+        (λ said. said ≡ has_parts (fields_text (map said_by fields.now) event.now value)) }
 {
     let mut said = false;
     for field in fields {
@@ -183,8 +183,8 @@ fn push_table(
         (λ said. said ≡ has_parts (fields_text (fields_of byte) event.now value)) }
 {
     match byte {
-        Byte::Two => push_fields(text, before, &SECOND, event, value),
-        Byte::Three => push_fields(text, before, &THIRD, event, value),
+        Byte::Two => push_fields(text, before, SECOND, event, value),
+        Byte::Three => push_fields(text, before, THIRD, event, value),
     }
 }
 

@@ -1,11 +1,10 @@
 //! The extension codes in event data 2 and 3 (IPMI v2.0, table 42-3).
 ghost use Rattle.std.specs.Prelude.{◌≡◌, ◌&&◌};
-ghost use Rattle.ipmi_events.specs.Extensions.{bits_of, is_of, value_in};
+ghost use Rattle.ipmi_events.specs.Extensions.{bits_of, is_of, said_by, value_in};
 
 use crate::event_data::EventData;
 use crate::specific::{ACPI_STATES, ACPI_STATES_OR_UNKNOWN, FRU_STATE};
 use crate::table::{RESERVED, SILENT};
-use std::marker::Model;
 
 /// The bits of a field in its byte.
 #[derive(Clone, Copy, Debug, PartialEq, Eq)]
@@ -41,7 +40,7 @@ pub(crate) enum Form {
 }
 
 /// A field of an extension code: bits of event data 2 or 3 for some offsets of a sensor type.
-#[derive(Clone, Debug, Drop)]
+#[derive(Clone, Copy, Debug)]
 pub(crate) struct Field {
     sensor_type: u8,
     first_offset: u8,
@@ -52,23 +51,6 @@ pub(crate) struct Field {
     pub(crate) form: Form,
     /// The words of its codes. For most decimal fields there are none.
     pub(crate) words: &'static [&'static str],
-}
-
-impl Model for Field {
-    ghost use Rattle.std.specs.Prelude.{map};
-    ghost use Rattle.ipmi_events.specs.Extensions.{ExtensionField};
-
-    ghost Value = { ExtensionField };
-
-    ghost view = { λ f. record {
-      sensor_type = f.sensor_type;
-      first_offset = f.first_offset;
-      last_offset = f.last_offset;
-      bits = f.bits;
-      label = f.label.now;
-      form = f.form;
-      words = map (λ s. s.now) f.words.now;
-    } };
 }
 
 /// Configuration errors of a power supply.
@@ -308,7 +290,7 @@ macro_rules! field {
 }
 
 /// The fields of event data 2, by sensor type, first and last offset, and bits.
-pub(crate) const SECOND: [Field; 30] = [
+pub(crate) const SECOND: &[Field] = &[
     field!(
         0x05,
         0x04,
@@ -390,7 +372,7 @@ pub(crate) const SECOND: [Field; 30] = [
 ];
 
 /// The fields of event data 3, by sensor type, first and last offset, and bits.
-pub(crate) const THIRD: [Field; 13] = [
+pub(crate) const THIRD: &[Field] = &[
     field!(0x08, 0x06, 0x06, From3To0, "", Words, POWER_SUPPLY_ERRORS),
     field!(0x0C, 0x00, 0x0A, All, "memory module ", Decimal, NO_WORDS),
     field!(
@@ -466,7 +448,7 @@ impl Bits {
 impl Field {
     /// Whether an event has this field, according to its sensor type and offset.
     pub(crate) fn is_of(&self, event: &EventData) -> bool
-        ensures { result ≡ is_of self.now event.now }
+        ensures { result ≡ is_of (said_by self.now) event.now }
     {
         self.sensor_type == event.sensor_type
             && self.first_offset <= event.offset
@@ -475,7 +457,7 @@ impl Field {
 
     /// The number in the field's bits of a byte.
     pub(crate) fn value_in(&self, byte: u8) -> u8
-        ensures { result ≡ value_in self.now byte }
+        ensures { result ≡ value_in (said_by self.now) byte }
     {
         self.bits.of(byte)
     }
