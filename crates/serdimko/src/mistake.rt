@@ -455,11 +455,12 @@ fn unquoted<'a>(alloc: Global, words: &[&'a str]) -> Result<Line<'a>, AllocError
     Ok(parts)
 }
 
-/// Whether the names were quoted: one has a space.
+/// Whether the names were quoted: one has a space, a quote or a control character.
 fn are_quoted(names: &[&str]) -> bool {
-    names
-        .iter()
-        .any(|name| name.contains(' ') || name.contains('\''))
+    names.iter().any(|name| {
+        name.bytes()
+            .any(|byte| byte == b' ' || byte == b'\'' || byte.is_ascii_control())
+    })
 }
 
 /// What to say after a run that lacks something: the words may be one name that was not quoted.
