@@ -458,8 +458,7 @@ fn unquoted<'a>(alloc: Global, words: &[&'a str]) -> Result<Line<'a>, AllocError
 /// Whether the names were quoted: one has a space, a quote or a control character.
 fn are_quoted(names: &[&str]) -> bool {
     names.iter().any(|name| {
-        name.bytes()
-            .any(|byte| byte == b' ' || byte == b'\'' || byte.is_ascii_control())
+        name.bytes().any(|byte| byte == b' ' || byte == b'\'' || byte.is_ascii_control())
     })
 }
 
