@@ -1,6 +1,0 @@
-use Rattle.std.proofs.Common.{◌≡◌, length}
-use Rattle.ipmi_raw_tests.proofs.MessageLemmas.{IsReadTo}
-use Rattle.ipmi_raw_tests.proofs.message.read_bytes.Given as goal
-
-abbrev pub invariant-loop : goal.invariant-loop
-invariant-loop l = (length l.bytes.items ≡ l.counter) × IsReadTo l.tool l.before l.end l.text l.bytes.items l.rest
