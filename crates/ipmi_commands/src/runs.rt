@@ -95,9 +95,14 @@ pub fn execute_image_in<'a, O: Sink>(
 {
     let image = Image::read(alloc, image)?;
     if Job::of(cmd, wording).is_rewrite() {
-        return write_image(alloc, &image, out);
+        let ended = write_image(alloc, &image, out);
+        drop(image);
+        return ended;
     }
-    execute_in(alloc, &mut ImageController::new(image), cmd, wording, out)
+    let mut ctl = ImageController::new(image);
+    let ended = execute_in(alloc, &mut ctl, cmd, wording, out);
+    drop(ctl);
+    ended
 }
 
 /// Writes the canonical text of the image.
