@@ -1,5 +1,5 @@
 //! Tests of the commands and of what they use: the bus, the command line, output and messages, and the input and output of a
-//! program. Tests of captures. Tests of ipmi_raw.
+//! program. Tests of captures and of ipmi_raw.
 //!
 //! Controllers, commands, words and outcomes are dropped by a call of `drop`, or moved into a helper. Then their parts are
 //! dropped in one proof, not on each return of a body.
