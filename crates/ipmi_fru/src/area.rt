@@ -129,7 +129,7 @@ fn field_part(kind: AreaKind, area: &[u8]) -> &[u8]
 
 /// A chassis, board or product area without a fault (Platform Management FRU Information Storage Definition v1.0,
 /// sections 10 to 12).
-#[derive(Clone, Debug, Drop)]
+#[derive(Debug, Drop)]
 pub struct AreaView<'a> {
     kind: AreaKind,
     bytes: &'a [u8],

@@ -69,7 +69,7 @@ impl<'a> Beginning<'a> {
 }
 
 /// An iterator over the fields of an area, in order. In contracts it is the list of the remaining fields.
-#[derive(Clone, Debug, Drop)]
+#[derive(Debug, Drop)]
 pub struct Fields<'a> {
     left: &'a [u8],
 }

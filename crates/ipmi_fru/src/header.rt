@@ -81,7 +81,7 @@ pub(crate) fn is_zero_sum(bytes: &[u8]) -> bool
 
 /// The inventory of a FRU device, with a header without a fault (Platform Management FRU Information Storage
 /// Definition v1.0, section 8).
-#[derive(Clone, Debug, Drop)]
+#[derive(Debug, Drop)]
 pub struct FruView<'a> {
     bytes: &'a [u8],
 }

@@ -97,7 +97,7 @@ fn read_record(bytes: &[u8]) -> Result<(MultiView<'_>, &[u8]), MultiFault>
 
 /// An iterator over the records of the multirecord area, in order. It ends after the record marked as the last, or
 /// after the first fault.
-#[derive(Clone, Debug, Drop)]
+#[derive(Debug, Drop)]
 pub struct Records<'a> {
     left: Option<&'a [u8]>,
 }

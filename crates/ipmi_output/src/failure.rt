@@ -15,7 +15,7 @@ use std::fmt;
 use std::marker::Model;
 
 /// A name given on the command line.
-#[derive(Clone, Debug, Drop)]
+#[derive(Debug, Drop)]
 pub struct Name<'a> {
     text: &'a str,
 }
@@ -45,7 +45,7 @@ impl<'a> Name<'a> {
 }
 
 /// Why a run failed. It displays as the program's message, without a line feed.
-#[derive(Clone, Debug, Drop)]
+#[derive(Debug, Drop)]
 pub enum Failure<'a> {
     /// The command line is invalid, or its command cannot be run over a controller.
     Usage,

@@ -60,7 +60,7 @@ enum Meaning {
 }
 
 /// A time stamp of the event log, printed like `utc_text`. In contracts it is its text.
-#[derive(Clone, Debug, Drop)]
+#[derive(Debug, Drop)]
 pub struct UtcTime {
     meaning: Meaning,
 }

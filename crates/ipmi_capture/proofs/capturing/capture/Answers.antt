@@ -1,3 +1,4 @@
+use Rattle.std.proofs.Common.{rules}
 use Rattle.ipmi_capture.proofs.CaptureLemmas.{whole_capture}
 use Rattle.ipmi_capture.proofs.capturing.capture.Goals as goal
 
@@ -5,3 +6,9 @@ pub returns-clause-all : goal.returns-clause-all
 returns-clause-all g c = λ h same nothing.
     let is_image = c.finish.ensures.store in
     rw c.finish.ensures.is (whole_capture _ nothing _ _ (c.in_ok-capture_into.ensures.honest h same (rw c.finish.ensures.is at is_image)))
+
+pub returns-clause-whole : goal.returns-clause-whole
+returns-clause-whole g c = search rules
+
+pub returns-clause-counts : goal.returns-clause-counts
+returns-clause-counts g c = search rules

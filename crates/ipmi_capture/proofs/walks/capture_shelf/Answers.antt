@@ -19,3 +19,6 @@ returns-in-Ok-clause-honest g c = search (
   walks_all_ok c.walks.invariant c.walk_shelf.ensures.beside c.walk_shelf.ensures.calls c.walk_shelf.ensures.asked c.walk_shelf.ensures.stays
       (IsStateOf g.C.Controller.seen) c.walk_shelf.result c.walk_shelf.ensures.honest,
 )
+
+pub returns-clause-calls : goal.returns-clause-calls
+returns-clause-calls g c = search rules

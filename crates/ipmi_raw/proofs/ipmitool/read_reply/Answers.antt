@@ -1,4 +1,4 @@
-use Rattle.std.proofs.Common.{◌≡◌, ◌≢◌, ◌++◌, List, ℕ, ap, ◌∙◌, codes}
+use Rattle.std.proofs.Common.{◌≡◌, ◌≢◌, ◌++◌, List, ℕ, ap, ◌∙◌, codes, rules}
 use Rattle.ipmi_raw.specs.Ipmitool.{refusal}
 use Rattle.ipmi_raw.proofs.WordLemmas.{differ}
 use Rattle.ipmi_raw.proofs.IpmitoolLemmas.{no_front, no_reply, no_zero}
@@ -19,3 +19,9 @@ returns-then-code-eq0 c =
     no_reply c.args.request c.args.text.now c.in_ok-rest.rest.now c.in_default.ensures begins heard
     (no_zero c.in_ok-rest.rest.now c.in_ok-rest-2.rest.now c.in_ok-code.rest.now c.in_ok-code.code c.in_ok-rest-2.ensures
     c.in_ok-code.ensures.1 c.in_ok-code.ensures.0 c.if-code-eq0.true)
+
+pub returns-then-eq : goal.returns-then-eq
+returns-then-eq c = search rules
+
+pub returns-then-is_meaning : goal.returns-then-is_meaning
+returns-then-is_meaning c = search rules

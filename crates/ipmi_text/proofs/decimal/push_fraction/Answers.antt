@@ -1,4 +1,4 @@
-use Rattle.std.proofs.Common.{◌≡◌, ◌+◌, ◌/◌, ◌++◌, ◌∷◌, [], arith, string_bytes}
+use Rattle.std.proofs.Common.{rules, ◌≡◌, ◌+◌, ◌/◌, ◌++◌, ◌∷◌, [], arith, string_bytes}
 use Rattle.std.proofs.lemmas.Grind.{common_steps}
 use Rattle.ipmi_text.proofs.DivisionLemmas.{all_written, next_digit, one_more_written}
 use Rattle.ipmi_text.proofs.decimal.push_fraction.Goals as goal
@@ -18,3 +18,6 @@ digits-preserved c =
 
 pub returns : goal.returns
 returns c = all_written _ _ _ _ _ c.digits.invariant c.digits-test.false c.if-fraction-eq0.false
+
+pub digits-init : goal.digits-init
+digits-init c = search rules

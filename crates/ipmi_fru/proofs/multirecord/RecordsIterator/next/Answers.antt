@@ -12,3 +12,9 @@ returns-clause-steps c =
 
 pub returns-clause-goes : goal.returns-clause-goes
 returns-clause-goes c = let steps = ap length (returns-clause-steps c) in record { on = λ fin. (tt, tt, omega (arith, steps)); keeps = tt; rests = λ fin. tt }
+
+pub returns-in-Err-clause-steps : goal.returns-in-Err-clause-steps
+returns-in-Err-clause-steps c = search rules
+
+pub returns-in-Err-clause-goes : goal.returns-in-Err-clause-goes
+returns-in-Err-clause-goes c = search rules

@@ -1,4 +1,4 @@
-use Rattle.std.proofs.Common.{◌≡◌, true, false, ap, ◌∙◌}
+use Rattle.std.proofs.Common.{◌≡◌, true, false, ap, ◌∙◌, rules}
 use Rattle.ipmi_raw.proofs.AskLemmas.{sends_counted}
 use Rattle.ipmi_raw.proofs.controller.RawController.ask.Goals as goal
 
@@ -34,3 +34,9 @@ returns-in-None-clause-sends g c =
     let same = c.fail-in-None.ensures.counts in
     let lost : c.fail-in-None.new.self.is_lost ≡ true = ap (λ r. r.is_lost) same in
     sends_counted g.P.Peer.brings (g.P.Peer.tool c.args.self.now.peer) c.args.request c.args.self.now c.exchange.new.self c.fail-in-None.new.self sends.0 (ap (λ r. r.peer) same) (ap (λ r. r.text) same) sends.1 (rw lost sends.2)
+
+pub returns-in-Some-Refused-clause-hears : goal.returns-in-Some-Refused-clause-hears
+returns-in-Some-Refused-clause-hears g c = search rules
+
+pub returns-in-Some-Refused-clause-honest : goal.returns-in-Some-Refused-clause-honest
+returns-in-Some-Refused-clause-honest g c = search rules

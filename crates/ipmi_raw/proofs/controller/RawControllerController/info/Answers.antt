@@ -9,3 +9,9 @@ returns-in_err-reply-clause-hears g c =
     hears_failed {V = List ℕ} (g.P.Peer.tool c.args.self.now.peer) (Request.Info c.args.shelf)
     (λ r given. r ≡ given) c.args.self.now c.ask.new.self c.from_residual.result c.in_err-reply.field-0.0 same
     c.in_err-reply.ensures.hears refl
+
+pub returns-clause-honest : goal.returns-clause-honest
+returns-clause-honest g c = search rules
+
+pub returns-clause-hears : goal.returns-clause-hears
+returns-clause-hears g c = search rules

@@ -1,4 +1,5 @@
-use Rattle.std.proofs.Common.{◌≡◌, Err, refl, rules, IfOk, length, take, drop}
+use Rattle.std.proofs.lemmas.Grind.{common_steps}
+use Rattle.std.proofs.Common.{◌≡◌, Err, refl, rules, IfOk, length, take, drop, arith}
 use Rattle.ipmi_bus.specs.declared.controller.Part.{Part}
 use Rattle.ipmi_raw.specs.Answer.{data_in, part_in, value_in}
 use Rattle.ipmi_raw.specs.Request.{record_part}
@@ -12,3 +13,9 @@ returns-in_err-reply-clause-hears g c =
     hears_failed {V = Part} (g.P.Peer.tool c.args.self.now.peer) (Request.Get (record_part c.args.shelf c.args.reservation c.args.id c.args.offset (length c.args.into.now)))
     (λ r given. (r ≡ value_in part_in given) × IfOk r (λ part. take part.got c.args.into.now ≡ drop 2 (data_in given))) c.args.self.now c.ask.new.self c.from_residual.result c.in_err-reply.field-0.0 same
     c.in_err-reply.ensures.hears (refl, tt)
+
+pub returns-clause-honest : goal.returns-clause-honest
+returns-clause-honest g c = search rules
+
+pub returns-clause-hears : goal.returns-clause-hears
+returns-clause-hears g c = grind (arith, common_steps)

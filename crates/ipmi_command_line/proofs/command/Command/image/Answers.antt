@@ -1,0 +1,5 @@
+use Rattle.std.proofs.Common.{rules}
+use Rattle.ipmi_command_line.proofs.command.Command.image.Goals as goal
+
+pub returns : goal.returns
+returns c = search rules

@@ -1,0 +1,5 @@
+use Rattle.std.proofs.Common.{rules}
+use Rattle.ipmi_raw.proofs.tool.Tool.read_reply.Goals as goal
+
+pub returns-in-Ipmitool : goal.returns-in-Ipmitool
+returns-in-Ipmitool c = search rules
