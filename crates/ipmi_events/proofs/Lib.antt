@@ -8,4 +8,5 @@ pub mod RecordLemmas
 pub mod SensorExistenceLemmas
 pub mod SensorUniqueLemmas
 pub mod StateLemmas
+pub mod TableLemmas
 pub mod ThresholdLemmas

@@ -1,7 +1,7 @@
 -- The line of a sensor consists of its columns.
 use Rattle.std.proofs.Common.{◌≡◌, ◌∙◌, ℕ, List, [], ◌∷◌, ◌++◌, Option, append_assoc, codes, refl}
 use Rattle.std.specs.List.{flat_map}
-use Rattle.ipmi_events.specs.Below.{Reading, SdrView, Sensor, columns_line, padded_to, shown_of}
+use Rattle.ipmi_events.specs.Below.{Appends, Reading, SdrView, Sensor, columns_line, padded_to, shown_of}
 use Rattle.ipmi_events.specs.SensorLines.{AppendsColumns, AppendsPadded, IsLineOfSensor, from_lowest, head_columns, with_thresholds}
 use Rattle.ipmi_events.specs.Shown.{IsReadingInWords}
 use Rattle.ipmi_events.specs.Status.{status_in_words}
@@ -27,3 +27,8 @@ line_made view sensor reading told empty named shown status rated bounded text e
   are_thresholds = rw told_is at k.are_columns;
   text_is = text_is ∙ rw (k.text_is, rated_is, h.text_is, named_is, empty_is, status_is, columns_after (padded_to 3 (status_in_words sensor (shown_of sensor reading))) k.columns) (simp append_assoc);
 }
+
+-- what was appended to an empty text is the whole text
+pub only_part : (IsText : List ℕ → Type 0) (old new : List ℕ) → old ≡ [] → Appends IsText old new
+    → IsText new
+only_part IsText old new old_is appended = rw (appended.text_is, old_is) appended.is_text

@@ -1,11 +1,12 @@
 //! The details in event data 2 and 3 of a discrete event (IPMI v2.0, table 29-6).
-ghost use Rattle.std.specs.Prelude.{◌≡◌, ◌++◌, OnOk, IfOk, map, option_map, string_bytes};
+ghost use Rattle.std.specs.Prelude.{◌≡◌, ◌++◌, ◌∷◌, [], OnOk, IfOk, codes, decimal, map, option_map, string_bytes, unwrap_or};
+ghost use Rattle.ipmi_text.specs.Hex.{hex_byte};
 ghost use Rattle.ipmi_events.specs.Discrete.{byte_parts, data_label, discrete_details, extension_parts, raw_part, state_part, states_parts};
-ghost use Rattle.ipmi_events.specs.Extensions.{field_parts, fields_of, fields_text, said_by, words_parts};
+ghost use Rattle.ipmi_events.specs.Extensions.{field_parts, fields_text, said_by, words_parts};
 ghost use Rattle.ipmi_events.specs.Parts.{has_parts, parts_text};
 
 use crate::event_data::{Byte, EventData, Holding};
-use crate::extensions::{Bits, Field, Form, SECOND, THIRD};
+use crate::extensions::{Bits, Field, Form, fields_of};
 use crate::parts::push_comma;
 use crate::table::words_at;
 use crate::words::{EventInWords, SENSOR_SPECIFIC};
@@ -107,6 +108,34 @@ fn push_words(
     Ok(true)
 }
 
+/// Appends a number after its label: its words if there are any, otherwise the number in decimal.
+fn push_decimal(
+    text: &mut String,
+    before: bool,
+    label: &str,
+    words: Option<&str>,
+    value: u8,
+) -> Result<(), AllocError>
+    ensures { OnOk result (string_bytes text.new ≡ string_bytes text.old ++ parts_text before
+        ((label.entry.now ++ unwrap_or (option_map (λ s. s.now) words.entry) (decimal value)) ∷ [])) }
+{
+    push_comma(text, before)?;
+    match words {
+        Some(words) => write!(text, "{label}{words}"),
+        None => write!(text, "{label}{value}"),
+    }
+}
+
+/// Appends a byte in hex after its label.
+fn push_hex(text: &mut String, before: bool, label: &str, value: u8) -> Result<(), AllocError>
+    ensures { OnOk result (string_bytes text.new ≡ string_bytes text.old ++ parts_text before
+        ((label.now ++ (codes "0x" ++ hex_byte value)) ∷ [])) }
+{
+    let value = HexByte(value);
+    push_comma(text, before)?;
+    write!(text, "{label}0x{value}")
+}
+
 /// Appends the text of a field of a byte, if the event has that field. Returns whether anything was appended.
 #[tactic(auto, unfolding(crate::specs::Extensions::field_parts))]
 fn push_field(
@@ -130,17 +159,11 @@ fn push_field(
         Form::Words => push_words(text, before, label, words_at(field.words, value)),
         Form::Flag => push_words(text, before, label, (value != 0).then_some("")),
         Form::Decimal => {
-            push_comma(text, before)?;
-            match words_at(field.words, value) {
-                Some(words) => write!(text, "{label}{words}")?,
-                None => write!(text, "{label}{value}")?,
-            }
+            push_decimal(text, before, label, words_at(field.words, value), value)?;
             Ok(true)
         }
         Form::Hex => {
-            let value = HexByte(value);
-            push_comma(text, before)?;
-            write!(text, "{label}0x{value}")?;
+            push_hex(text, before, label, value)?;
             Ok(true)
         }
     }
@@ -168,26 +191,6 @@ fn push_fields(
     Ok(said)
 }
 
-/// Appends the texts of all fields of a byte. Returns whether anything was appended.
-#[tactic(auto, unfolding(crate::specs::Extensions::fields_of))]
-fn push_table(
-    text: &mut String,
-    before: bool,
-    byte: Byte,
-    event: &EventData,
-    value: u8,
-) -> Result<bool, AllocError>
-    ensures text { OnOk result (string_bytes text.new ≡ string_bytes text.old
-        ++ parts_text before (fields_text (fields_of byte) event.now value)) }
-    ensures said { IfOk result
-        (λ said. said ≡ has_parts (fields_text (fields_of byte) event.now value)) }
-{
-    match byte {
-        Byte::Two => push_fields(text, before, SECOND, event, value),
-        Byte::Three => push_fields(text, before, THIRD, event, value),
-    }
-}
-
 /// Appends the text of a byte with an extension code.
 fn push_extension(
     text: &mut String,
@@ -199,7 +202,8 @@ fn push_extension(
     ensures { OnOk result (string_bytes text.new ≡ string_bytes text.old
         ++ parts_text before (extension_parts byte event.now value)) }
 {
-    let said = event.event_type == SENSOR_SPECIFIC && push_table(text, before, byte, event, value)?;
+    let said = event.event_type == SENSOR_SPECIFIC
+        && push_fields(text, before, fields_of(byte), event, value)?;
     if said {
         return Ok(());
     }

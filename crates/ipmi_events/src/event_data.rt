@@ -14,7 +14,7 @@ const TWO_BITS: u8 = 0x03;
 const UNSPECIFIED: u8 = 0xFF;
 
 /// Event data 2 or 3.
-#[derive(Clone, Copy, Debug, PartialEq, Eq)]
+#[derive(Clone, Copy)]
 pub(crate) enum Byte {
     /// Event data 2.
     Two,
@@ -23,7 +23,7 @@ pub(crate) enum Byte {
 }
 
 /// What event data 2 or 3 contains, according to two bits of event data 1 (table 29-6).
-#[derive(Clone, Copy, Debug, PartialEq, Eq)]
+#[derive(Clone, Copy)]
 pub(crate) enum Holding {
     /// 00b, or 01b or 10b with a byte of FFh: unspecified.
     Nothing,
@@ -37,7 +37,7 @@ pub(crate) enum Holding {
 }
 
 /// The type and the data of an event.
-#[derive(Clone, Copy, Debug, PartialEq, Eq)]
+#[derive(Clone, Copy)]
 pub(crate) struct EventData {
     pub(crate) event_type: u8,
     pub(crate) sensor_type: u8,

@@ -1,6 +1,8 @@
 //! The lines of event log entries, with events in words.
 ghost use Rattle.std.specs.Prelude.{◌≡◌, ◌++◌, IfOk, OnOk, option_map, string_bytes};
+ghost use Rattle.ipmi_text.specs.Appended.{Appends};
 ghost use Rattle.ipmi_records.specs.Prelude.{event_type, sensor_type};
+ghost use Rattle.ipmi_events.specs.Details.{IsDetails};
 ghost use Rattle.ipmi_events.specs.EventLines.{details_column, event_offset, full_of, IsEventInWords, IsEventLineInWords, record_for, sensor_column};
 ghost use Rattle.ipmi_events.specs.Words.{event_in_words};
 
@@ -88,6 +90,31 @@ fn push_details_column(line: &mut String, details: &str) -> Result<(), AllocErro
     write!(line, " | {details}")
 }
 
+/// Appends the columns of an event and a line feed. `view` is the record of its sensor, if there is one.
+fn push_columns(
+    alloc: Global,
+    line: &mut String,
+    id: u16,
+    event: &EventEntry,
+    view: Option<&SdrView>,
+    details: &str,
+) -> Result<(), AllocError>
+    requires { IsDetails event.now (full_of (option_map (λ v. v.now) view)) details.now }
+    ensures { OnOk result (Appends
+        (IsEventLineInWords id event.now (option_map (λ v. v.now) view.entry))
+        (string_bytes line.old) (string_bytes line.new)) }
+{
+    let id = HexWord(id);
+    let time = UtcTime::of(event.time_stamp());
+    write!(line, "{id} | {time} | ")?;
+    push_sensor(alloc, line, event, view)?;
+    let words = words_of(event);
+    let direction = direction_text(event);
+    write!(line, " | {words} | {direction}")?;
+    push_details_column(line, details)?;
+    line.push_str("\n")
+}
+
 /// The line of an event. `view` is the record of its sensor, if there is one.
 fn event_line_of(
     alloc: Global,
@@ -98,18 +125,10 @@ fn event_line_of(
     ensures { IfOk result (λ text. IsEventLineInWords id event.now
         (option_map (λ v. v.now) view.entry) (string_bytes text)) }
 {
-    let id = HexWord(id);
-    let time = UtcTime::of(event.time_stamp());
-    let words = words_of(event);
-    let direction = direction_text(event);
     let mut details = String::with_capacity(alloc, DETAILS_CAPACITY)?;
     push_details(&mut details, event, full_of(view))?;
     let mut line = String::with_capacity(alloc, LINE_CAPACITY)?;
-    write!(line, "{id} | {time} | ")?;
-    push_sensor(alloc, &mut line, event, view)?;
-    write!(line, " | {words} | {direction}")?;
-    push_details_column(&mut line, &details)?;
-    line.push_str("\n")?;
+    push_columns(alloc, &mut line, id, event, view, &details)?;
     Ok(line)
 }
 

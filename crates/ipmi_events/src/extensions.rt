@@ -1,13 +1,13 @@
 //! The extension codes in event data 2 and 3 (IPMI v2.0, table 42-3).
-ghost use Rattle.std.specs.Prelude.{◌≡◌, ◌&&◌};
-ghost use Rattle.ipmi_events.specs.Extensions.{bits_of, is_of, said_by, value_in};
+ghost use Rattle.std.specs.Prelude.{◌≡◌, ◌&&◌, map};
+ghost use Rattle.ipmi_events.specs.Extensions.{bits_of, fields_of, fields_of_second, fields_of_third, is_of, said_by, value_in};
 
-use crate::event_data::EventData;
+use crate::event_data::{Byte, EventData};
 use crate::specific::{ACPI_STATES, ACPI_STATES_OR_UNKNOWN, FRU_STATE};
 use crate::table::{RESERVED, SILENT};
 
 /// The bits of a field in its byte.
-#[derive(Clone, Copy, Debug, PartialEq, Eq)]
+#[derive(Clone, Copy)]
 pub(crate) enum Bits {
     All,
     Bit7,
@@ -27,7 +27,7 @@ pub(crate) enum Bits {
 }
 
 /// How a field is printed.
-#[derive(Clone, Copy, Debug, PartialEq, Eq)]
+#[derive(Clone, Copy)]
 pub(crate) enum Form {
     /// As words from a table. A field without words is not printed.
     Words,
@@ -40,7 +40,7 @@ pub(crate) enum Form {
 }
 
 /// A field of an extension code: bits of event data 2 or 3 for some offsets of a sensor type.
-#[derive(Clone, Copy, Debug)]
+#[derive(Clone, Copy)]
 pub(crate) struct Field {
     sensor_type: u8,
     first_offset: u8,
@@ -290,7 +290,7 @@ macro_rules! field {
 }
 
 /// The fields of event data 2, by sensor type, first and last offset, and bits.
-pub(crate) const SECOND: &[Field] = &[
+const SECOND: &[Field] = &[
     field!(
         0x05,
         0x04,
@@ -372,7 +372,7 @@ pub(crate) const SECOND: &[Field] = &[
 ];
 
 /// The fields of event data 3, by sensor type, first and last offset, and bits.
-pub(crate) const THIRD: &[Field] = &[
+const THIRD: &[Field] = &[
     field!(0x08, 0x06, 0x06, From3To0, "", Words, POWER_SUPPLY_ERRORS),
     field!(0x0C, 0x00, 0x0A, All, "memory module ", Decimal, NO_WORDS),
     field!(
@@ -419,6 +419,31 @@ pub(crate) const THIRD: &[Field] = &[
     field!(0x2A, 0x00, 0x03, From5To4, "", Words, SESSION_ENDS),
     field!(0x2A, 0x00, 0x03, From3To0, "channel ", Decimal, NO_WORDS),
 ];
+
+/// The fields of event data 2.
+fn second_fields() -> &'static [Field]
+    ensures { map said_by result.now ≡ fields_of_second }
+{
+    SECOND
+}
+
+/// The fields of event data 3.
+fn third_fields() -> &'static [Field]
+    ensures { map said_by result.now ≡ fields_of_third }
+{
+    THIRD
+}
+
+/// The fields of a byte of event data.
+#[tactic(auto, unfolding(crate::specs::Extensions::fields_of))]
+pub(crate) fn fields_of(byte: Byte) -> &'static [Field]
+    ensures { map said_by result.now ≡ fields_of byte }
+{
+    match byte {
+        Byte::Two => second_fields(),
+        Byte::Three => third_fields(),
+    }
+}
 
 impl Bits {
     /// The number in these bits of a byte.

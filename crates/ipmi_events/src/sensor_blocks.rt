@@ -31,8 +31,35 @@ fn push_sharing_line(text: &mut String, view: &SdrView) -> Result<(), AllocError
     }
 }
 
-/// The lines that identify the sensor: its record with the name, its number, the number of sensors that share the
-/// record, its owner and LUN, its entity and its type.
+/// Appends the lines that identify the sensor: its record with the name, its number, the number of sensors that share
+/// the record, its owner and LUN, its entity and its type.
+fn push_identity_lines(
+    alloc: Global,
+    text: &mut String,
+    id: u16,
+    view: &SdrView,
+    sensor: &Sensor,
+) -> Result<(), AllocError>
+    ensures { OnOk result (string_bytes text.new ≡ string_bytes text.old
+        ++ identity_lines id view.now sensor.now) }
+{
+    let id = WordH(id);
+    write!(text, "Record: {id}\nName: ")?;
+    push_name(alloc, text, view)?;
+    let number = ByteH(sensor.number);
+    write!(text, "\nSensor: {number}\n")?;
+    push_sharing_line(text, view)?;
+    let owner = ByteH(sensor.owner);
+    let lun = sensor.lun;
+    let entity = EntityInWords(sensor.entity);
+    let kind = SensorType(sensor.sensor_type);
+    write!(
+        text,
+        "Owner: {owner} LUN {lun}\nEntity: {entity}\nKind: {kind}\n"
+    )
+}
+
+/// The lines that identify the sensor.
 fn identity_lines(
     alloc: Global,
     id: u16,
@@ -41,21 +68,8 @@ fn identity_lines(
 ) -> Result<String, AllocError>
     ensures { IfOk result (λ text. string_bytes text ≡ identity_lines id view.now sensor.now) }
 {
-    let id = WordH(id);
-    let number = ByteH(sensor.number);
-    let owner = ByteH(sensor.owner);
-    let lun = sensor.lun;
-    let entity = EntityInWords(sensor.entity);
-    let kind = SensorType(sensor.sensor_type);
     let mut text = String::with_capacity(alloc, PART_CAPACITY)?;
-    write!(text, "Record: {id}\nName: ")?;
-    push_name(alloc, &mut text, view)?;
-    write!(text, "\nSensor: {number}\n")?;
-    push_sharing_line(&mut text, view)?;
-    write!(
-        text,
-        "Owner: {owner} LUN {lun}\nEntity: {entity}\nKind: {kind}\n"
-    )?;
+    push_identity_lines(alloc, &mut text, id, view, sensor)?;
     Ok(text)
 }
 

@@ -1,6 +1,7 @@
 //! The words of sensor-specific events (IPMI v2.0, table 42-3).
-ghost use Rattle.std.specs.Prelude.{◌≡◌, option_map};
-ghost use Rattle.ipmi_events.specs.Specific.{specific_words};
+ghost use Rattle.std.specs.Prelude.{◌≡◌, drop, map, option_map, take};
+ghost use Rattle.ipmi_events.specs.Specific.{specific_tables, specific_words};
+ghost use Rattle.ipmi_events.specs.Table.{table_from_one};
 
 use crate::table::{RESERVED, table_from_one, words_at};
 
@@ -338,8 +339,8 @@ pub(crate) const FRU_STATE: [&str; 8] = [
     "FRU Communication Lost",
 ];
 
-/// The tables, starting at sensor type 01h.
-const SPECIFIC: [&[&str]; 44] = [
+/// The tables of sensor types 01h to 0Fh.
+const FROM_01: [&[&str]; 15] = [
     &NO_WORDS,
     &NO_WORDS,
     &NO_WORDS,
@@ -355,6 +356,10 @@ const SPECIFIC: [&[&str]; 44] = [
     &DRIVE_SLOT,
     &NO_WORDS,
     &FIRMWARE_PROGRESS,
+];
+
+/// The tables of sensor types 10h to 1Fh.
+const FROM_10: [&[&str]; 16] = [
     &EVENT_LOGGING_DISABLED,
     &WATCHDOG_1,
     &SYSTEM_EVENT,
@@ -371,6 +376,10 @@ const SPECIFIC: [&[&str]; 44] = [
     &BOOT_INITIATED,
     &BOOT_ERROR,
     &OS_BOOT,
+];
+
+/// The tables of sensor types 20h to 2Ch.
+const FROM_20: [&[&str]; 13] = [
     &OS_STOP,
     &SLOT,
     &ACPI_POWER_STATE,
@@ -386,9 +395,43 @@ const SPECIFIC: [&[&str]; 44] = [
     &FRU_STATE,
 ];
 
+/// The tables of sensor types 01h to 0Fh.
+fn tables_from_01() -> &'static [&'static [&'static str]]
+    ensures { map (λ t. map (λ s. s.now) t.now) result.now ≡ take 15 specific_tables }
+{
+    &FROM_01
+}
+
+/// The tables of sensor types 10h to 1Fh.
+fn tables_from_10() -> &'static [&'static [&'static str]]
+    ensures { map (λ t. map (λ s. s.now) t.now) result.now ≡ take 16 (drop 15 specific_tables) }
+{
+    &FROM_10
+}
+
+/// The tables of sensor types 20h to 2Ch.
+fn tables_from_20() -> &'static [&'static [&'static str]]
+    ensures { map (λ t. map (λ s. s.now) t.now) result.now ≡ drop 31 specific_tables }
+{
+    &FROM_20
+}
+
+/// The table of a sensor type.
+fn specific_table(sensor_type: u8) -> &'static [&'static str]
+    ensures { map (λ s. s.now) result.now ≡ table_from_one specific_tables sensor_type }
+{
+    if sensor_type < 0x10 {
+        table_from_one(tables_from_01(), sensor_type)
+    } else if sensor_type < 0x20 {
+        table_from_one(tables_from_10(), sensor_type - 0x0F)
+    } else {
+        table_from_one(tables_from_20(), sensor_type - 0x1F)
+    }
+}
+
 /// The words of a sensor type at a sensor-specific offset.
 pub(crate) fn specific_words(sensor_type: u8, offset: u8) -> Option<&'static str>
     ensures { option_map (λ s. s.now) result ≡ specific_words sensor_type offset }
 {
-    words_at(table_from_one(&SPECIFIC, sensor_type), offset)
+    words_at(specific_table(sensor_type), offset)
 }

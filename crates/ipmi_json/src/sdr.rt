@@ -481,6 +481,29 @@ fn fault_word(fault: SdrFault) -> &'static str
     }
 }
 
+/// Writes the members of a record with a fault.
+fn write_fault(
+    alloc: Global,
+    out: &mut Writer,
+    id: u16,
+    fault: SdrFault,
+    bytes: &[u8],
+) -> Result<(), AllocError>
+    ensures { OnOk result (Adds 1 (fault_members id fault bytes.now) out.old out.new) }
+{
+    write_members(
+        out,
+        &[
+            ("object", Value::Text("sdr_record")),
+            ("record_id", Value::Integer(u64::from(id))),
+            ("record_type", integer_or_null(type_of(bytes))),
+            ("kind", Value::Text("faulty")),
+            ("fault", Value::Text(fault_word(fault))),
+        ],
+    )?;
+    write_raw(alloc, out, bytes)
+}
+
 /// The line of a record with a fault: its object, with its bytes.
 pub fn sdr_fault_line(
     alloc: Global,
@@ -492,17 +515,7 @@ pub fn sdr_fault_line(
     ensures { IfOk result (λ line. IsLineOf (fault_members id fault bytes.now) labels.now line.items) }
 {
     let mut out = begin(alloc)?;
-    write_members(
-        &mut out,
-        &[
-            ("object", Value::Text("sdr_record")),
-            ("record_id", Value::Integer(u64::from(id))),
-            ("record_type", integer_or_null(type_of(bytes))),
-            ("kind", Value::Text("faulty")),
-        ],
-    )?;
-    write_member(&mut out, "fault", Value::Text(fault_word(fault)))?;
-    write_raw(alloc, &mut out, bytes)?;
+    write_fault(alloc, &mut out, id, fault, bytes)?;
     finish(out, labels)
 }
 

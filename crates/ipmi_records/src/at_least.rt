@@ -5,7 +5,7 @@ use std::marker::Model;
 
 /// The bytes of a sensor data record, at least `LEN` of them. `TYPE` distinguishes the kinds of records: it is the
 /// lowest record type of the kind.
-#[derive(Clone, Debug, Drop)]
+#[derive(Debug, Drop)]
 pub struct AtLeast<'a, const TYPE: u8, const LEN: usize> {
     pub(crate) bytes: &'a [u8],
 }

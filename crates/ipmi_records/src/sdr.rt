@@ -52,7 +52,7 @@ pub enum SdrFault {
 pub type OtherRecord<'a> = AtLeast<'a, OTHER_TYPE, SDR_HEADER_LEN>;
 
 /// A sensor data record, by its type.
-#[derive(Clone, Debug, Drop)]
+#[derive(Debug, Drop)]
 pub enum SdrView<'a> {
     /// Type 01h.
     Full(FullSensor<'a>),

@@ -61,7 +61,7 @@ const DEASSERTED: u32 = 7;
 const EVENT_TYPE_BITS: u8 = 0x7F;
 
 /// The 16 bytes of an entry of the event log. `TYPE` is the first entry type of its kind.
-#[derive(Clone, Debug, Drop)]
+#[derive(Debug, Drop)]
 pub struct Entry<'a, const TYPE: u8> {
     bytes: &'a [u8],
 }
@@ -223,7 +223,7 @@ impl<'a> OtherEntry<'a> {
 }
 
 /// An entry of the event log, by its type.
-#[derive(Clone, Debug, Drop)]
+#[derive(Debug, Drop)]
 pub enum SelView<'a> {
     /// Type 02h.
     Event(EventEntry<'a>),

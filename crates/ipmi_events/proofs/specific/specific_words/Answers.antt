@@ -5,4 +5,4 @@ use Rattle.ipmi_events.proofs.specific.specific_words.Goals as goal
 
 pub returns : goal.returns
 unfolding specific_words
-returns c = c.words_at.ensures ∙ ap (λ table. words_at table c.args.offset) c.table_from_one.ensures
+returns c = c.words_at.ensures ∙ ap (λ table. words_at table c.args.offset) c.specific_table.ensures

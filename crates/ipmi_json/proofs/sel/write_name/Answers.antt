@@ -5,3 +5,6 @@ pub returns : goal.returns
 returns c =
     let text = c.as_str.ensures.value ∙ c.in_ok-push_sensor_name.ensures ∙ rw (c.clear.ensures.bytes, c.sensor_number.ensures) refl in
     rw c.in-Some.is (rw (c.text_unless_empty.ensures, text) at c.write_member-2.ensures)
+
+pub returns-in_default : goal.returns-in_default
+returns-in_default c = rw c.in_default.is c.write_member.ensures

@@ -1,0 +1,5 @@
+use Rattle.std.proofs.Common.{rules}
+use Rattle.ipmi_records.proofs.sdr.SdrView.fru_of.Goals as goal
+
+pub returns-in-Fru : goal.returns-in-Fru
+returns-in-Fru c = search rules

@@ -1,0 +1,14 @@
+use Rattle.std.proofs.Common.{rules}
+use Rattle.ipmi_records.proofs.sdr.least_len.Goals as goal
+
+pub returns-in-1 : goal.returns-in-1
+returns-in-1 c = search rules
+
+pub returns-in-2 : goal.returns-in-2
+returns-in-2 c = search rules
+
+pub returns-in-3 : goal.returns-in-3
+returns-in-3 c = search rules
+
+pub returns-in-16 : goal.returns-in-16
+returns-in-16 c = search rules
