@@ -1,9 +1,9 @@
 -- The record that a cursor returns is the row that it requested.
-use Rattle.std.proofs.Common.{◌≡◌, ℕ, ◌+◌, ◌*◌, ◌<◌, ◌≤◌, false, nat_eq, None, Some, IfSome, IsSome, List, length, take, get_or, refl, sym, ◌∙◌, arith, nat_cmp, take_all, get_or-take, length-take}
+use Rattle.std.proofs.Common.{◌≡◌, ℕ, ◌+◌, ◌*◌, ◌<◌, ◌≤◌, false, nat_eq, None, Some, IfSome, IsSome, List, length, take, get_or, inl, inr, refl, sym, ◌∙◌, arith, nat_cmp, take_all, get_or-take, length-take}
 use Rattle.std.specs.FinSet as set
 use Rattle.std.specs.FinSet.{contains-empty, len-empty}
 use Rattle.std.proofs.lemmas.Bool.Decides.{nat_tests}
-use Rattle.ipmi_bus.specs.Prelude.{Shelf, Place, First, Id, End, Retrieval, Handed, Progress, Row, IsShelf, id_in, whole_len, largest_len, look, first_row, place_after, rows_of, store_shelf, Seen, IsHonest, wanted_len, handed_id, IsAsked, cycle_at, asked_at, HandsOut, CursorState}
+use Rattle.ipmi_bus.specs.Prelude.{Shelf, Place, First, Id, End, Retrieval, Handed, Progress, Row, IsShelf, id_in, whole_len, largest_len, look, first_row, place_after, rows_of, store_shelf, Seen, IsHonest, wanted_len, handed_id, IsAsked, cycle_at, asked_at, HandsOut, CursorState, IsCursor}
 use Rattle.ipmi_bus.specs.Retrieval.{HasRead}
 use Rattle.ipmi_bus.proofs.PartLemmas.{get_or-read}
 use Rattle.ipmi_bus.proofs.WalkLemmas.{id-row_at}
@@ -98,6 +98,21 @@ hands_out old new asked r row is asks first place ids at_most next shelf room so
       next = next;
       reserved = reserved;
     }
+
+-- a cursor stays one if its part size does not grow
+pub is_cursor-after : (old new : Progress) → IsCursor old → 0 < new.retrieval.part
+    → new.retrieval.part ≤ old.retrieval.part → (new.place ≡ First → new.ids ≡ set.empty)
+    → IsCursor new
+is_cursor-after old new is some part first = record { some = some; fits = omega (arith, is.fits); first = first }
+
+-- no record is before the start
+pub place_after-not_first : (next : ℕ) → place_after next ≡ First → ⊥
+place_after-not_first next first = grind (arith, nat_tests)
+
+-- a cursor that requests a record has not returned all ids
+pub room_asked : (place : Place) (ids : set.FinSet nat_cmp) (asked : ℕ) → IsAsked place ids asked
+    → (place ≡ First → ids ≡ set.empty) → set.len ids < 65536
+room_asked place ids asked asks first = elim asks.room [ inl start ↦ rw (first start, len-empty nat_cmp) (omega arith) | inr room ↦ room ]
 
 -- if no id was returned yet, there is room for each id
 pub ruleset empty_ids = (contains-empty, len-empty)

@@ -8,5 +8,6 @@ pub mod PartLemmas
 pub mod ShelfLemmas
 pub mod SinceLemmas
 pub mod StepsLaws
+pub mod ValueLemmas
 pub mod WalkLaws
 pub mod WalkLemmas

@@ -3,7 +3,7 @@ use Rattle.std.proofs.Common.{◌≡◌, ℕ, ◌+◌, ◌<◌, ◌≤◌, Bool,
 use Rattle.std.proofs.lemmas.Bool.{cases_lt}
 use Rattle.std.proofs.lemmas.Bool.Decides.{nat_tests}
 use Rattle.ipmi_bus.specs.Prelude.{Shelf, Code, CodeClass, Cancelled, Busy, SmallerPart, NotPresent, Refusal, Part, Ended, Stalled, Malformed, CallOutcome, Again, Over, Whole, Absent, Retrieval, Row, IsRow, look, whole_len, len_of, largest_len, rows_of, store_shelf, Seen, stays_trans, IsHonest, StaysHonest, MayLoseReservation, IsQuiet, IsFinished, current, CountsPiece, FailsWith, GivesPiece, PartAnswers, smaller_part, class_of, SameRequest, IsReading, HoldsCurrent, HasMet, KeepsHeld, HonestSince, IsPlainSince, ReadIsHonest, ReadNext, wanted_len, after_part, Asked, part_asked, not_present}
-use Rattle.ipmi_bus.specs.Retrieval.{IsOpenRecord, HasRead, TakesRecordPart, MakesSmaller, PartFails}
+use Rattle.ipmi_bus.specs.Retrieval.{IsOpenRecord, HasRead, request_len, TakesRecordPart, MakesSmaller, PartFails}
 use Rattle.ipmi_bus.proofs.ShelfLemmas.{look_row}
 use Rattle.ipmi_bus.proofs.CallLemmas.{reading_kept, held_on, within_calm, trouble_answers, refusal_answers}
 
@@ -15,6 +15,23 @@ request_of r reservation len = part_asked r.shelf reservation r.id r.have len
 pub get_or-read : (have i : ℕ) (buffer bytes : List ℕ) → i < have
     → take have buffer ≡ take have bytes → get_or buffer i 0 ≡ get_or bytes i 0
 get_or-read have i buffer bytes lt same = sym (get_or-take have buffer i 0 lt) ∙ rw same (get_or-take have bytes i 0 lt)
+
+-- the wanted length depends only on the bytes that are already read
+wanted_read : (shelf : Shelf) (have : ℕ) (buffer bytes : List ℕ)
+    → take have buffer ≡ take have bytes → wanted_len shelf have buffer ≡ wanted_len shelf have bytes
+wanted_read shelf have buffer bytes same = let byte = λ (lt : 4 < have). get_or-read have 4 buffer bytes lt same in grind (arith, nat_tests)
+
+-- a request keeps the record open, and its answer is not longer than the bytes that are missing
+pub open_requested : (r : Retrieval) (buffer : List ℕ) → IsOpenRecord r
+    → take r.have buffer ≡ take r.have r.buffer → IsOpenRecord (record r { buffer = buffer })
+open_requested r buffer is front =
+    let wanted = wanted_read r.shelf r.have buffer r.buffer front in
+    record { part = is.part; part_fits = is.part_fits; more = rw wanted is.more; fits = rw wanted is.fits; troubles = is.troubles; reserved = is.reserved }
+
+pub part_within : (r : Retrieval) (buffer : List ℕ) (asked got : ℕ) → IsOpenRecord r
+    → take r.have buffer ≡ take r.have r.buffer → asked ≡ request_len r → got ≤ asked
+    → r.have + got ≤ wanted_len r.shelf r.have buffer
+part_within r buffer asked got is front len fits = rw (wanted_read r.shelf r.have buffer r.buffer front) (omega (arith, is.more))
 
 -- the wanted length is at most that of the row
 pub wanted_within : (shelf : Shelf) (have : ℕ) (buffer : List ℕ) (row : Row) → IsRow shelf row

@@ -1,5 +1,5 @@
 -- Reading a record, call by call.
-use Rattle.std.proofs.Common.{◌≡◌, ℕ, ◌+◌, ◌*◌, ◌≤◌, Option, None, Some, Ok, refl, ap, ◌∙◌, arith, ◌-◌}
+use Rattle.std.proofs.Common.{◌≡◌, ℕ, ◌+◌, ◌*◌, ◌<◌, ◌≤◌, Option, None, Some, Ok, refl, ap, ◌∙◌, arith, ◌-◌}
 use Rattle.ipmi_bus.specs.Prelude.{AreWithin, AsksAtMost, digits, step_call_bound, Again, Retrieval, largest_len, Seen, IsHonest, StaysHonest, SameRequest, CallLeaves, unreserved, begun, HonestSince, len_of, look, rows_of}
 use Rattle.ipmi_bus.specs.Retrieval.{IsOpenRecord, calls_left}
 
@@ -48,6 +48,17 @@ module _ (start now new : Retrieval) (s s' s'' : Seen) (since : Since start now 
         calls_more (row_len start s) ((honest h).within e) (since.row_calls h (omega (arith, before.store.grows, (stays before.honest).store.grows)));
   }
 
+-- after one more call fewer calls are left
+pub fewer_left : (start now new : Retrieval) → SameRequest start now → SameRequest now new
+    → CallLeaves now new (Ok Again)
+    → calls_left (largest_len start.shelf) new < calls_left (largest_len start.shelf) now
+fewer_left start now new before request leaves =
+    let within : new.have ≤ largest_len start.shelf = omega (arith, leaves.0.more, leaves.0.fits, ap largest_len (request.shelf ∙ before.shelf)) in
+    less _ _ (leaves.1 (largest_len start.shelf) within)
+  where
+    less : (a b : ℕ) → a + 1 ≤ b → a < b
+    less a b p = omega arith
+
 unreserved_le : (o : Option ℕ) → unreserved o ≤ 1
 unreserved_le None = omega arith
 unreserved_le (Some n) = omega arith
@@ -63,14 +74,10 @@ module _ (old : Retrieval) (id : ℕ) (now new : Retrieval) (s s' s'' : Seen)
       let product : (r.tries - r.troubles) * (len + 2) ≡ tries * (len + 2) = ap (λ (n : ℕ). n * (len + 2)) {y = tries} (omega (arith, is, t)) in
       omega (arith, most, product, h)
 
-  -- if the store is unchanged, the number of calls is within the bound for the row's length and the digits that the part size lost
-  pub row_bound : (IsHonest s' → StaysHonest s' s'') → new.part ≡ now.part → IsHonest s
-      → s''.stores_added ≡ s.stores_added → AreWithin old.tries (row_len (begun old id) s) old.part new.part s s''
-  row_bound stays same h e =
-      let before = (since.honest h).stays in
-      let len = row_len (begun old id) s in
-      let calls = since.row_calls h (omega (arith, before.store.grows, (stays before.honest).store.grows)) in
-      chain (calls_left len now) (calls_left len (begun old id)) (step_call_bound old.tries len) (left_least len now) calls (ap digits same) (bound_by len old.tries (begun old id) refl refl refl)
+  -- the bound for a row of this length, from the number of calls left before the last one
+  bound : (len : ℕ) → s'.calls + calls_left len now ≤ s.calls + calls_left len (begun old id)
+      → new.part ≡ now.part → AreWithin old.tries len old.part new.part s s''
+  bound len calls same = chain (calls_left len now) (calls_left len (begun old id)) (step_call_bound old.tries len) (left_least len now) calls (ap digits same) (bound_by len old.tries (begun old id) refl refl refl)
     where
       left_least : (len : ℕ) (r : Retrieval) → 1 + digits r.part ≤ calls_left len r
       left_least len r = omega arith
@@ -79,3 +86,15 @@ module _ (old : Retrieval) (id : ℕ) (now new : Retrieval) (s s' s'' : Seen)
           → digits new.part ≡ digits now.part → b ≤ c + digits old.part
           → s''.calls + digits new.part ≤ s.calls + c + digits old.part
       chain a b c p q d m = omega (arith, counted)
+
+  -- the number of calls is within the bound for the largest row and the digits that the part size lost
+  pub call_bound : new.part ≡ now.part
+      → AreWithin old.tries (largest_len old.shelf) old.part new.part s s''
+  call_bound same = bound (largest_len old.shelf) since.calls same
+
+  -- if the store is unchanged, it is within the bound for the row's length
+  pub row_bound : (IsHonest s' → StaysHonest s' s'') → new.part ≡ now.part → IsHonest s
+      → s''.stores_added ≡ s.stores_added → AreWithin old.tries (row_len (begun old id) s) old.part new.part s s''
+  row_bound stays same h e =
+      let before = (since.honest h).stays in
+      bound (row_len (begun old id) s) (since.row_calls h (omega (arith, before.store.grows, (stays before.honest).store.grows))) same

@@ -10,6 +10,11 @@ use Rattle.ipmi_commands.proofs.ItemLemmas.{IsCarried, leaves_carried, no_items,
 use Rattle.ipmi_commands.proofs.ListingLemmas.{fresh_along, fresh_ends, holds_none}
 use Rattle.ipmi_commands.proofs.SpotLemmas.{among_after, quiet_there, spots_at_walk_end-joined, spots_of_rows-split}
 
+-- a new cursor is at the place where it starts
+pub starts_at : {command : CommandState} {form : Form} {from : Option ℕ} {cursor : CursorState}
+    → IsFresh command form from cursor → cursor.place ≡ start_of from
+starts_at fresh = ap (λ (c : CursorState). c.place) fresh.is
+
 -- ---- the spots of the first item
 
 -- the spots of the first item along rows, or after them, are spots of the rows

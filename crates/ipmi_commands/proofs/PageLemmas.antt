@@ -1,8 +1,10 @@
 -- Pages of a listing.
 use Rattle.std.proofs.Common.{◌≡◌, inl, inr, ℕ, zero, suc, ◌+◌, ◌*◌, ◌<◌, ◌≤◌, ◌==◌, false, Option, None, Some, Result, Ok, Err, List, [], ◌∷◌, length, take, drop, get_or, refl, ap, subst, ◌∙◌, arith, take_all, length-take}
+use Rattle.std.proofs.lemmas.Grind.{common_steps}
 use Rattle.std.proofs.lemmas.List.{take_min, at_drop_more}
-use Rattle.ipmi_commands.specs.Below.{Place, Row, row_at, IsWalk, place_after_rows, Seen, IsHonest, CommandState, CursorState, start_of, Ending, Failure}
-use Rattle.ipmi_commands.specs.Prelude.{ArePages, AtEnd, cause_of, Change, change, end_of, ending_of, first_rows, Form, IsFresh, IsPage, IsTextOver, listing, listing_plan, ListsHonestly, pages_made}
+use Rattle.ipmi_commands.specs.Pages.{PageAlong}
+use Rattle.ipmi_commands.specs.Below.{Place, End, Row, rows_of, WalkEnd, Done, CycleAt, MissingAt, EndsBy, row_at, IsWalk, place_after_rows, Seen, IsHonest, CommandState, CursorState, start_of, Ending, Failure}
+use Rattle.ipmi_commands.specs.Prelude.{ArePages, AtEnd, cause_of, Change, change, end_of, ending_of, first_rows, Form, IsFresh, IsPage, IsTextOver, listing, listing_plan, ListsHonestly, pages_made, shelf_of}
 use Rattle.ipmi_commands.proofs.CallLemmas.{first_end-none}
 use Rattle.ipmi_commands.proofs.CountLemmas.{ends_here}
 use Rattle.ipmi_commands.proofs.ItemLemmas.{no_items, none_printed}
@@ -29,6 +31,25 @@ page_of_none form place tries s text honest =
 pub no_walk : (rows : List Row) (start : Place) (walk : List Row) → row_at start rows ≡ None
     → IsWalk rows start walk → walk ≡ []
 no_walk rows start walk none w = grind arith
+
+-- a page from the end
+pub page_at_end : (form : Form) (tries : ℕ) (most : Option ℕ) (s : Seen) (text : List ℕ) → IsHonest s
+    → IsPage form End tries most (change s s text text) (end_of form false End)
+page_at_end form tries most s text honest =
+    let cause : cause_of (ending_of (end_of form false End)) ≡ AtEnd = grind arith in
+    record {
+      ends = rw cause (ends_here honest refl tt);
+      none = λ zero_. refl;
+      along = λ same walk end w ends. along walk end (no_walk _ End walk refl w) ends;
+    }
+  where
+    along : (walk : List Row) (end : WalkEnd) → walk ≡ []
+        → EndsBy (rows_of (shelf_of form) s.store) End walk end
+        → PageAlong form End tries most (change s s text text) (end_of form false End) walk end
+    along [] Done empty ends = record { leaves = grind (arith, common_steps); calls = omega arith; goes_on = grind (arith, common_steps) }
+    along [] (CycleAt n) empty ends = absurd ends
+    along [] (MissingAt n) empty ends = absurd ends
+    along (row ∷ walk) end empty ends = cc empty
 
 -- a page whose cursor is out of memory
 pub page_without_memory : (form : Form) (place : Place) (tries : ℕ) (most : Option ℕ) (s : Seen)

@@ -2,9 +2,24 @@
 use Rattle.std.proofs.Common.{◌≡◌, ℕ, ◌+◌, ◌≤◌, IsTrue, Option, None, Some, Result, Ok, Err, Vec, Global, List, [], ◌∷◌, ◌++◌, option_map, refl, arith}
 use Rattle.ipmi_commands.specs.Below.{fru_call_bound, Shelf, Place, First, Seen, IsHonest, Row, Store, info_of, inventory_of, WalkEnd, Ending, Failure}
 use Rattle.ipmi_commands.specs.Run.{EndsInfo, EndsInventory}
-use Rattle.ipmi_commands.specs.Prelude.{LacksInventory, LacksValue, AtEnd, AtRecord, cause_of, change, ending_of, spots_at_walk_end, EndsFor, EndsListing, failure_of, Finds, Form, info_plan, inventories_plan, AtInventory, inventory_item, inventory_plan, IsInventoryIn, most_on_walk, IsAllowed, IsAmong, IsInfoText, IsPage, IsTextOver, Item, Job, listing, listing_plan, IsStopAmong, OfInfo, OfInventory, Plan, row_items, Runs, Spot, next_spots, Subject, text_plan, Unread, Wording, WritesText}
+use Rattle.ipmi_commands.specs.Prelude.{LacksInventory, LacksValue, AtEnd, AtRecord, cause_of, Change, change, ending_of, spots_at_walk_end, EndsFor, EndsListing, failure_of, Finds, Form, info_plan, inventories_plan, AtInventory, inventory_item, inventory_plan, IsInventoryIn, most_on_walk, IsAllowed, IsAmong, IsInfoText, IsPage, IsTextOver, Item, Job, Listing, listing, listing_plan, IsStopAmong, OfInfo, OfInventory, Plan, row_items, Runs, Spot, next_spots, Subject, text_plan, Unread, Wording, WritesText}
 use Rattle.ipmi_commands.proofs.CountLemmas.{between, ends_as, ends_since}
 use Rattle.ipmi_commands.proofs.ItemLemmas.{cut_after, leaves_joined, leaves_longer, no_items, one_printed, stops_after}
+
+-- ---- one listing
+
+-- a page is the run of its listing
+pub page_runs : (l : Listing) (tries : ℕ) (c : Change) (result : Result Place Failure)
+    → EndsListing l.form c.seen' (ending_of result)
+    → c.seen'.calls ≤ c.seen.calls + most_on_walk l.form tries
+    → (IsHonest c.seen → IsPage l.form l.start tries l.most c result)
+    → Runs (Job.Records l) tries c (ending_of result)
+page_runs l tries c result ends calls page = record {
+  calls = calls;
+  ends = ends;
+  why = λ h. (page h).ends;
+  prints = λ h same walk end w done. let along = (page h).along same walk end w done in (along.leaves, along.calls);
+}
 
 -- ---- writing a text
 

@@ -1,14 +1,14 @@
 //! Lists the last entries of the event log: one walk counts the entries, a second one lists the last of them.
-ghost use Rattle.std.specs.Prelude.{◌≡◌, ◌+◌, ◌≤◌};
+ghost use Rattle.std.specs.Prelude.{◌≡◌, ◌+◌, ◌≤◌, ℕ, Option};
 ghost use Rattle.ipmi_commands.specs.Below.{AsksAtMost, start_of, IsHonest, write_faults};
 ghost use Rattle.ipmi_commands.specs.declared.job.Form.{Form};
 ghost use Rattle.ipmi_commands.specs.declared.job.Job.{Job};
-ghost use Rattle.ipmi_commands.specs.Prelude.{change, CountsEntries, ending_of, EndsListing, IsFrom, ListsAfter, most_on_walk, Runs};
+ghost use Rattle.ipmi_commands.specs.Prelude.{change, CountsEntries, ending_of, EndsListing, IsFresh, IsFrom, ListsAfter, most_on_walk, Runs};
 
 use crate::job::{Entries, Form};
 use crate::listing::list_records;
 use crate::pages::start_cursor;
-use ipmi_bus::Controller;
+use ipmi_bus::{Controller, Cursor};
 use ipmi_command_line::Command;
 use ipmi_output::{Failure, Sink};
 use std::alloc::Global;
@@ -35,8 +35,44 @@ fn count_entries<'a, C: Controller, O: Sink>(
     list_records(alloc, &mut cursor, ctl, cmd, &Form::Passed, None, out)
 }
 
-/// Skips the first `passed` entries, starting at the id `from` or at the first entry, and lists those after them. If
-/// there are fewer entries, because the log became shorter, it lists nothing.
+/// Skips the first `passed` entries after the place of a new cursor, and lists those after them. If there are fewer
+/// entries, because the log became shorter, it lists nothing.
+fn list_rest<'a, C: Controller, O: Sink>(
+    alloc: Global,
+    cursor: &mut Cursor,
+    ctl: &mut C,
+    cmd: &Command,
+    entries: Entries<'a>,
+    passed: u32,
+    out: &mut O,
+) -> Result<(), Failure<'a>>
+    requires { (from : Option ℕ) × IsFresh cmd.now Form.Passed from cursor.old }
+    ensures faults { O.faults out.new ≡ O.faults out.old + write_faults result }
+    ensures asked { AsksAtMost cmd.now.part (C.seen ctl.old) (C.seen ctl.new) }
+    ensures ends { EndsListing (Form.EntryLine entries.entry) (C.seen ctl.new) result }
+    ensures calls { (C.seen ctl.new).calls ≤ (C.seen ctl.old).calls + most_on_walk Form.Passed
+        cmd.now.tries }
+    ensures honest { IsHonest (C.seen ctl.old) →
+        ListsAfter entries.entry cursor.old.place passed cmd.now.tries (change (C.seen ctl.old) (C.seen ctl.new)
+        (O.taken out.old) (O.taken out.new)) result }
+{
+    let most = Some(passed);
+    if list_records(alloc, cursor, ctl, cmd, &Form::Passed, most, out)? != passed {
+        return Ok(());
+    }
+    list_records(
+        alloc,
+        cursor,
+        ctl,
+        cmd,
+        &Form::EntryLine(entries),
+        None,
+        out,
+    )?;
+    Ok(())
+}
+
+/// Skips the first `passed` entries, starting at the id `from` or at the first entry, and lists those after them.
 fn list_after<'a, C: Controller, O: Sink>(
     alloc: Global,
     ctl: &mut C,
@@ -57,20 +93,7 @@ fn list_after<'a, C: Controller, O: Sink>(
         (O.taken out.old) (O.taken out.new)) result }
 {
     let mut cursor = start_cursor(alloc, cmd, &Form::Passed, from)?;
-    let most = Some(passed);
-    if list_records(alloc, &mut cursor, ctl, cmd, &Form::Passed, most, out)? != passed {
-        return Ok(());
-    }
-    list_records(
-        alloc,
-        &mut cursor,
-        ctl,
-        cmd,
-        &Form::EntryLine(entries),
-        None,
-        out,
-    )?;
-    Ok(())
+    list_rest(alloc, &mut cursor, ctl, cmd, entries, passed, out)
 }
 
 /// Lists the last `wanted` entries. The first walk counts all entries, the second skips those before the last ones.

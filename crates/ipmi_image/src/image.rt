@@ -1,7 +1,7 @@
 //! A saved image of a management controller, read from its text.
-ghost use Rattle.std.specs.Prelude.{◌≡◌, ◌⊎◌, [], ◌≤◌, All, IfOk, IfErr, IfSome, Ok, Err, length, option_map};
+ghost use Rattle.std.specs.Prelude.{◌≡◌, ◌⊎◌, [], ◌≤◌, All, IfOk, IfErr, OnOk, IfSome, Ok, Err, length, option_map};
 ghost use Rattle.ipmi_image.specs.Below.{IsStore, rows_of, inventory_of, reading_of, info_of};
-ghost use Rattle.ipmi_image.specs.Prelude.{pieces, chained, at_line, IsBuilt, store_after, store_of_image, IsSaved, store_of};
+ghost use Rattle.ipmi_image.specs.Prelude.{pieces, chained, at_line, IsBuilt, store_after, store_of_image, IsSaved, store_of, HoldsLines};
 
 use crate::contents::Contents;
 use crate::image_line::{LineFault, read_line};
@@ -73,7 +73,47 @@ impl LineFault {
     }
 }
 
-/// The contents of the lines after the first one. The last line must be `end`.
+/// Adds what the lines after the first one say to the empty `contents`. The last line must be `end`. `bytes` is room for
+/// the bytes of a line.
+fn put_lines(
+    alloc: Global,
+    version: Version,
+    text: &[u8],
+    bytes: &mut Vec<u8>,
+    contents: &mut Contents,
+) -> Result<(), ImageFault>
+    requires store { IsStore (store_of contents.old) }
+    requires empty { HoldsLines contents.old [] }
+    ensures ok { OnOk result (IsStore (store_of contents.new) ×
+        (store_after version [] (pieces 10 text.now) ≡ Ok (store_of contents.new))) }
+    ensures err { IfErr result (λ e. (e ≡ ImageFault.Memory) ⊎
+        (store_after version [] (pieces 10 text.now) ≡ Err e)) }
+{
+    let mut number = 2;
+    let mut rest = text;
+    'lines: loop {
+        let Some((line, after)) = cut(rest, b'\n') else {
+            return Err(ImageFault::NoEnd);
+        };
+        let line = match read_line(bytes, version, line) {
+            Ok(line) => line,
+            Err(fault) => return Err(fault.at(number)),
+        };
+        if line.is_end() {
+            if after.is_empty() {
+                return Ok(());
+            }
+            return Err(ImageFault::AfterEnd(number + 1));
+        }
+        if let Err(fault) = contents.put(alloc, line, bytes.as_slice()) {
+            return Err(fault.at(number));
+        }
+        number += 1;
+        rest = after;
+    }
+}
+
+/// The contents of the lines after the first one.
 fn read_lines(alloc: Global, version: Version, text: &[u8]) -> Result<Contents, ImageFault>
     ensures ok { IfOk result (λ contents. IsStore (store_of contents) ×
         (store_after version [] (pieces 10 text.now) ≡ Ok (store_of contents))) }
@@ -81,29 +121,9 @@ fn read_lines(alloc: Global, version: Version, text: &[u8]) -> Result<Contents, 
         (store_after version [] (pieces 10 text.now) ≡ Err e)) }
 {
     let mut contents = Contents::new(alloc);
-    let mut number = 2;
-    let mut rest = text;
     let mut bytes = Vec::new(alloc);
-    'lines: loop {
-        let Some((line, after)) = cut(rest, b'\n') else {
-            return Err(ImageFault::NoEnd);
-        };
-        let line = match read_line(&mut bytes, version, line) {
-            Ok(line) => line,
-            Err(fault) => return Err(fault.at(number)),
-        };
-        if line.is_end() {
-            if after.is_empty() {
-                return Ok(contents);
-            }
-            return Err(ImageFault::AfterEnd(number + 1));
-        }
-        if let Err(fault) = contents.put(alloc, line, &bytes) {
-            return Err(fault.at(number));
-        }
-        number += 1;
-        rest = after;
-    }
+    put_lines(alloc, version, text, &mut bytes, &mut contents)?;
+    Ok(contents)
 }
 
 /// The contents of a management controller, as saved in an image.

@@ -1,8 +1,13 @@
-use Rattle.std.proofs.Common.{rules}
+use Rattle.std.proofs.Common.{Ok, Err}
+use Rattle.ipmi_commands.proofs.AskLemmas.{passed}
+use Rattle.ipmi_commands.proofs.PerformLemmas.{page_runs}
 use Rattle.ipmi_commands.proofs.perform.list.Goals as goal
 
 pub returns-in_err-list_page-clause-runs : goal.returns-in_err-list_page-clause-runs
-returns-in_err-list_page-clause-runs g c = search rules
+returns-in_err-list_page-clause-runs g c =
+    let page = c.in_err-list_page.ensures in
+    rw (passed _ _ c.from_residual.ensures.1) (page_runs c.args.listing.now _ _ (Err c.in_err-list_page.field-0.0) page.ends page.calls page.honest)
 
 pub returns-clause-runs : goal.returns-clause-runs
-returns-clause-runs g c = search rules
+returns-clause-runs g c =
+    let page = c.in_ok-list_page.ensures in page_runs c.args.listing.now _ _ (Ok c.in_ok-list_page.field-0) page.ends page.calls page.honest

@@ -1,5 +1,6 @@
-use Rattle.std.proofs.Common.{rules}
-use Rattle.ipmi_bus.proofs.CursorLemmas.{look-whole_row, handed_row-whole, hands_out}
+use Rattle.std.proofs.Common.{◌≡◌, rules, inr, refl, sym, ◌∙◌}
+use Rattle.ipmi_bus.proofs.CursorLemmas.{look-whole_row, handed_row-whole, hands_out, is_cursor-after, place_after-not_first, room_asked}
+use Rattle.ipmi_bus.specs.Prelude.{First}
 use Rattle.ipmi_bus.proofs.cursor.Progress.advance.Goals as goal
 
 pub returns-in-Ok-Whole-clause-leaves : goal.returns-in-Ok-Whole-clause-leaves
@@ -37,3 +38,54 @@ returns-else-eq-clause-leaves g c = search rules
 
 pub returns-else-eq-clause-honest : goal.returns-else-eq-clause-honest
 returns-else-eq-clause-honest g c = search rules
+
+pub returns-in-Ok-Whole-clause-cursor : goal.returns-in-Ok-Whole-clause-cursor
+returns-in-Ok-Whole-clause-cursor g c =
+    let out = c.hand_out.ensures in
+    let same = c.read.ensures.request in
+    is_cursor-after c.args.self.now _ c.requires (rw out.retrieval same.some) (rw out.retrieval same.part)
+    (λ at_start. absurd (place_after-not_first c.hand_out.result.next (sym out.place ∙ at_start)))
+
+pub returns-then-eq-clause-cursor : goal.returns-then-eq-clause-cursor
+returns-then-eq-clause-cursor g c =
+    let same = c.read.ensures.request in is_cursor-after c.args.self.now _ c.requires same.some same.part (λ at_start. cc)
+
+pub returns-else-eq-clause-cursor : goal.returns-else-eq-clause-cursor
+returns-else-eq-clause-cursor g c =
+    let same = c.read.ensures.request in rw c.fail-in-Ok-Absent.ensures.leaves (is_cursor-after c.args.self.now _ c.requires same.some same.part c.requires.first)
+
+pub returns-in-Err-clause-cursor : goal.returns-in-Err-clause-cursor
+returns-in-Err-clause-cursor g c =
+    let same = c.read.ensures.request in rw c.fail-in-Err.ensures.leaves (is_cursor-after c.args.self.now _ c.requires same.some same.part c.requires.first)
+
+pub returns-in-Ok-Whole-clause-ids_not_full : goal.returns-in-Ok-Whole-clause-ids_not_full
+returns-in-Ok-Whole-clause-ids_not_full g c = inr (room_asked _ _ _ c.in-Asks.ensures c.requires.first)
+
+pub returns-then-eq-clause-ids_not_full : goal.returns-then-eq-clause-ids_not_full
+returns-then-eq-clause-ids_not_full g c = inr (room_asked _ _ _ c.in-Asks.ensures c.requires.first)
+
+pub returns-else-eq-clause-ids_not_full : goal.returns-else-eq-clause-ids_not_full
+returns-else-eq-clause-ids_not_full g c = inr (room_asked _ _ _ c.in-Asks.ensures c.requires.first)
+
+pub returns-in-Err-clause-ids_not_full : goal.returns-in-Err-clause-ids_not_full
+returns-in-Err-clause-ids_not_full g c = inr (room_asked _ _ _ c.in-Asks.ensures c.requires.first)
+
+pub returns-then-eq-clause-leaves : goal.returns-then-eq-clause-leaves
+returns-then-eq-clause-leaves g c =
+    let first : c.args.self.now.place ≡ First = search rules in
+    (c.in-Asks.ensures.none, record { place = refl; ids = refl; from = λ n at. cc (first, at) })
+
+pub returns-then-eq-clause-honest : goal.returns-then-eq-clause-honest
+returns-then-eq-clause-honest g c = λ h.
+    let first : c.args.self.now.place ≡ First = search rules in
+    let asks = c.in-Asks.ensures in
+    let read = c.in-Ok-Absent.ensures.honest h in
+    let answers = rw c.in-Ok-Absent.field-0-is at read.answers in
+    let zero = rw first at asks.id in
+    record {
+      stays = read.stays;
+      answers = (answers.0, rw first (rw zero at answers.1));
+      keeps = λ some none. let kept = read.keeps some none in (kept.none_given, λ ok. kept.held);
+      calls = λ same. rw (← asks.id) (c.in-Ok-Absent.ensures.row_calls h same);
+      plain = λ p holds. let after = read.plain p (record { held = holds.held }) in record { holds = record { held = after.0.holds.held }; part = after.0.part; fine = tt };
+    }

@@ -1,4 +1,4 @@
-use Rattle.ipmi_bus.proofs.PartLemmas.{honest_part, part_failed}
+use Rattle.ipmi_bus.proofs.PartLemmas.{open_requested, part_within, honest_part, part_failed}
 use Rattle.ipmi_bus.proofs.retrieval.Retrieval.ask_part.Goals as goal
 
 pub returns-in-Ok-clause-honest : goal.returns-in-Ok-clause-honest
@@ -11,3 +11,11 @@ returns-in-Err-clause-honest g c =
     let fails = rw c.in-Err.ensures.err at c.fail_part.ensures.fails in
     λ start s same since. part_failed start c.args.self.now c.fail_part.new.self s _ _ c.args.reservation c.asked_len-asked.result c.in-Err.code _ same since c.requires.is_open c.requires.reserved
     (c.in-Err.ensures.honest since.stays.honest) c.fail_part.result fails
+
+pub take_part-requires-clause-is_open : goal.take_part-requires-clause-is_open
+take_part-requires-clause-is_open g c = rw c.request.ensures.buffer (open_requested c.args.self.now _ c.requires.is_open c.request.ensures.front)
+
+pub take_part-requires-clause-fits : goal.take_part-requires-clause-fits
+take_part-requires-clause-fits g c =
+    let asked = rw c.wanted.ensures at c.asked_len-asked.ensures in
+    rw c.request.ensures.buffer (part_within c.args.self.now _ _ _ c.requires.is_open c.request.ensures.front asked c.in-Ok.ensures.got)

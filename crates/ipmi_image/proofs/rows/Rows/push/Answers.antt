@@ -1,4 +1,5 @@
-use Rattle.std.proofs.Common.{◌≡◌, ℕ, ◌++◌, ◌∷◌, [], ap, sym, ◌∙◌, length, List, map}
+use Rattle.std.proofs.Common.{◌≡◌, ℕ, ◌++◌, ◌∷◌, [], ap, sym, ◌∙◌, length, List, map, arith}
+use Rattle.std.proofs.lemmas.Grind.{common_steps}
 use Rattle.ipmi_image.specs.Prelude.{place_of, id_of, row_in, row_of, SavedRow, RowHead}
 use Rattle.ipmi_image.proofs.RowsLemmas.{place_of_row_in, map-row_in_with}
 use Rattle.ipmi_image.proofs.rows.Rows.push.Goals as goal
@@ -19,3 +20,9 @@ returns-clause-put c =
           ∙ map-row_in_with bytes more heads id next c.self.invariant.within
           ∙ ap (λ (l : List SavedRow). l ++ row_of c.args.row.now ∷ []) c.self.view_is,
     )
+
+pub invariant_of-self-in_default : goal.invariant_of-self-in_default
+invariant_of-self-in_default c = grind (arith, common_steps)
+
+pub returns-in-Err-clause-err : goal.returns-in-Err-clause-err
+returns-in-Err-clause-err c = grind (arith, common_steps)

@@ -2,7 +2,7 @@ use Rattle.std.proofs.Common.{◌≡◌, ◌+◌, ◌++◌, ◌∷◌, false, []
 use Rattle.ipmi_image.specs.Prelude.{pieces, the_end, at_line, is_end, store_after, said}
 use Rattle.ipmi_image.proofs.ReadLemmas.{ends_here_pieces, store_after_unended, lines_after, line_judged-err, line_judged-found, end_is}
 use Rattle.ipmi_image.proofs.StoreLemmas.{store_of-lines}
-use Rattle.ipmi_image.proofs.image.read_lines.Goals as goal
+use Rattle.ipmi_image.proofs.image.put_lines.Goals as goal
 
 pub returns-in_default-clause-err : goal.returns-in_default-clause-err
 returns-in_default-clause-err c =
@@ -44,7 +44,7 @@ returns-in-Err-put-clause-err c =
       | inl memory ↦ inl (c.at-in-Err-put.ensures ∙ ap (at_line c.lines.number) memory)
       | inr is ↦ inr (
           lines_after _ _ _ _ _ _ _ c.in-Some.ensures.cut (line_judged-found c.args.version lines.0 c.in-Some.line.now
-          (said c.deref.result.now c.in-Ok.line) (Some c.in-Err-put.fault) (c.in-Ok.ensures ∙ rw (sym c.deref.ensures.value) refl) is) lines.3
+          (said c.as_slice.result.now c.in-Ok.line) (Some c.in-Err-put.fault) (c.in-Ok.ensures ∙ rw (sym c.as_slice.ensures.value) refl) is) lines.3
           ∙ rw (lines.2, sym c.at-in-Err-put.ensures) refl)
     ]
 
@@ -52,7 +52,7 @@ pub lines-preserved : goal.lines-preserved
 lines-preserved c =
     let lines = c.lines.invariant.1 in
     let rest = pieces 10 c.in-Some.after.now in
-    let line = said c.deref.result.now c.in-Ok.line in
+    let line = said c.as_slice.result.now c.in-Ok.line in
     let put = c.in_default-put.ensures.lines lines.0 lines.1 in
     let more : is_end line ≡ false = sym (c.is_end.ensures _) ∙ c.if-is_end.false in
     let long = length-append lines.0 (line ∷ []) in
@@ -65,7 +65,7 @@ lines-preserved c =
         put.1,
         omega (arith, long, number),
         sym (lines_after _ _ _ _ _ _ _ c.in-Some.ensures.cut (line_judged-found c.args.version lines.0 c.in-Some.line.now line None
-            (c.in-Ok.ensures ∙ rw (sym c.deref.ensures.value) refl) put.0) lines.3 ∙ rw more refl),
+            (c.in-Ok.ensures ∙ rw (sym c.as_slice.ensures.value) refl) put.0) lines.3 ∙ rw more refl),
       ),
       omega (arith, shorter, bound),
     )

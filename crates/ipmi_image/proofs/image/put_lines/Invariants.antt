@@ -1,7 +1,7 @@
 use Rattle.std.proofs.Common.{◌≡◌, ◌+◌, ◌≤◌, [], List, length}
 use Rattle.ipmi_image.specs.Below.{IsStore}
 use Rattle.ipmi_image.specs.Prelude.{pieces, Line, store_after, store_of, HoldsLines}
-use Rattle.ipmi_image.proofs.image.read_lines.Given as goal
+use Rattle.ipmi_image.proofs.image.put_lines.Given as goal
 
 -- The contents are those of the lines so far, and the remaining lines after them have the same result as all lines.
 abbrev pub invariant-lines : goal.invariant-lines
