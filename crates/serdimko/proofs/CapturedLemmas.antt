@@ -9,9 +9,6 @@ use Rattle.ipmi_output.specs.Failure.{line_text}
 use Rattle.ipmi_output.specs.Received.{Received, ReceivesText, WritesAll}
 
 module _ (Saves : Type 0) (Says : List ℕ → Type 0) (lost : Option (List ℕ)) where
-  pub was_lost : (said : List ℕ) → lost ≡ Some said → Says said → MatchOption lost Saves Says
-  was_lost said is says = rw is says
-
   pub not_lost : lost ≡ None → Saves → MatchOption lost Saves Says
   not_lost is saves = rw is saves
 

@@ -18,7 +18,6 @@ pub(crate) const KINDS: [&str; 7] = [
 pub(crate) const ENDS: &[&str] = &["first", "last"];
 
 /// A number among the words.
-#[derive(Clone, Copy)]
 pub(crate) struct Number {
     /// Its name in messages.
     pub(crate) name: &'static str,
@@ -41,7 +40,7 @@ pub(crate) struct Ids {
     pub(crate) in_hex: &'static str,
 }
 
-const COUNT: Number = Number {
+const COUNT: &Number = &Number {
     name: "a number",
     range: "0 to 65535",
     after: &["--", "sel", "list"],
@@ -49,7 +48,7 @@ const COUNT: Number = Number {
     ids: None,
 };
 
-const ENTRY: Number = Number {
+const ENTRY: &Number = &Number {
     name: "an ID",
     range: "1 to 65534",
     after: &["--", "sel", "get"],
@@ -60,7 +59,7 @@ const ENTRY: Number = Number {
     }),
 };
 
-const DEVICE: Number = Number {
+const DEVICE: &Number = &Number {
     name: "an ID",
     range: "0 to 254",
     after: &["--", "fru", "print"],
@@ -77,9 +76,9 @@ pub(crate) enum Next {
     /// One of these words.
     Names(&'static [&'static str]),
     /// A number.
-    Number(Number),
+    Number(&'static Number),
     /// A number, or one of [`ENDS`].
-    Count(Number),
+    Count(&'static Number),
     /// Any name.
     Name,
     /// Nothing.

@@ -138,13 +138,17 @@ standard output gets what came, without the last line, 'end'.
 
 /// The help on the command in the first word, or after `help`; otherwise the general help.
 pub(crate) fn help_on(words: &[&str]) -> &'static str {
-    match words {
-        ["sdr", ..] | ["help", "sdr", ..] => SDR,
-        ["sensor", ..] | ["help", "sensor", ..] => SENSOR,
-        ["sel", ..] | ["help", "sel", ..] => SEL,
-        ["fru", ..] | ["help", "fru", ..] => FRU,
-        ["capture", ..] | ["help", "capture", ..] => CAPTURE,
-        ["image", ..] | ["help", "image", ..] => IMAGE,
+    let command = match words {
+        ["help", command, ..] | [command, ..] => *command,
+        [] => "",
+    };
+    match command {
+        "sdr" => SDR,
+        "sensor" => SENSOR,
+        "sel" => SEL,
+        "fru" => FRU,
+        "capture" => CAPTURE,
+        "image" => IMAGE,
         _ => GENERAL,
     }
 }

@@ -26,7 +26,7 @@ use asked::{Commands, command_of_options, commands_of};
 use capture::capture_live;
 use help::{SHORT, VERSION, help_on};
 use images::print_images;
-use ipmi_command_line::{UsageFault, Word};
+use ipmi_command_line::{Command, UsageFault, Word, Words};
 use ipmi_commands::report;
 use ipmi_output::Part::{self, Name, Number, Text};
 use ipmi_output::{Failure, MessageSink, Written, say_line};
@@ -79,37 +79,51 @@ fn refuse_argument<R: Env, E: MessageSink>(rt: &R, err: &mut E) -> u8 {
 
 /// Reads the command line, runs it, and returns the exit status.
 fn program<E: MessageSink>(rt: &HostRuntime, err: &mut E) -> Result<u8, AllocError> {
-    let words = match read_words(rt) {
-        Ok(words) => words,
-        Err(UsageFault::Memory) => return Err(AllocError),
-        Err(_) => return Ok(refuse_argument(rt, err)),
-    };
+    match read_words(rt) {
+        Ok(words) => run_line(rt, &words, err),
+        Err(UsageFault::Memory) => Err(AllocError),
+        Err(_) => Ok(refuse_argument(rt, err)),
+    }
+}
+
+/// Runs a command line, unless it has no words and no image comes from standard input.
+fn run_line<E: MessageSink>(rt: &HostRuntime, words: &Words, err: &mut E) -> Result<u8, AllocError>
+    requires { 0 < length words.now }
+{
     if words.as_slice().len() < 2 && rt.stdin().is_terminal() {
         return Ok(refuse(&[Text(SHORT)], err));
     }
-    let own = own_of(rt.alloc(), &words)?;
+    let own = own_of(rt.alloc(), words)?;
+    run_rest(rt, &own, err)
+}
+
+/// Prints what the options or the remaining words ask for: the version, a help text, or a command's output.
+fn run_rest<E: MessageSink>(rt: &HostRuntime, own: &Own, err: &mut E) -> Result<u8, AllocError>
+    requires { 0 < length own.now.rest }
+{
     if own.version && !own.help {
         return print_text(rt, VERSION, err);
     }
-    let scanned = match told_apart(rt.alloc(), &own.rest)? {
-        Ok(scanned) => scanned,
-        Err(_) if own.help => return print_text(rt, help_on(&[]), err),
-        Err(line) => return Ok(refuse(&line, err)),
-    };
-    if own.help
-        || matches!(
-            scanned.words.as_slice(),
-            ["help"]
-                | [
-                    "help",
-                    "sdr" | "sensor" | "sel" | "fru" | "image" | "capture" | "help",
-                    ..
-                ]
-        )
-    {
-        return print_text(rt, help_on(&scanned.words), err);
+    match told_apart(rt.alloc(), &own.rest)? {
+        Ok(scanned) if own.help || is_for_help(&scanned.words) => {
+            print_text(rt, help_on(&scanned.words), err)
+        }
+        Ok(scanned) => run(rt, own, &scanned, err),
+        Err(_) if own.help => print_text(rt, help_on(&[]), err),
+        Err(line) => Ok(refuse(&line, err)),
     }
-    run(rt, &own, &scanned, err)
+}
+
+/// Whether the words ask for a help text.
+fn is_for_help(words: &[&str]) -> bool {
+    match words {
+        ["help"] => true,
+        ["help", word, ..] => matches!(
+            *word,
+            "sdr" | "sensor" | "sel" | "fru" | "image" | "capture" | "help"
+        ),
+        _ => false,
+    }
 }
 
 /// Runs the command of the remaining words.
@@ -207,12 +221,22 @@ fn run_capture<E: MessageSink>(
         let rule = "'capture' takes only --part, --tries, --output (-o) and --quiet";
         return Ok(refuse(&[Text(rule)], err));
     }
-    let command = match command_of_options(rt.alloc(), scanned) {
-        Ok(command) => command,
-        Err(UsageFault::Memory) => return Err(AllocError),
-        Err(fault) => return Ok(refuse(&mistake(rt.alloc(), own, scanned, fault)?, err)),
-    };
-    let live = match live_of(rt, live.as_str())? {
+    match command_of_options(rt.alloc(), scanned) {
+        Ok(command) => capture_of(rt, &command, live.as_str(), own, err),
+        Err(UsageFault::Memory) => Err(AllocError),
+        Err(fault) => Ok(refuse(&mistake(rt.alloc(), own, scanned, fault)?, err)),
+    }
+}
+
+/// Saves the contents of the controller of this value of `--live`.
+fn capture_of<E: MessageSink>(
+    rt: &HostRuntime,
+    command: &Command,
+    value: &str,
+    own: &Own,
+    err: &mut E,
+) -> Result<u8, AllocError> {
+    let live = match live_of(rt, value)? {
         Ok(live) => live,
         Err(line) => return Ok(refuse(&line, err)),
     };
@@ -220,7 +244,7 @@ fn run_capture<E: MessageSink>(
     let terminal = if is_shown { Some(rt.stderr()) } else { None };
     capture_live(
         rt,
-        &command,
+        command,
         live,
         own.output.as_ref(),
         terminal,

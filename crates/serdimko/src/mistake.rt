@@ -288,9 +288,8 @@ fn unknown<'a>(
         ["sdr", "list" | "elist"] => ("unknown kind '", ""),
         _ => ("unknown word '", "' after '"),
     };
-    let mut parts = line(alloc, &[Text(what), Name(word)])?;
+    let mut parts = line(alloc, &[Text(what), Name(word), Text(after)])?;
     if !after.is_empty() {
-        parts.push(Text(after))?;
         push_joined(&mut parts, before)?;
     }
     parts.push(Text("': "))?;
@@ -410,17 +409,31 @@ pub(crate) fn too_many<'a>(
         return unquoted(alloc, name);
     }
     let word = words.get(place).copied().unwrap_or("");
-    if is_option(word) {
-        let parts = [Text("'"), Name(word), Text(LATE_OPTION)];
-        return line(alloc, &parts);
-    }
     let before = words.get(..place).unwrap_or(&[]);
+    if is_option(word) {
+        return after_dashes(alloc, word);
+    }
     if word == "help" {
         return late_help(alloc, before);
     }
+    unexpected(alloc, before, word)
+}
+
+/// The word comes after those, which are whole.
+fn unexpected<'a>(
+    alloc: Global,
+    before: &[&'a str],
+    word: &'a str,
+) -> Result<Line<'a>, AllocError> {
     if matches!(before, ["image", "rewrite"]) {
-        let rule = Text("': a file goes after --image");
-        return line(alloc, &[Text("unexpected '"), Name(word), rule]);
+        return line(
+            alloc,
+            &[
+                Text("unexpected '"),
+                Name(word),
+                Text("': a file goes after --image"),
+            ],
+        );
     }
     let mut parts = line(
         alloc,
@@ -484,12 +497,12 @@ pub(crate) fn maybe_unquoted<'a>(
 // ---- numbers
 
 /// Whether the word is this number.
-fn is_number(alloc: Global, number: Number, word: &str) -> Result<bool, AllocError> {
+fn is_number(alloc: Global, number: &Number, word: &str) -> Result<bool, AllocError> {
     is_taken(alloc, number.after, word)
 }
 
 /// Whether the word is this number in hex without `0x`. Decimal digits count only for ids that listings print in hex.
-fn is_hex(alloc: Global, number: Number, word: &str) -> Result<bool, AllocError> {
+fn is_hex(alloc: Global, number: &Number, word: &str) -> Result<bool, AllocError> {
     let is_decimal = word.bytes().all(|byte| byte.is_ascii_digit());
     if is_decimal && !number.is_id {
         return Ok(false);
@@ -501,7 +514,7 @@ fn is_hex(alloc: Global, number: Number, word: &str) -> Result<bool, AllocError>
 /// The word is not this number.
 pub(crate) fn not_a_number<'a>(
     alloc: Global,
-    number: Number,
+    number: &Number,
     word: &'a str,
 ) -> Result<Line<'a>, AllocError> {
     if let Some(digits) = hex_in(alloc, number, word)? {
@@ -528,7 +541,11 @@ pub(crate) fn not_a_number<'a>(
 }
 
 /// The digits of the word, if they are this number in hex: without `0x`, or with an `h`, as messages print ids.
-fn hex_in<'a>(alloc: Global, number: Number, word: &'a str) -> Result<Option<&'a str>, AllocError> {
+fn hex_in<'a>(
+    alloc: Global,
+    number: &Number,
+    word: &'a str,
+) -> Result<Option<&'a str>, AllocError> {
     if is_hex(alloc, number, word)? {
         return Ok(Some(word));
     }
@@ -543,7 +560,7 @@ fn hex_in<'a>(alloc: Global, number: Number, word: &'a str) -> Result<Option<&'a
 /// The word is this number in hex, with these digits.
 fn only_in_hex<'a>(
     alloc: Global,
-    number: Number,
+    number: &Number,
     word: &'a str,
     digits: &'a str,
 ) -> Result<Line<'a>, AllocError> {
@@ -568,7 +585,7 @@ fn only_in_hex<'a>(
 }
 
 /// Why a word that begins with a letter is not this number, if that is an ID: it is out of range in hex, or a name.
-fn reason(number: Number, word: &str) -> Option<&'static str> {
+fn reason(number: &Number, word: &str) -> Option<&'static str> {
     let ids = number.ids?;
     let digits = word.strip_suffix("h").unwrap_or(word).as_bytes();
     if !digits.first()?.is_ascii_alphabetic() {

@@ -318,6 +318,31 @@ impl<'a> Scan<'a> {
         }
         Ok(None)
     }
+
+    /// Takes the words of a line, of which the first is the program's name.
+    fn take_line(
+        &mut self,
+        alloc: Global,
+        words: &'a [Word],
+    ) -> Result<Option<Line<'a>>, AllocError>
+        requires start { scan_of self.old ≡ start [] }
+        requires words { HasWords self.old }
+        ensures told { IfOk result (λ mistake. MatchOption mistake
+            (told_of words.entry.now ≡ Some (scan_of self.new)) (λ _. told_of words.entry.now ≡ None)) }
+        ensures words { OnOk result (HasWords self.new) }
+    {
+        let [name, rest @ ..] = words else {
+            return Ok(None);
+        };
+        self.options.push(name.as_str())?;
+        if let Some(line) = self.take_all(alloc, rest)? {
+            return Ok(Some(line));
+        }
+        match self.waiting {
+            Some(option) => needs_value(alloc, option).map(Some),
+            None => Ok(None),
+        }
+    }
 }
 
 /// Whether the option has a value.
@@ -463,15 +488,8 @@ pub(crate) fn told_apart<'a>(
     ensures words { IfOk result (λ told. IfOk told (λ scan. HasWords scan)) }
 {
     let mut scanned = Scan::new(alloc);
-    let [name, rest @ ..] = words.as_slice() else {
-        return Ok(Ok(scanned));
-    };
-    scanned.options.push(name.as_str())?;
-    if let Some(line) = scanned.take_all(alloc, rest)? {
-        return Ok(Err(line));
-    }
-    match scanned.waiting {
-        Some(option) => Ok(Err(needs_value(alloc, option)?)),
-        None => Ok(Ok(scanned)),
-    }
+    Ok(match scanned.take_line(alloc, words.as_slice())? {
+        Some(line) => Err(line),
+        None => Ok(scanned),
+    })
 }

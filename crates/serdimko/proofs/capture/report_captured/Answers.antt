@@ -1,5 +1,5 @@
-use Rattle.std.proofs.Common.{refl, sym}
-use Rattle.serdimko.proofs.CapturedLemmas.{captured, none_lost, not_lost, was_lost}
+use Rattle.std.proofs.Common.{refl}
+use Rattle.serdimko.proofs.CapturedLemmas.{captured, none_lost, not_lost}
 use Rattle.serdimko.proofs.capture.report_captured.Goals as goal
 
 pub returns-in-Some : goal.returns-in-Some
