@@ -1,8 +1,8 @@
 -- Walks, row by row.
-use Rattle.std.proofs.Common.{◌≡◌, ◌≢◌, ℕ, ◌+◌, ◌≤◌, Bool, false, nat_eq, ◌||◌, Option, None, Some, Result, Ok, Err, List, [], ◌∷◌, ◌++◌, length, take, drop, refl, sym, ap, subst, ◌∙◌, inl, inr, rules, arith, ◌⊎◌, ne_eqb, nat_cmp, take_all, take-append-drop, length-drop, take-add}
+use Rattle.std.proofs.Common.{◌≡◌, ◌≢◌, ℕ, ◌+◌, ◌<◌, ◌≤◌, Bool, false, nat_eq, ◌||◌, Option, None, Some, Result, Ok, Err, List, [], ◌∷◌, ◌++◌, length, take, drop, refl, sym, ap, subst, ◌∙◌, inl, inr, rules, arith, ◌⊎◌, ne_eqb, nat_cmp, take_all, take-append-drop, length-drop, take-add}
 use Rattle.std.specs.FinSet as set
 use Rattle.std.proofs.Math.Bool.{or-false, or_assoc, or_comm}
-use Rattle.ipmi_bus.specs.Prelude.{Shelf, Place, First, Id, End, Row, IsShelf, look, len_of, first_row, DistinctIds, LacksId, row_at, IsWalk, place_after, place_after_rows, has_id, WalkEnd, Done, CycleAt, MissingAt, EndsBy, EndsAfter, EndsEmpty, last_next, Ended, Cycle, Missing, CursorState, asked_at, cycle_at, AsksAlong, AsksNothing, StaysThere, StepLeaves, StepAnswers, StepIsHonest, StandsAt, WalkStep, MayFail, FollowsWalks, store_shelf, Store, rows_of, Seen, IsHonest, Refused, GaveUp}
+use Rattle.ipmi_bus.specs.Prelude.{Shelf, Place, First, Id, End, Row, IsShelf, look, len_of, first_row, DistinctIds, LacksId, row_at, IsWalk, place_after, place_after_rows, has_id, WalkEnd, Done, CycleAt, MissingAt, EndsBy, EndsAfter, EndsEmpty, last_next, Ended, Cycle, Missing, CursorState, asked_at, cycle_at, AsksAlong, AsksNothing, StaysThere, StepLeaves, StepAnswers, StepIsHonest, StepSays, KeepsSettings, AsksAtMost, AreWithin, largest_len, IsStep, StandsAt, WalkStep, MayFail, FollowsWalks, store_shelf, Store, rows_of, Seen, IsHonest, StaysHonest, Refused, GaveUp, Stalled, Malformed}
 use Rattle.std.specs.FinSet.{contains-insert, contains-empty}
 use Rattle.std.specs.Cmp.{nat_cmp_total, unsigned_tied}
 use Rattle.std.proofs.lemmas.Bool.Decides.{nat_tests}
@@ -288,3 +288,43 @@ stands_at_start rows start walk c place ids = record {
   place = inl place;
   ids = λ n. ap (λ (s : set.FinSet nat_cmp). set.contains s n) ids ∙ contains-empty nat_cmp n;
 }
+
+-- a whole step, from what holds over any controller and over an honest one
+pub whole_step : (old new : CursorState) (s s' : Seen) (result : Result (Option Row) Ended)
+    → KeepsSettings old new → StepLeaves old new result
+    → AreWithin old.tries (largest_len old.shelf) old.part new.part s s' → AsksAtMost old.part s s'
+    → StepSays old.place result s' → (AsksNothing old → s' ≡ s)
+    → AsksNothing old ⊎ (set.len old.ids < 65536)
+    → (IsHonest s → StepIsHonest old new s s' result) → IsStep old new s s' result
+whole_step old new s s' result same leaves calls asked says no_call room honest = record {
+  same = same;
+  leaves = leaves;
+  calls = calls;
+  asked = asked;
+  says = says;
+  no_call = no_call;
+  room = room;
+  honest = honest;
+  asks = λ h. asks_along old s h;
+  walks = λ h. follows_walks old new s s' result h leaves (honest h);
+}
+
+-- the result in other words
+pub step_is : (old new : CursorState) (s s' : Seen) (handed result : Result (Option Row) Ended)
+    → IsStep old new s s' handed → handed ≡ result → IsStep old new s s' result
+step_is old new s s' handed result step is = subst (λ (r : Result (Option Row) Ended). IsStep old new s s' r) is step
+
+-- at the end there are no more records
+pub none_at_end : (old new : CursorState) (s s' : Seen) (result : Result (Option Row) Ended)
+    → IsStep old new s s' result → old.place ≡ End → result ≡ Ok None
+none_at_end old new s s' result step ends = let leaves = step.leaves in grind (arith, leaves, ends)
+
+-- what an honest controller answers
+pub answers_step : (old new : CursorState) (s s' : Seen) (result : Result (Option Row) Ended)
+    → IsStep old new s s' result → IsHonest s
+    → StaysHonest s s' × StepAnswers old s s' result
+answers_step old new s s' result step h = ((step.honest h).stays, (step.honest h).answers)
+
+-- two facts, the second by the first
+pub both : {A B : Type 0} → A → (A → B) → A × B
+both a b = (a, b a)

@@ -1,9 +1,9 @@
 //! Returns the records of a shelf one by one, following their next ids.
-ghost use Rattle.std.specs.Prelude.{◌≡◌, ◌<◌, ◌≤◌, Ok, Err, Some, None, IfOk, IfSome, List, length, ◌⊎◌};
+ghost use Rattle.std.specs.Prelude.{◌≡◌, ◌<◌, ◌≤◌, Ok, Err, Some, None, IfOk, IfSome, List, length};
 ghost use Rattle.std.specs.FinSet as set;
 ghost use Rattle.std.specs.Option.{ForSome};
 ghost use Rattle.std.specs.Borrow.{sem};
-ghost use Rattle.ipmi_bus.specs.Prelude.{End, IsHonest, StaysHonest, Row, whole_len, largest_len, place_after, AreWithin, KeepsSettings, StepLeaves, StepIsHonest, StepAnswers, AsksNothing, StandsAt, IsStep, start_of, state_of, IsCursor, handed_result, handed_id, AsksAtMost, IsNext, StepSays};
+ghost use Rattle.ipmi_bus.specs.Prelude.{End, IsHonest, StaysHonest, Row, whole_len, largest_len, place_after, StepAnswers, AsksNothing, StandsAt, IsStep, start_of, state_of, IsCursor, handed_result, handed_id, IsNext};
 
 use crate::controller::{Controller, FIRST_RECORD_ID, LARGEST_SDR_LEN, NO_NEXT_ID, Shelf};
 use crate::id_table::IdTable;
@@ -106,18 +106,8 @@ impl Progress {
     fn advance<C: Controller>(&mut self, ctl: &mut C) -> Result<Option<Handed>, Ended>
         requires { IsCursor self.old }
         ensures cursor { IsCursor self.new }
-        ensures same { KeepsSettings (state_of self.old) (state_of self.new) }
         ensures fits { IfOk result (λ o. IfSome o (λ handed. handed.len ≤ 256)) }
-        ensures leaves { StepLeaves (state_of self.old) (state_of self.new)
-            (handed_result self.new result) }
-        ensures calls { AreWithin self.old.retrieval.tries (largest_len self.old.retrieval.shelf)
-            self.old.retrieval.part self.new.retrieval.part (C.seen ctl.old) (C.seen ctl.new) }
-        ensures asked { AsksAtMost self.old.retrieval.part (C.seen ctl.old) (C.seen ctl.new) }
-        ensures says { StepSays self.old.place (handed_result self.new result) (C.seen ctl.new) }
-        ensures no_call { AsksNothing (state_of self.old) → C.seen ctl.new ≡ C.seen ctl.old }
-        ensures ids_not_full { AsksNothing (state_of self.old) ⊎ (set.len self.old.ids < 65536) }
-        ensures honest { IsHonest (C.seen ctl.old) →
-            StepIsHonest (state_of self.old) (state_of self.new) (C.seen ctl.old) (C.seen ctl.new)
+        ensures step { IsStep (state_of self.old) (state_of self.new) (C.seen ctl.old) (C.seen ctl.new)
             (handed_result self.new result) }
     {
         let asked = match self.next() {

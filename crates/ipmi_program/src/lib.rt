@@ -1,8 +1,10 @@
 //! The frame of a program around a command: it reads the words and the image, and flushes the output.
 #![tactic(auto)]
 
+mod answer;
 mod input;
 mod printing;
 
+pub use answer::answer_buffered;
 pub use input::{InputFault, MOST_BYTES, input_name, read_image, read_input, read_words, words_of};
 pub use printing::{print, print_live};

@@ -1,16 +1,17 @@
-//! Runs the program after its command line and its image are read.
+//! What a program does once its command line and its image are read.
 ghost use Rattle.std.specs.Prelude.{◌≡◌, ◌+◌, ◌==◌, if◌then◌else◌};
 ghost use Rattle.std.specs.Io.Buffered.{writer_buffer};
 ghost use Rattle.ipmi_commands.specs.Run.{AnswersCommand};
 ghost use Rattle.ipmi_image.specs.Image.{store_of_image};
 ghost use Rattle.ipmi_output.specs.Writer.{writer_of};
 ghost use Rattle.ipmi_program.specs.Printing.{EndsBy, IsHandedOn};
-ghost use Rattle.ipmitool.specs.Answer.{Answers, SaysUnread};
+ghost use Rattle.ipmi_program.specs.Answer.{Answers, SaysUnread};
 
+use crate::input::{InputFault, input_name};
+use crate::printing::print;
 use ipmi_command_line::{Command, UsageFault};
 use ipmi_commands::{Wording, report};
 use ipmi_output::{Failure, MessageSink, Sink, Written, say_unreadable};
-use ipmi_program::{InputFault, input_name, print};
 use std::alloc::Global;
 use std::io::{BufWriter, Write};
 
@@ -33,7 +34,7 @@ fn say_unread<E: MessageSink>(fault: InputFault, name: &str, err: &mut E) -> u8
 
 /// Runs the command over the image, and flushes the output to the writer below the buffer. If it did not finish, it
 /// reports why to `err`. Returns the exit status.
-pub(crate) fn answer_buffered<W: Write + Drop, E: MessageSink>(
+pub fn answer_buffered<W: Write + Drop, E: MessageSink>(
     alloc: Global,
     line: &Result<Command, UsageFault>,
     input: &Result<Vec<u8>, InputFault>,
