@@ -1,3 +1,4 @@
+use Rattle.std.proofs.Common.{rules}
 use Rattle.std.proofs.lemmas.Result.{err_from_is_err_and}
 use Rattle.ipmi_bus.proofs.ValueLemmas.{value_absent, value_failed}
 use Rattle.ipmi_bus.proofs.readers.read_info.Goals as goal
@@ -12,3 +13,6 @@ pub returns-in-Absent-clause-honest : goal.returns-in-Absent-clause-honest
 returns-in-Absent-clause-honest g c = λ h.
     let asked = c.asking.invariant.3 h in
     value_absent _ _ _ _ _ _ _ _ asked (c.in-Err.ensures.honest asked.stays.honest) c.asking.invariant.0 (rw c.in-Absent.is at c.in_ok-after_value_failure-in-Err.ensures)
+
+pub returns-in_err-after_value_failure-in-Err-clause-ends : goal.returns-in_err-after_value_failure-in-Err-clause-ends
+returns-in_err-after_value_failure-in-Err-clause-ends g c = search rules

@@ -1,3 +1,4 @@
+use Rattle.std.proofs.Common.{rules}
 use Rattle.ipmi_bus.proofs.InventoryLemmas.{part_answers, part_failed}
 use Rattle.ipmi_bus.proofs.inventory_reader.FruRetrieval.ask_part.Goals as goal
 
@@ -11,3 +12,6 @@ pub returns-in-Err-clause-honest : goal.returns-in-Err-clause-honest
 returns-in-Err-clause-honest g c =
     λ s since. part_failed c.args.self.now c.request.new.self.bytes s _ _ c.asked_len-asked.result c.in-Err.code _ c.in-Err.ensures.err c.requires since (c.in-Err.ensures.honest since.stays.honest)
     c.request.new.self c.fail_part.new.self c.fail_part.result c.request.ensures.bytes c.fail_part.ensures.fails
+
+pub request-requires-clause-len : goal.request-requires-clause-len
+request-requires-clause-len g c = search rules
