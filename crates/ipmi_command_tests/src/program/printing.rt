@@ -1,11 +1,11 @@
-//! The contents of a buffered writer after printing.
-use crate::command_line::lines::command;
+//! The contents of a buffered writer after printing, and the answer to a command line.
+use crate::command_line::lines::{command, read_line};
 use crate::commands::saved::{THREE_LINES, THREE_ROWS};
 use crate::writers::{Limited, assert_written_text};
 use ipmi_bus::Ended;
 use ipmi_commands::Wording;
 use ipmi_output::{Failure, Written};
-use ipmi_program::print;
+use ipmi_program::{InputFault, answer_buffered, print};
 use std::alloc::Global;
 use std::io::{BufWriter, Write};
 use std::process::Abort;
@@ -69,4 +69,41 @@ fn a_writer_that_fails_has_a_first_part(rt: HostRuntime) {
     for room in [0, 10, 27, 80] {
         assert_write_fault(&rt, rt.alloc(), room);
     }
+}
+
+/// Asserts the status of a line over this input, and what it prints and says.
+fn assert_answer(
+    rt: &impl Abort,
+    alloc: Global,
+    line: &str,
+    input: Result<Vec<u8>, InputFault>,
+    wanted: (u8, &str, &str),
+) {
+    let command = read_line(rt, alloc, line);
+    let mut out = buffered(rt, alloc, Vec::new(alloc));
+    let mut err = Vec::new(alloc);
+    let status = answer_buffered(alloc, &command, &input, &mut out, &mut err);
+    let (status_wanted, output, message) = wanted;
+    assert!(rt; status == status_wanted, "{line}: status {status}");
+    assert_written_text(rt, &out.into_inner().into_parts().0, output);
+    assert_written_text(rt, &err, message);
+    drop((command, input));
+}
+
+#[test]
+fn a_line_and_its_image_are_answered(rt: HostRuntime) {
+    let mut image = Vec::new(rt.alloc());
+    image
+        .extend_from_slice(THREE_ROWS.as_bytes())
+        .expect(&rt, "memory");
+    assert_answer(&rt, rt.alloc(), "sdr hex", Ok(image), (0, THREE_LINES, ""));
+}
+
+#[test]
+fn an_image_that_is_not_read_has_a_message(rt: HostRuntime) {
+    let unread = (3, "", "cannot read x\n");
+    let line = "--image x sdr hex";
+    assert_answer(&rt, rt.alloc(), line, Err(InputFault::NotFound), unread);
+    let memory = (5, "", "out of memory\n");
+    assert_answer(&rt, rt.alloc(), line, Err(InputFault::Memory), memory);
 }
