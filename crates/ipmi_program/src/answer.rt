@@ -32,8 +32,9 @@ fn say_unread<E: MessageSink>(fault: InputFault, name: &str, err: &mut E) -> u8
     }
 }
 
-/// Runs the command over the image, and flushes the output to the writer below the buffer. If it did not finish, it
-/// reports why to `err`. Returns the exit status.
+/// Answers a command line over its input: runs the command over the image, and flushes the output to the writer below
+/// the buffer. If the line has a fault, the image was not read or the run did not finish, it reports why to `err`.
+/// Returns the exit status.
 pub fn answer_buffered<W: Write + Drop, E: MessageSink>(
     alloc: Global,
     line: &Result<Command, UsageFault>,

@@ -1,4 +1,4 @@
-//! The frame of a program around a command: it reads the words and the image, and flushes the output.
+//! The frame of a program around a command: it reads the words and the image, flushes the output, and says why a run failed.
 #![tactic(auto)]
 
 mod answer;
