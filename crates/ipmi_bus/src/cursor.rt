@@ -209,8 +209,7 @@ impl Cursor {
 
     /// Returns the next record, which borrows from the cursor until the next step, or None if there are no more.
     /// After an `Err` the cursor is where it was and holds no reservation, so a later step tries again.
-    // An answer in proofs/ would run the same search. The lemmas are named here for a wrong body, whose exits have
-    // other names.
+    // Answers in proofs/ are for the exits of this body. The lemmas are for those of another, as in a must-fail edit.
     #[tactic(auto, using(crate::proofs::WalkLemmas::follows_walks, crate::proofs::WalkLemmas::asks_along))]
     pub fn step<C: Controller>(&mut self, ctl: &mut C) -> Result<Option<Record<'_>>, Ended>
         ensures* after { sem 𝓛 (CursorRests self.entry
