@@ -1,12 +1,19 @@
 -- The effect of an honest controller's answers on the record that is being read.
-use Rattle.std.proofs.Common.{◌≡◌, ℕ, ◌+◌, ◌<◌, Bool, true, false, Option, None, Some, Result, Ok, Err, refl, sym, ap, ◌∙◌, arith, ◌≤◌, IsTrue, IsSome}
-use Rattle.ipmi_bus.specs.Prelude.{Code, CodeClass, Cancelled, Busy, Refusal, Refused, Shelf, Ended, CallOutcome, Retrieval, Row, Store, look, rows_of, class_of, FailsWith, ReserveAnswers, Seen, stays_trans, KeepsStore, MayLoseReservation, IsTroubled, IsRefused, current, StaysHonest, SameRequest, IsReading, HoldsCurrent, HasMet, KeepsHeld, HonestSince, ReadIsHonest, ReadNext, WithinTries, after_trouble, ReserveFails}
-use Rattle.ipmi_bus.specs.Retrieval.{IsOpenRecord, HasRead, CountsTrouble}
+use Rattle.std.proofs.Common.{◌≡◌, ℕ, ◌+◌, ◌<◌, Bool, true, false, Option, None, Some, Result, Ok, Err, refl, sym, ◌∙◌, arith, ◌≤◌, inl, inr, IsTrue, IsSome}
+use Rattle.std.proofs.lemmas.Bool.{cases_lt}
+use Rattle.ipmi_bus.specs.Prelude.{Code, CodeClass, Cancelled, Busy, Refusal, Refused, Shelf, Ended, CallOutcome, Retrieval, Row, KeepsRows, rows_of, class_of, FailsWith, ReserveAnswers, Seen, stays_trans, KeepsStore, MayLoseReservation, IsTroubled, IsRefused, current, StaysHonest, SameRequest, IsReading, HoldsCurrent, HasMet, KeepsHeld, HonestSince, ReadIsHonest, ReadNext, WithinTries, after_trouble, ReserveFails}
+use Rattle.ipmi_bus.specs.Retrieval.{IsOpenRecord, HasBytes, CountsTrouble}
 
--- if a reservation is current, it was current before, and the store is unchanged
-pub store-kept : (shelf : Shelf) (s s' : Seen) (n : ℕ) → MayLoseReservation shelf s s'
-    → KeepsStore s s' → current shelf s' ≡ Some n → s'.store ≡ s.store
-store-kept shelf s s' n keeps store now = grind arith
+-- over a call after which a reservation is current, the shelf keeps its rows
+pub rows-kept : (shelf : Shelf) (s s' : Seen) (n : ℕ) → MayLoseReservation shelf s s'
+    → KeepsStore s s' → current shelf s' ≡ Some n
+    → KeepsRows (rows_of shelf s.store) (rows_of shelf s'.store)
+rows-kept shelf s s' n keeps store now = elim (cases_lt s.stores_added s'.stores_added) [
+  | inl more ↦ keeps.kept_over_change more n now
+  | inr none ↦
+      let same : s'.store ≡ s.store = store.stays (omega (arith, store.grows, none)) in
+      λ m row found. (row, rw same found, record { id = refl; bytes = refl })
+]
 
 -- a call without a result keeps the bytes read so far; the part size and the number of troubles may change
 pub reading_kept : (r : Retrieval) (s s' : Seen) (part troubles : ℕ)
@@ -16,13 +23,13 @@ reading_kept r s s' part troubles keeps store reserved reading = record { piece 
   where
     at : (o : Option ℕ) → r.reservation ≡ o → IsSome o → 0 < r.have
         → current r.shelf s' ≡ r.reservation
-        → (row : Row) × HasRead (record r { part = part; troubles = troubles }) s' row
+        → (row : Row) × HasBytes (record r { part = part; troubles = troubles }) s' row
     at None is h some now = cc h
     at (Some n) is h some now =
         let held : current r.shelf s' ≡ Some n = now ∙ is in
         let before = reading.piece some (keeps.none_given n held ∙ sym is) in
-        let found = ap (λ (x : Store). look (rows_of r.shelf x) r.id) (store-kept r.shelf s s' n keeps store held) ∙ before.1.found in
-        (before.0, record { found = found; within = before.1.within; bytes = before.1.bytes; next = before.1.next })
+        let kept = rows-kept r.shelf s s' n keeps store held r.id before.0 before.1.found in
+        (kept.0, record { found = kept.1; within = rw kept.2.bytes before.1.within; bytes = rw kept.2.bytes before.1.bytes })
 
 after_reading : (is_cancelled : Bool) (r : Retrieval) (s s' : Seen)
     → MayLoseReservation r.shelf s s' → KeepsStore s s' → (0 < r.have → IsSome r.reservation)

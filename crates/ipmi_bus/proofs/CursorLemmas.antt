@@ -45,9 +45,9 @@ pub look-whole_row : (place : Place) (ids : set.FinSet nat_cmp) (asked : ℕ) (r
     → r.have ≡ length row.bytes → 5 ≤ r.have
     → look (rows_of r.shelf s.store) asked ≡ Some (whole_row place asked r)
 look-whole_row place ids asked r s row honest asks is read whole some =
-    let found : look (rows_of r.shelf s.store) asked ≡ Some row = rw (sym is) read.found in
-    let id = handed_id-row r.shelf (rows_of r.shelf s.store) place ids asked r.have r.buffer row (store_shelf r.shelf s.store honest.store) asks found some read.bytes in
-    let bytes : take r.have r.buffer ≡ row.bytes = read.bytes ∙ rw whole (take_all _ row.bytes (omega arith)) in
+    let found : look (rows_of r.shelf s.store) asked ≡ Some row = rw (sym is) read.read.found in
+    let id = handed_id-row r.shelf (rows_of r.shelf s.store) place ids asked r.have r.buffer row (store_shelf r.shelf s.store honest.store) asks found some read.read.bytes in
+    let bytes : take r.have r.buffer ≡ row.bytes = read.read.bytes ∙ rw whole (take_all _ row.bytes (omega arith)) in
     rw (id, read.next, bytes) found
 
 -- and it is the returned row

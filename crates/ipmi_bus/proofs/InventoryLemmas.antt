@@ -3,9 +3,10 @@ use Rattle.std.proofs.Common.{◌≡◌, ℕ, ◌+◌, ◌<◌, ◌≤◌, Bool,
 use Rattle.std.specs.declared.alloc.Global.{Global}
 use Rattle.std.proofs.lemmas.Bool.Decides.{nat_tests}
 use Rattle.std.proofs.Math.Seq.{take-length}
-use Rattle.ipmi_bus.specs.Prelude.{Code, CodeClass, SmallerPart, NotPresent, Refusal, FruEnded, Size, FruRetrieval, inventory_of, class_of, Seen, IsQuiet, IsTroubled, IsFinished, IsRefused, StaysHonest, stays_trans, HasMet, CountsPiece, FailsWith, BytesAnswers, SameInventory, FruSince, FruEnds, FruNext, HasSize, InventoryCounts, InventoryIs, inventory_len, WithinTries, IsRefusedWith, fru_call_bound}
+use Rattle.ipmi_bus.specs.Prelude.{Code, CodeClass, SmallerPart, NotPresent, Refusal, FruEnded, Size, FruRetrieval, inventory_of, class_of, Seen, IsQuiet, IsTroubled, IsFinished, IsRefused, StaysHonest, stays_trans, HasMet, Keeps, CountsPiece, FailsWith, BytesAnswers, SameInventory, FruSince, FruEnds, FruNext, HasSize, InventoryCounts, InventoryIs, inventory_len, WithinTries, IsRefusedWith, fru_call_bound}
 use Rattle.ipmi_bus.specs.FruRetrieval.{IsOpenInventory, CountsTrouble, MakesSmaller, PartFails, TakesInventoryPart, HasRead, calls_left}
 use Rattle.ipmi_bus.proofs.DigitLemmas.{digits_most}
+use Rattle.ipmi_bus.proofs.HeldLemmas.{keeps_first, keeps_same}
 use Rattle.ipmi_bus.proofs.PartLemmas.{take-with_piece, calm_piece, smaller_some}
 
 module _ (old r : FruRetrieval) (s s' s'' : Seen) (asked got : ℕ)
@@ -17,14 +18,17 @@ module _ (old r : FruRetrieval) (s s' s'' : Seen) (asked got : ℕ)
   all : StaysHonest s s''
   all = stays_trans s s' s'' since.stays gave.change.stays
 
-  first : s''.stores_added ≡ s.stores_added → s'.stores_added ≡ s.stores_added
-  first same = omega (arith, since.stays.store.grows, gave.change.stays.store.grows)
+  -- the inventory did not change
+  abbrev Same : Type 0
+  Same = Keeps (inventory_of old.id) s s''
+
+  first : Same → Keeps (inventory_of old.id) s s'
+  first same = keeps_first (inventory_of old.id) s s' s'' since.stays.store gave.change.stays.store same
 
   -- the inventory is the same as for the earlier parts
-  whole_is : (same : s''.stores_added ≡ s.stores_added)
-      → gave.gives.0 ≡ (since.read (first same)).whole
+  whole_is : (same : Same) → gave.gives.0 ≡ (since.read (first same)).whole
   whole_is same =
-      let here = sym (ap (inventory_of old.id) (all.store.stays same)) ∙ gave.gives.1 in
+      let here = sym same.0 ∙ gave.gives.1 in
       let before = (since.read (first same)).found in
       cc (here, before)
 
@@ -35,7 +39,7 @@ module _ (old r : FruRetrieval) (s s' s'' : Seen) (asked got : ℕ)
   abbrev taken : FruRetrieval
   taken = record old { bytes = r.bytes; have = old.have + got }
 
-  read_more : s''.stores_added ≡ s.stores_added → HasRead taken s
+  read_more : Same → HasRead taken s
   read_more same =
       let before = since.read (first same) in
       let piece = gave.gives.2 in
@@ -52,7 +56,7 @@ module _ (old r : FruRetrieval) (s s' s'' : Seen) (asked got : ℕ)
   fresh_most true counts = omega (arith, counts.fresh_troubles)
   fresh_most false counts = omega (arith, counts.fresh_troubles, since.fresh_most more)
 
-  fresh_more : s''.stores_added ≡ s.stores_added → old.have + got < length r.bytes.items
+  fresh_more : Same → old.have + got < length r.bytes.items
       → s''.fresh_troubles ≡ s.fresh_troubles + old.troubles
   fresh_more same left =
       let size = (since.read (first same)).size in
@@ -97,14 +101,14 @@ module _ (old : FruRetrieval) (bytes : Vec ℕ Global) (s s' s'' : Seen) (asked 
   stays : StaysHonest s s''
   stays = stays_trans s s' s'' since.stays gave.change.stays
 
-  at_first : s''.stores_added ≡ s.stores_added → s'.stores_added ≡ s.stores_added
-  at_first same = omega (arith, since.stays.store.grows, gave.change.stays.store.grows)
+  at_first : Keeps (inventory_of old.id) s s'' → Keeps (inventory_of old.id) s s'
+  at_first same = keeps_first (inventory_of old.id) s s' s'' since.stays.store gave.change.stays.store same
 
   -- a plain controller gives what it has, so this one is not plain
   not_plain : IsTrue s.plain → ⊥
   not_plain p =
       let same = since.stays.plain_store p in
-      let read = since.read same in
+      let read = since.read (keeps_same (inventory_of old.id) s s' since.stays.store same) in
       let found : inventory_of old.id s'.store ≡ Some read.whole = ap (inventory_of old.id) (since.stays.store.stays same) ∙ read.found in
       let plain = rw found at (gave.plain (since.stays.plain p)) in
       cc (plain (omega (arith, open_.more, read.size)))
@@ -155,7 +159,7 @@ module _ (old : FruRetrieval) (bytes : Vec ℕ Global) (s s' s'' : Seen) (asked 
       record {
         stays = stays;
         counts = rw (nat_eq-cbh code.0 class) (within, none);
-        is = λ same. rw (nat_eq-cbh code.0 class) (within, ap (inventory_of old.id) (sym (stays.store.stays same)) ∙ none);
+        is = λ same. rw (nat_eq-cbh code.0 class) (within, sym same.0 ∙ none);
         plain = λ p. absurd (not_plain p);
       }
 
@@ -197,8 +201,8 @@ module _ (id part tries : ℕ) (size : Size) (bytes : Vec ℕ Global) (s s' : Se
   abbrev begun : FruRetrieval
   begun = record { id = id; part = part; tries = tries; troubles = size.troubles; have = 0; bytes = bytes }
 
-  found_at_first : s'.stores_added ≡ s.stores_added → inventory_of id s.store ≡ Some has.found.0
-  found_at_first same = ap (inventory_of id) (sym (has.stays.store.stays same)) ∙ has.found.1
+  found_at_first : Keeps (inventory_of id) s s' → inventory_of id s.store ≡ Some has.found.0
+  found_at_first same = sym same.0 ∙ has.found.1
 
   pub since_size : FruSince begun s s'
   since_size = record {
@@ -213,10 +217,10 @@ module _ (id part tries : ℕ) (size : Size) (bytes : Vec ℕ Global) (s s' : Se
 
   pub bound_is : (s'' : Seen) → StaysHonest s' s'' → size.troubles ≤ tries
       → s'.calls ≡ s.calls + size.troubles + 1 → s''.calls + 1 ≤ s'.calls + calls_left begun
-      → s''.stores_added ≡ s.stores_added
+      → Keeps (inventory_of id) s s''
       → s''.calls ≤ s.calls + fru_call_bound tries (inventory_len id s.store)
   bound_is s'' stays few called made same =
-      let first = found_at_first (omega (arith, has.stays.store.grows, stays.store.grows)) in
+      let first = found_at_first (keeps_first (inventory_of id) s s' s'' has.stays.store stays.store same) in
       omega (arith, has.found.2, ap (λ (o : Option (List ℕ)). length (unwrap_or o [])) first, digits_most part)
 
 -- all bytes are read
@@ -230,10 +234,9 @@ module _ (id tries : ℕ) (s s' : Seen) (r : FruRetrieval) (since : FruSince r s
   pub inventory_counted : InventoryCounts id tries s s' (Ok r.bytes.items)
   inventory_counted = (within_tries, subst (λ (n : ℕ). IsSome (inventory_of n s'.store)) id_is (since.found all))
 
-  pub inventory_read : s'.stores_added ≡ s.stores_added
-      → InventoryIs id tries s s' (Ok r.bytes.items)
+  pub inventory_read : Keeps (inventory_of id) s s' → InventoryIs id tries s s' (Ok r.bytes.items)
   inventory_read same =
-      let read = since.read same in
+      let read = since.read (subst (λ (n : ℕ). Keeps (inventory_of n) s s') (sym id_is) same) in
       let bytes : r.bytes.items ≡ read.whole =
       sym (take-length r.bytes.items) ∙ rw (sym all) (read.bytes ∙ rw (all ∙ sym read.size) (take-length read.whole)) in
       (within_tries, rw (sym id_is) (read.found ∙ ap Some (sym bytes)))

@@ -2,6 +2,8 @@ pub mod Asking
 pub mod CallLemmas
 pub mod CursorLemmas
 pub mod DigitLemmas
+pub mod GrowthLaws
+pub mod HeldLemmas
 pub mod IdTableLemmas
 pub mod InventoryLemmas
 pub mod PartLemmas

@@ -94,9 +94,11 @@ module _ (start old : Retrieval) (buffer : List ℕ) (s s' s'' : Seen) (n asked 
       let kept = reading_kept old s' s'' old.part old.troubles keeps stays.store open_.reserved since.reading in
       let before = take-before old s'' row (record { piece = kept.piece }) (λ some. gives.reserved some ∙ sym held) gives.found in
       record {
-        found = gives.found;
-        within = gives.piece.within;
-        bytes = take-with_piece old.have part.got asked old.buffer buffer row.bytes gives.piece.fits front before gives.piece.bytes;
+        read = record {
+          found = gives.found;
+          within = gives.piece.within;
+          bytes = take-with_piece old.have part.got asked old.buffer buffer row.bytes gives.piece.fits front before gives.piece.bytes;
+        };
         next = gives.next;
       }
 
@@ -113,12 +115,12 @@ module _ (start old : Retrieval) (buffer : List ℕ) (s s' s'' : Seen) (n asked 
   piece_goes_on : old.have + part.got < wanted_len old.shelf (old.have + part.got) buffer
       → HonestSince start (taken old buffer part) s s''
   piece_goes_on more =
-      let within = wanted_within old.shelf (old.have + part.got) buffer row ok read.bytes in
+      let within = wanted_within old.shelf (old.have + part.got) buffer row ok read.read.bytes in
       let flag : nat_eq (old.have + part.got) (length row.bytes) ≡ false = ne_eqb _ _ (λ (e : old.have + part.got ≡ length row.bytes). absurd (omega arith)) in
       let quiet : IsQuiet s' s'' = subst (λ (b : Bool). CountsPiece b s' s'') flag gives.counts in
       record {
         stays = all;
-        reading = record { piece = λ some now. (row, read) };
+        reading = record { piece = λ some now. (row, read.read) };
         keeps = keeps_held;
         met = search arith;
         fresh_troubles = quiet.fresh_troubles ∙ since.fresh_troubles;
@@ -135,7 +137,7 @@ module _ (start old : Retrieval) (buffer : List ℕ) (s s' s'' : Seen) (n asked 
       let within = within_calm start old s s' s'' same since stays open_ calm in
       let base : ReadIsHonest start (taken old buffer part) s s'' (Ok Whole) = record {
         stays = all;
-        answers = (within, (row, read, wanted_whole old.shelf (old.have + part.got) buffer row ok read.bytes is));
+        answers = (within, (row, read, wanted_whole old.shelf (old.have + part.got) buffer row ok read.read.bytes is));
         keeps = keeps_held;
         plain = λ p h. (holds p h, tt);
       } in
@@ -144,7 +146,7 @@ module _ (start old : Retrieval) (buffer : List ℕ) (s s' s'' : Seen) (n asked 
   piece_answers new (Err (Malformed id)) takes =
       let five : old.have + part.got ≡ 5 = ap (λ (r : Retrieval). r.have) (sym takes.1) ∙ takes.4 in
       let whole : length row.bytes ≡ 5 + get_or row.bytes 4 0 = subst (λ (shelf : Shelf). length row.bytes ≡ whole_len shelf row.bytes) takes.3 ok.whole in
-      let byte = get_or-read (old.have + part.got) 4 buffer row.bytes (omega arith) read.bytes in
+      let byte = get_or-read (old.have + part.got) 4 buffer row.bytes (omega arith) read.read.bytes in
       let largest : largest_len old.shelf ≡ 256 = ap largest_len takes.3 in
       absurd (omega (arith, takes.5, ok.fits, largest))
   piece_answers new _ takes = absurd takes

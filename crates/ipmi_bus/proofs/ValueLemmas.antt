@@ -2,7 +2,7 @@
 use Rattle.std.proofs.Common.{ℕ, ◌≤◌, Option, None, Ok, Err, rules}
 use Rattle.ipmi_bus.specs.Types.{ValueFailure}
 use Rattle.ipmi_bus.specs.Answers.{ValueAnswers}
-use Rattle.ipmi_bus.specs.Prelude.{Code, Ended, Store, Seen, class_of, ValueFailureIs, ReadsValue}
+use Rattle.ipmi_bus.specs.Prelude.{Code, Ended, Store, Seen, stays_trans, class_of, ValueFailureIs, ReadsValue}
 use Rattle.ipmi_bus.proofs.Asking.{HasAsked}
 
 module _ {V : Type 0} (value : Store → Option V) (code : Code) (id troubles tries : ℕ)
@@ -11,9 +11,9 @@ module _ {V : Type 0} (value : Store → Option V) (code : Code) (id troubles tr
   pub value_failed : (ended : Ended) → troubles ≤ tries
       → ValueFailureIs (class_of code.0) code id troubles tries (Err ended)
       → ReadsValue value tries s s'' (Err ended)
-  value_failed ended within is = search rules
+  value_failed ended within is = let all = stays_trans s s' s'' asked.stays answers.change.stays in search rules
 
   pub value_absent : troubles ≤ tries
       → ValueFailureIs (class_of code.0) code id troubles tries (Ok ValueFailure.Absent)
       → ReadsValue value tries s s'' (Ok None)
-  value_absent within is = search rules
+  value_absent within is = let all = stays_trans s s' s'' asked.stays answers.change.stays in search rules

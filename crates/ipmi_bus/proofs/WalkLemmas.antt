@@ -2,7 +2,7 @@
 use Rattle.std.proofs.Common.{◌≡◌, ◌≢◌, ℕ, ◌+◌, ◌<◌, ◌≤◌, Bool, false, nat_eq, ◌||◌, Option, None, Some, Result, Ok, Err, List, [], ◌∷◌, ◌++◌, length, take, drop, refl, sym, ap, subst, ◌∙◌, inl, inr, rules, arith, ◌⊎◌, ne_eqb, nat_cmp, take_all, take-append-drop, length-drop, take-add}
 use Rattle.std.specs.FinSet as set
 use Rattle.std.proofs.Math.Bool.{or-false, or_assoc, or_comm}
-use Rattle.ipmi_bus.specs.Prelude.{Shelf, Place, First, Id, End, Row, IsShelf, look, len_of, first_row, DistinctIds, LacksId, row_at, IsWalk, place_after, place_after_rows, has_id, WalkEnd, Done, CycleAt, MissingAt, EndsBy, EndsAfter, EndsEmpty, last_next, Ended, Cycle, Missing, CursorState, asked_at, cycle_at, AsksAlong, AsksNothing, StaysThere, StepLeaves, StepAnswers, StepIsHonest, StepSays, KeepsSettings, AsksAtMost, AreWithin, largest_len, IsStep, StandsAt, WalkStep, MayFail, FollowsWalks, store_shelf, Store, rows_of, Seen, IsHonest, StaysHonest, Refused, GaveUp, Stalled, Malformed}
+use Rattle.ipmi_bus.specs.Prelude.{Shelf, Place, First, Id, End, Row, IsShelf, look, len_of, first_row, DistinctIds, LacksId, row_at, IsWalk, place_after, place_after_rows, has_id, WalkEnd, Done, CycleAt, MissingAt, EndsBy, EndsAfter, EndsEmpty, last_next, Ended, Cycle, Missing, CursorState, asked_at, cycle_at, AsksAlong, AsksNothing, StaysThere, StepLeaves, StepAnswers, StepIsHonest, StepSays, KeepsSettings, AsksAtMost, AreWithin, largest_len, IsStep, StandsAt, WalkStep, MayFail, FollowsWalks, store_shelf, Store, rows_of, Seen, IsHonest, StaysHonest, Refused, GaveUp}
 use Rattle.std.specs.FinSet.{contains-insert, contains-empty}
 use Rattle.std.specs.Cmp.{nat_cmp_total, unsigned_tied}
 use Rattle.std.proofs.lemmas.Bool.Decides.{nat_tests}
@@ -253,6 +253,14 @@ module _ (c new : CursorState) (seen : Seen) (start : Place) (walk : List Row) (
       by_rest : (l : List Row) → drop k walk ≡ l → WalkStep rows start walk end k c new result
       by_rest [] is = ending is end ends s end (facts is end ends) result leaves answers
       by_rest (row ∷ rest) is = inside row rest is end s result leaves answers
+
+  -- a cursor at End is at the end of the walk
+  pub all_at_end : c.place ≡ End → k ≡ length walk
+  all_at_end is = by_rest (drop k walk) refl
+    where
+      by_rest : (l : List Row) → drop k walk ≡ l → k ≡ length walk
+      by_rest [] split = let h = ap (length {A = Row}) split in let within = stands.within in omega (arith, length-drop k walk, h)
+      by_rest (row ∷ rest) split = let h = sym (ap (λ (q : Place). row_at q rows) is) ∙ at_row row rest split Done in cc h
 
   -- a step requests the next row of the walk, or at its end no row, or makes no call
   pub asks_next : (end : WalkEnd) → EndsBy rows start walk end

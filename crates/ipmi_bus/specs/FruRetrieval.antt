@@ -3,6 +3,7 @@ use Rattle.std.specs.Prelude.{◌≡◌, ℕ, min, ◌+◌, ◌-◌, ◌<◌, �
 use Rattle.ipmi_bus.specs.Types.{Busy, Cancelled, Code, CodeClass, FruEnded, FruRetrieval, FruSize, Size, SmallerPart}
 use Rattle.ipmi_bus.specs.Store.{inventory_of}
 use Rattle.ipmi_bus.specs.Seen.{Seen, StaysHonest}
+use Rattle.ipmi_bus.specs.Held.{Keeps}
 use Rattle.ipmi_bus.specs.Readers.{KeepsReservations, InventoryCounts, InventoryIs, PlainMayAnswer}
 use Rattle.ipmi_bus.specs.Failures.{HasMet, TroubleIs}
 use Rattle.ipmi_bus.specs.Bounds.{digits}
@@ -76,15 +77,15 @@ pub record HasRead (r : FruRetrieval) (s : Seen) : Type 0 where
   pub bytes : take r.have r.bytes.items ≡ take r.have whole
 
 -- What holds since the read began, over an honest controller: the retrieval counted all troubles,
--- and nothing was refused. Before all bytes are read, something is finished only if a store was
--- added.
+-- and nothing was refused. Before all bytes are read, something is finished only if the inventory
+-- changed.
 pub record FruSince (r : FruRetrieval) (s s' : Seen) : Type 0 where
   pub stays : StaysHonest s s'
-  pub read : s'.stores_added ≡ s.stores_added → HasRead r s
+  pub read : Keeps (inventory_of r.id) s s' → HasRead r s
   pub met : HasMet r.troubles s s'
   pub fresh_most : r.have < length r.bytes.items → s'.fresh_troubles ≤ s.fresh_troubles + r.troubles
   pub found : r.have ≡ length r.bytes.items → IsSome (inventory_of r.id s'.store)
-  pub fresh : s'.stores_added ≡ s.stores_added → r.have < length r.bytes.items
+  pub fresh : Keeps (inventory_of r.id) s s' → r.have < length r.bytes.items
       → s'.fresh_troubles ≡ s.fresh_troubles + r.troubles
   pub plain : IsTrue s.plain → (r.troubles ≡ 0) × KeepsReservations s s'
 
@@ -92,7 +93,7 @@ pub record FruSince (r : FruRetrieval) (s s' : Seen) : Type 0 where
 pub record FruEnds (id tries : ℕ) (s s' : Seen) (ended : FruEnded) : Type 0 where
   pub stays : StaysHonest s s'
   pub counts : InventoryCounts id tries s s' (Err ended)
-  pub is : s'.stores_added ≡ s.stores_added → InventoryIs id tries s s' (Err ended)
+  pub is : Keeps (inventory_of id) s s' → InventoryIs id tries s s' (Err ended)
   pub plain : IsTrue s.plain → PlainMayAnswer (Err ended) × KeepsReservations s s'
 
 -- the state after one more call

@@ -7,7 +7,10 @@ pub mod CursorState
 pub mod Events
 pub mod Failures
 pub mod FruRetrieval
+pub mod Grown
+pub mod Growth
 pub mod Handed
+pub mod Held
 pub mod IdTable
 pub mod Lent
 pub mod Prelude

@@ -7,13 +7,16 @@ pub use Rattle.ipmi_bus.specs.CursorState.{CursorState, start_of}
 pub use Rattle.ipmi_bus.specs.Events.{counts_after, zero_counts}
 pub use Rattle.ipmi_bus.specs.Failures.{HasMet, ValueFailureIs}
 pub use Rattle.ipmi_bus.specs.FruRetrieval.{FruEnds, FruNext, FruSince, HasSize, SameInventory, SizeFails, TakesSize}
+pub use Rattle.ipmi_bus.specs.Grown.{BeginsWith, EachGrew, Grows, OnlyGrew}
+pub use Rattle.ipmi_bus.specs.Growth.{AllFollowOrStop, AtSomeEnd, FollowsGrowth, FollowsOrStops, GrowsAlong, IsLog, OnGrowing, StepsFollowGrowth, StepsFollowLog, WasLog}
+pub use Rattle.ipmi_bus.specs.Held.{AllGive, IsOneOf, Keeps, WasHeld}
 pub use Rattle.ipmi_bus.specs.Handed.{handed_result, IsAsked, IsCursor, IsNext, state_of}
 pub use Rattle.ipmi_bus.specs.IdTable.{has_id_bit}
 unfoldable pub use Rattle.ipmi_bus.specs.IdTable.{ids_below, ids_in}
 pub use Rattle.ipmi_bus.specs.Readers.{as_inventory, EndsUnder, inventory_len, InventoryCounts, InventoryIs, KeepsReservations, ReadsInventory, ReadsValue, ValueSays}
 pub use Rattle.ipmi_bus.specs.Retrieval.{after_part, after_trouble, CallLeaves, HoldsCurrent, IsReading, KeepsHeld, ReserveFails, SameRequest, unreserved, wanted_len}
-pub use Rattle.ipmi_bus.specs.Seen.{AsksAtMost, current, failing_code, IsCall, IsFinished, IsHonest, IsQuiet, IsRefused, IsTroubled, KeepsStore, MayLoseReservation, Seen, stays_trans, StaysHonest}
-pub use Rattle.ipmi_bus.specs.Shelf.{AllRows, DistinctIds, first_row, FoundIsRow, id_in, IsRow, IsShelf, LacksId, largest_len, len_of, look, Row, row_with_id, whole_len}
+pub use Rattle.ipmi_bus.specs.Seen.{AsksAtMost, current, failing_code, held, held_over, IsCall, IsFinished, IsHonest, IsQuiet, IsRefused, IsTroubled, KeepsStore, MayLoseReservation, Seen, stays_trans, StaysHonest}
+pub use Rattle.ipmi_bus.specs.Shelf.{AllRows, DistinctIds, first_row, FoundIsRow, id_in, IsRow, IsShelf, KeepsRows, LacksId, largest_len, len_of, look, Row, row_with_id, SameRecord, whole_len}
 pub use Rattle.ipmi_bus.specs.Since.{begun, HonestSince, IsPlainSince, ReadIsHonest, ReadNext}
 pub use Rattle.ipmi_bus.specs.Standing.{FollowsWalks, MayFail, StandsAt, WalkStep}
 pub use Rattle.ipmi_bus.specs.Step.{asked_at, AsksAlong, AsksNothing, cycle_at, handed_id, HandsOut, IsStep, KeepsReservation, KeepsSettings, StaysThere, StepAnswers, StepIsHonest, StepLeaves, StepSays}

@@ -4,6 +4,7 @@ use Rattle.std.specs.declared.alloc.Global.{Global}
 use Rattle.ipmi_bus.specs.Types.{Ended, FruEnded, GaveUp, NotPresent, Refused, Sdr, Sel}
 use Rattle.ipmi_bus.specs.Store.{Store, inventory_of}
 use Rattle.ipmi_bus.specs.Seen.{Seen, StaysHonest, current}
+use Rattle.ipmi_bus.specs.Held.{Keeps}
 use Rattle.ipmi_bus.specs.Bounds.{fru_call_bound}
 use Rattle.ipmi_bus.specs.Tries.{LastCallSays, LastFailed, RefusesValue, WithinTries, GivesUp, GivesUpOverChange, IsRefusedWith}
 
@@ -53,8 +54,8 @@ IsRefusedInventory true id tries code s s' =
     WithinTries tries s s' × (inventory_of id s.store ≡ None)
 IsRefusedInventory false id tries code s s' = IsRefusedWith tries code s s'
 
--- the result if no store is added: the inventory's bytes, or why there are none; it is out of
--- memory only if there is such an inventory
+-- the result if the inventory does not change meanwhile: its bytes, or why there are none; it is out
+-- of memory only if there is such an inventory
 abbrev pub InventoryIs : ℕ → ℕ → Seen → Seen → Result (List ℕ) FruEnded → Type 0
 InventoryIs id tries s s' (Ok bytes) =
     WithinTries tries s s' × (inventory_of id s.store ≡ Some bytes)
@@ -96,13 +97,14 @@ PlainMayAnswer _ = ⊥
 abbrev pub inventory_len : ℕ → Store → ℕ
 inventory_len id store = length (unwrap_or (inventory_of id store) [])
 
--- reading an inventory, over an honest controller
+-- reading an inventory, over an honest controller: exact if that inventory does not change meanwhile,
+-- whatever else does
 pub record ReadsInventory (id tries : ℕ) (s s' : Seen)
     (result : Result (List ℕ) FruEnded) : Type 0 where
   pub stays : StaysHonest s s'
   pub counts : InventoryCounts id tries s s' result
-  pub is : s'.stores_added ≡ s.stores_added → InventoryIs id tries s s' result
-  pub calls : s'.stores_added ≡ s.stores_added
+  pub is : Keeps (inventory_of id) s s' → InventoryIs id tries s s' result
+  pub calls : Keeps (inventory_of id) s s'
       → s'.calls ≤ s.calls + fru_call_bound tries (inventory_len id s.store)
   pub plain : IsTrue s.plain → PlainMayAnswer result × KeepsReservations s s'
 

@@ -37,15 +37,20 @@ pub record SameRequest (old new : Retrieval) : Type 0 where
   pub some : 0 < new.part
 
 -- the bytes read so far are those of the row
-pub record HasRead (r : Retrieval) (seen : Seen) (row : Row) : Type 0 where
+pub record HasBytes (r : Retrieval) (seen : Seen) (row : Row) : Type 0 where
   pub found : look (rows_of r.shelf seen.store) r.id ≡ Some row
   pub within : r.have ≤ length row.bytes
   pub bytes : take r.have r.buffer ≡ take r.have row.bytes
+
+-- and the next id is the row's
+pub record HasRead (r : Retrieval) (seen : Seen) (row : Row) : Type 0 where
+  pub read : HasBytes r seen row
   pub next : r.next ≡ row.next
 
--- while the reservation is current, the bytes read so far are those of a row that is present
+-- While the reservation is current, the bytes read so far are those of a row that is present. Its
+-- next id may have changed since they were read.
 pub record IsReading (r : Retrieval) (seen : Seen) : Type 0 where
-  pub piece : 0 < r.have → current r.shelf seen ≡ r.reservation → (row : Row) × HasRead r seen row
+  pub piece : 0 < r.have → current r.shelf seen ≡ r.reservation → (row : Row) × HasBytes r seen row
 
 -- a reservation that is held is current
 pub record HoldsCurrent (r : Retrieval) (seen : Seen) : Type 0 where

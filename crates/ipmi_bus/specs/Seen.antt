@@ -1,16 +1,20 @@
 -- The state of a management controller that contracts see, and which controllers are honest and
 -- plain.
-use Rattle.std.proofs.Common.{◌∙◌, arith}
-use Rattle.std.specs.Prelude.{◌≡◌, ℕ, ◌+◌, ◌<◌, ◌≤◌, max, Bool, IsTrue, Option, None, Some, Result, Ok, Err, refl}
+use Rattle.std.proofs.Common.{◌∙◌, ap, arith, sym}
+use Rattle.std.proofs.lemmas.List.{drop-drop}
+use Rattle.std.specs.Prelude.{◌≡◌, ℕ, ◌+◌, ◌-◌, ◌<◌, ◌≤◌, max, Bool, IsTrue, Option, None, Some, Result, Ok, Err, List, ◌∷◌, drop, take, refl}
 use Rattle.ipmi_bus.specs.Types.{Code, Sdr, Sel, Shelf}
-use Rattle.ipmi_bus.specs.Store.{Store, IsStore}
+use Rattle.ipmi_bus.specs.Shelf.{KeepsRows}
+use Rattle.ipmi_bus.specs.Store.{Store, IsStore, rows_of}
 
--- The counters have no upper limit. `most_asked` is the largest part asked for, in bytes;
--- `last_asked` is that of the last call, 0 if it was not for a part; `last_failure` is its code, if
--- it failed. Fresh troubles are those since something was finished. `last_code` is the code of the
--- last refusal. A store is added when another one replaces the store.
+-- `store` is what the controller holds. A store is added when another one replaces it; `earlier` are
+-- the stores that were replaced, the latest first. The counters have no upper limit. `most_asked` is
+-- the largest part asked for, in bytes; `last_asked` is that of the last call, 0 if it was not for a
+-- part; `last_failure` is its code, if it failed. Fresh troubles are those since something was
+-- finished. `last_code` is the code of the last refusal.
 pub record Seen : Type 0 where
   pub store : Store
+  pub earlier : List Store
   pub honest : Bool
   pub plain : Bool
   pub sdr_reservation : Option ℕ
@@ -87,10 +91,19 @@ pub record IsRefused (code : ℕ) (old new : Seen) : Type 0 where
 
 -- ---- what does not change
 
--- the store is unchanged unless a store is added
+-- the stores that the controller has held, the present one first
+abbrev pub held : Seen → List Store
+held seen = seen.store ∷ seen.earlier
+
+-- the stores that it held from the first state to the second, the latest first
+abbrev pub held_over : Seen → Seen → List Store
+held_over old new = new.store ∷ take (new.stores_added - old.stores_added) new.earlier
+
+-- the store is unchanged unless a store is added; no store that it held before is forgotten
 pub record KeepsStore (old new : Seen) : Type 0 where
   pub grows : old.stores_added ≤ new.stores_added
   pub stays : new.stores_added ≡ old.stores_added → new.store ≡ old.store
+  pub past : drop (new.stores_added - old.stores_added) (held new) ≡ held old
 
 -- an honest controller stays honest; a plain one stays plain and adds no store
 pub record StaysHonest (old new : Seen) : Type 0 where
@@ -105,7 +118,11 @@ pub stays_refl : (s : Seen) → IsHonest s → StaysHonest s s
 stays_refl s honest = record {
   honest = honest;
   plain = λ p. p;
-  store = record { grows = omega arith; stays = λ same. refl };
+  store = record {
+    grows = omega arith;
+    stays = λ same. refl;
+    past = ap (λ (n : ℕ). drop n (held s)) {y = 0} (omega arith);
+  };
   plain_store = λ p. refl;
 }
 
@@ -117,6 +134,9 @@ stays_trans a b c first then_ = record {
     grows = omega (arith, first.store.grows, then_.store.grows);
     stays = λ same. then_.store.stays (omega (arith, first.store.grows, then_.store.grows, same))
         ∙ first.store.stays (omega (arith, first.store.grows, then_.store.grows, same));
+    past = ap (λ (n : ℕ). drop n (held c)) {y = c.stores_added - b.stores_added + (b.stores_added - a.stores_added)} (omega (arith, first.store.grows, then_.store.grows))
+        ∙ sym (drop-drop (b.stores_added - a.stores_added) (c.stores_added - b.stores_added) (held c))
+        ∙ ap (drop (b.stores_added - a.stores_added)) then_.store.past ∙ first.store.past;
   };
   plain_store = λ p. then_.plain_store (first.plain p) ∙ first.plain_store p;
 }
@@ -126,9 +146,11 @@ pub record IsChange (old new : Seen) : Type 0 where
   pub stays : StaysHonest old new
   pub one : new.stores_added ≤ old.stores_added + 1
 
--- No reservation of the shelf becomes current, and none stays current if a store is added. An
--- honest controller may cancel a reservation at any call; a plain one cancels none.
+-- No reservation of the shelf becomes current. If a store is added, one stays current only if the
+-- shelf keeps its rows (IPMI v2.0, sections 31.4 and 33.11). An honest controller may cancel a reservation at any call; a plain one
+-- cancels none.
 pub record MayLoseReservation (shelf : Shelf) (old new : Seen) : Type 0 where
   pub none_given : (r : ℕ) → current shelf new ≡ Some r → current shelf old ≡ Some r
-  pub none_over_change : old.stores_added < new.stores_added → current shelf new ≡ None
+  pub kept_over_change : old.stores_added < new.stores_added → (r : ℕ)
+      → current shelf new ≡ Some r → KeepsRows (rows_of shelf old.store) (rows_of shelf new.store)
   pub plain : IsTrue old.plain → current shelf new ≡ current shelf old

@@ -22,6 +22,17 @@ row_with_id n (row ∷ rows) = if row.id == n then Some row else row_with_id n r
 abbrev pub look : List Row → ℕ → Option Row
 look rows n = if n == 0 then first_row rows else row_with_id n rows
 
+-- the same record; its next id may be another one
+pub record SameRecord (row now : Row) : Type 0 where
+  pub id : now.id ≡ row.id
+  pub bytes : now.bytes ≡ row.bytes
+
+-- each id that requested a row still requests that record; rows may be added, and next ids may change
+abbrev pub KeepsRows : List Row → List Row → Type 0
+KeepsRows rows later =
+    (n : ℕ) (row : Row) → look rows n ≡ Some row
+    → (now : Row) × (look later n ≡ Some now) × SameRecord row now
+
 -- the length of the row in bytes, 0 if there is none
 abbrev pub len_of : Option Row → ℕ
 len_of None = 0

@@ -14,6 +14,7 @@ calls_only counts = record {
     sdr_info = None;
     sel_info = None;
   };
+  earlier = [];
   honest = false;
   plain = false;
   sdr_reservation = None;

@@ -1,5 +1,5 @@
 //! Laws of walks, of steps along walks, and of part sizes. Each law is the contract of an empty function.
-ghost use Rattle.ipmi_bus.specs.Prelude.{DigitsAreFew, FoundIsRow, WalkExists, WalkIsUnique, RestIsWalk, TailIsWalk, StepsFollowWalk};
+ghost use Rattle.ipmi_bus.specs.Prelude.{DigitsAreFew, FoundIsRow, WalkExists, WalkIsUnique, RestIsWalk, TailIsWalk, StepsFollowGrowth, StepsFollowLog, StepsFollowWalk};
 
 /// From each place of a shelf exactly one walk reaches an end.
 #[tactic(auto, using(crate::proofs::WalkLaws::same_walk))]
@@ -31,6 +31,13 @@ pub fn the_rest_is_a_walk()
 #[tactic(auto, using(crate::proofs::StepsLaws::steps_follow))]
 pub fn steps_follow_the_walk()
     ensures { StepsFollowWalk }
+{}
+
+/// If a walk that ends with Done only grows, the steps of a cursor return its records in order, each once and without
+/// gaps. When there are no more, they returned the walk as it was at one moment.
+pub fn steps_follow_a_growing_walk()
+    ensures growth { StepsFollowGrowth }
+    ensures log { StepsFollowLog }
 {}
 
 /// A part size has at most eight binary digits, so it is reduced at most seven times.

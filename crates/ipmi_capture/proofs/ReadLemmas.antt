@@ -7,6 +7,7 @@ use Rattle.std.proofs.lemmas.Bool.Decides.{nat_tests}
 use Rattle.std.proofs.lemmas.Option.{none-some}
 use Rattle.std.proofs.lemmas.List.Elements.{All-append, All-cons, All-nil, All-weaker}
 use Rattle.std.proofs.lemmas.List.{append-nil, append_assoc, get_or-append-add, get_or_append_left, length-append}
+use Rattle.ipmi_bus.proofs.HeldLemmas.{keeps_same}
 use Rattle.ipmi_capture.specs.Below.{AsksAtMost, Cycle, Ended, GaveUp, Malformed, Missing, Refused, Stalled, IsHonest, Inventory, inventory_in, inventory_of, Reading, SensorReading, reading_in, reading_of, FruEnded, InventoryCounts, InventoryIs, not_present, ReadsInventory, ReadsValue, Row, Seen, Shelf, stays_refl, stays_trans, StaysHonest, Store, with_inventory, with_reading, WalkEnd, WithinTries}
 use Rattle.ipmi_capture.specs.Capture.{InventoryOrLeft, NoneOrSame, OwnInventories, OwnReadings, ReadingOrLeft}
 use Rattle.ipmi_capture.specs.Left.{AreCounted, CountsGrow, EndIsNoted, IsTrueOf, LacksInventory, LacksReading, LacksRecords, NotesEnd, PlainLeaves, SameOrLeft, unread_in, unread_of}
@@ -660,12 +661,17 @@ pub has_inventory : (id : ℕ) (bytes : List ℕ) (old new : Store) → inventor
     → new ≡ with_inventory id bytes old → HasInventory id (inventory_of id new) old new
 has_inventory id bytes old new none is = rw (kept_again id bytes old new none is) is
 
+-- no store was added while it was read
+read_same : {tries : ℕ} {s s' : Seen} {result : Result (List ℕ) FruEnded} (id : ℕ) → ReadsInventory id tries s s' result
+    → s'.stores_added ≡ s.stores_added → InventoryIs id tries s s' result
+read_same {s = s} {s' = s'} id reads same = reads.is (keeps_same (inventory_of id) s s' reads.stays.store same)
+
 pub came_inventory : {S : Seen → Type 0} {tries : ℕ} {s s' : Seen} (id : ℕ) (bytes : List ℕ) (old new : Store)
     → inventory_of id old ≡ None → new ≡ with_inventory id bytes old
     → ReadsInventory id tries s s' (Ok bytes)
     → Captures S tries s s' [] [] (InventoryOrLeft [] new s.store id)
 came_inventory id bytes old new none is reads =
-    nothing_left [] (grown_within reads.counts.0) (λ same. inl (kept_again id bytes old new none is ∙ sym (reads.is same).1))
+    nothing_left [] (grown_within reads.counts.0) (λ same. inl (kept_again id bytes old new none is ∙ sym (read_same id reads same).1))
 
 -- an inventory without bytes is not put into the image
 pub came_empty : {S : Seen → Type 0} {tries : ℕ} {s s' : Seen} (id : ℕ) (bytes : List ℕ) (image : Store)
@@ -681,7 +687,7 @@ came_empty {S = S} {tries = tries} {s = s} {s' = s'} id bytes image none no_byte
 }
   where
     empty : s'.stores_added ≡ s.stores_added → inventory_of id s.store ≡ Some []
-    empty same = (reads.is same).1 ∙ ap Some no_bytes
+    empty same = (read_same id reads same).1 ∙ ap Some no_bytes
 
 -- an inventory that was not read is left out, unless there is none
 module _ (S : Seen → Type 0) {tries : ℕ} {s s' s'' : Seen} (id : ℕ) (ended : FruEnded) (image : Store)
@@ -692,7 +698,7 @@ module _ (S : Seen → Type 0) {tries : ℕ} {s s' s'' : Seen} (id : ℕ) (ended
       × (s''.stores_added ≡ s.stores_added → inventory_of id s.store ≡ None)
   absent is = (
     within (rw is at reads.counts),
-    λ same. lacks (rw is at (reads.is (between s s' s'' reads.stays later same).0)),
+    λ same. lacks (rw is at (read_same id reads (between s s' s'' reads.stays later same).0)),
   )
     where
       within : InventoryCounts id tries s s' (Err (FruEnded.Refused not_present)) → WithinTries tries s s'

@@ -9,6 +9,7 @@ mod device_lines;
 mod devices;
 mod entry_types;
 mod faults_at_calls;
+mod growing;
 mod image_faults;
 mod images;
 mod in_words;

@@ -2,7 +2,7 @@
 use Rattle.std.proofs.Common.{◌≡◌, ℕ, Bool, false, Result, Err, List, refl, arith, IsErrAnd}
 use Rattle.ipmi_commands.specs.Below.{CodeClass, CursorState, Failure, RefusesRecord, RefusesValue, IsStep, StepLeaves, Ended, Seen, IsHonest}
 use Rattle.ipmi_commands.specs.Run.{MayEndOn}
-use Rattle.ipmi_commands.specs.Prelude.{end_of, ending_of, EndsListing, failure_of, Form, LacksPiece, shelf_of, Unread, AtEnd, Cause, CountsSo, IsFine, AsksAt, Spot}
+use Rattle.ipmi_commands.specs.Prelude.{end_of, ending_of, EndsListing, failure_of, Form, LacksPiece, shelf_of, Unread, AtEnd, Cause, CountsSo, FindsNone, IsFine, AsksAt, NoMemory, Spot}
 use Rattle.ipmi_commands.proofs.CountLemmas.{ends_as, ends_here}
 
 -- the reason for the failure is returned unchanged
@@ -20,6 +20,14 @@ pub asks_as : {spots : List Spot} {tries : ℕ} {s s' : Seen} {cause : Cause}
     → AsksAt spots tries s s' AtEnd
     → CountsSo tries s s' cause → IsFine cause → AsksAt spots tries s s' cause
 asks_as asks counts fine = record { ends = ends_as asks.ends counts fine; calls = asks.calls; keeps = asks.keeps }
+
+-- memory ran out before anything was requested, or after
+pub no_memory : {spots : List Spot} {tries : ℕ} {s : Seen} → IsHonest s → FindsNone spots tries s s NoMemory
+no_memory {spots} {tries} {s} honest = record { asks = asks_as (asks_nothing spots tries s honest) refl tt; there = tt }
+
+pub then_no_memory : {spots : List Spot} {tries : ℕ} {s s' : Seen} → AsksAt spots tries s s' AtEnd
+    → FindsNone spots tries s s' NoMemory
+then_no_memory asks = record { asks = asks_as asks asks.ends.counts tt; there = tt }
 
 -- ---- over any controller
 

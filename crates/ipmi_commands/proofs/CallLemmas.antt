@@ -8,7 +8,7 @@ use Rattle.std.proofs.lemmas.List.{drop-drop}
 use Rattle.std.proofs.lemmas.Nat.{mul-le}
 use Rattle.std.proofs.Math.Seq.{take-nil}
 use Rattle.ipmi_commands.specs.Below.{step_call_bound, digits, Shelf, Ended, Row, first_row, len_of, largest_len, place_after, Place, place_after_rows, Seen, CursorState, IsStep, StepLeaves, HandsOut, Store, WalkEnd, Done, Failure}
-use Rattle.ipmi_commands.specs.Prelude.{calls_for, Form, is_reached, IsPlace, KeepsListing, ListingCalls, first_end, first_rows}
+use Rattle.ipmi_commands.specs.Prelude.{calls_for, Form, is_reached, IsWithin, IsPlace, KeepsListing, ListingCalls, first_end, first_rows}
 
 -- ---- digits
 
@@ -17,11 +17,6 @@ pub digits_some : (n : ℕ) → 0 < n → 1 ≤ digits n
 digits_some n some = grind (arith, nat_tests)
 
 -- ---- limits
-
--- the count is within the limit
-abbrev pub IsWithin : Option ℕ → ℕ → Type 0
-IsWithin None count = Unit {0}
-IsWithin (Some n) count = count ≤ n
 
 -- the limit is reached
 pub at_limit : (most : Option ℕ) (count : ℕ) → is_reached most count ≡ true → most ≡ Some count

@@ -89,6 +89,44 @@ module _ (IsText : Subject → List ℕ → Type 0) where
   cut_after p old whole new ending first item later text next is some part =
       record { whole = whole; first = first; item = item; later = later; next = next; text = text; is_text = is; some = some; part = part }
 
+-- ---- each text of one kind is a text of another
+
+module _ (A B : Subject → List ℕ → Type 0) (keep : (subject : Subject) (text : List ℕ) → A subject text → B subject text) where
+  texts_map : (items : List Item) (text : List ℕ) → AreTexts A items text → AreTexts B items text
+  texts_map [] text are = are
+  texts_map (item ∷ items) text are = record {
+    first = are.first;
+    rest = are.rest;
+    is_first = keep item.subject are.first are.is_first;
+    is_rest = texts_map items are.rest are.is_rest;
+    joined = are.joined;
+  }
+
+  pub printed_map : (items : List Item) (old new : List ℕ) → Printed A items old new → Printed B items old new
+  printed_map items old new printed = record { text = printed.text; are = texts_map items printed.text printed.are; new_is = printed.new_is }
+
+  abbrev first_map : (p : Plan) (old new : List ℕ) → HasFirstItems A p old new → HasFirstItems B p old new
+  first_map p old new first = record { done = first.done; rest = first.rest; items_are = first.items_are; printed = printed_map first.done old new first.printed }
+
+  pub leaves_map : (p : Plan) (old new : List ℕ) (ending : Ending) (cause : Cause) → Leaves A p old new ending cause
+      → Leaves B p old new ending cause
+  leaves_map p old new ending AtEnd leaves = (printed_map p.items old new leaves.0, leaves.1)
+  leaves_map p old new ending (GaveUp spot) leaves = record { first = first_map p old new leaves.first; there = leaves.there }
+  leaves_map p old new ending (Refused spot code) leaves = record { first = first_map p old new leaves.first; there = leaves.there }
+  leaves_map p old new ending NoMemory leaves = first_map p old new leaves
+  leaves_map p old new ending NoOutput leaves = record {
+    whole = leaves.whole;
+    first = first_map p old leaves.whole leaves.first;
+    item = leaves.item;
+    later = leaves.later;
+    next = leaves.next;
+    text = leaves.text;
+    is_text = keep leaves.item.subject leaves.text leaves.is_text;
+    some = leaves.some;
+    part = leaves.part;
+  }
+  leaves_map p old new ending Dishonest leaves = absurd leaves
+
 -- ---- an output that one plan allows is allowed by another
 
 -- if the first items of the one plan were printed, so were the first items of the other, and the next item has at least these

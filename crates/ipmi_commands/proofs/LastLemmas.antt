@@ -1,12 +1,16 @@
 -- The last entries of a shelf: one walk counts the entries, a second one skips those before the last.
-use Rattle.std.proofs.Common.{◌≡◌, ℕ, ◌+◌, ◌-◌, ◌<◌, ◌≤◌, Option, None, Some, IfOk, Result, Ok, Err, List, [], ◌∷◌, ◌++◌, length, take, drop, refl, sym, ap, ◌∙◌, append_assoc, append-nil, arith, length-append, length-drop, length-take-le, take-append-drop}
+use Rattle.std.proofs.Common.{◌≡◌, ℕ, ◌+◌, ◌-◌, ◌<◌, ◌≤◌, Option, None, Some, IfOk, Result, Ok, Err, List, [], ◌∷◌, ◌++◌, inl, inr, length, subst, take, drop, refl, sym, ap, ◌∙◌, append_assoc, append-nil, arith, length-append, length-drop, length-take-le, take-append-drop}
 use Rattle.std.proofs.lemmas.List.{nil_from_length}
 use Rattle.std.proofs.Math.Seq.{drop-nil}
-use Rattle.ipmi_commands.specs.Below.{Place, Sel, Row, Store, rows_of, WalkEnd, Done, place_after, place_after_rows, Seen, IsHonest, StaysHonest, CommandState, CursorState, StandsAt, start_of, Ending, Failure}
-use Rattle.ipmi_commands.specs.Prelude.{AreTexts, calls_for, Cause, cause_of, Change, change, Counted, CountsEntries, spots_at_walk_end, end_spots_of_last, ending_of, EndsListing, Entries, first_end, first_rows, Form, IsAllowed, IsAmong, IsFresh, IsTextOver, Item, Job, last_plan, Leaves, listing, listing_plan, ListsAfter, ListsHonestly, ListsAlong, Plan, Printed, Prints, row_items, rows_end, second_walk_bound, Spot, spots_of_rows, next_spots, spots_of_walk, Subject, walk_call_bound, with_first_spots}
+use Rattle.ipmi_commands.specs.Below.{handed_out, IsLog, OnlyGrew, Shelf, stays_refl, WasLog, Place, Sel, Row, Store, rows_of, WalkEnd, Done, place_after, place_after_rows, Seen, IsHonest, StaysHonest, CommandState, CursorState, StandsAt, start_of, Ending, Failure}
+use Rattle.ipmi_commands.specs.Traced.{EndsTrace}
+use Rattle.ipmi_commands.specs.Prelude.{AreTexts, calls_for, Cause, cause_of, Change, change, Counted, CountsEntries, spots_at_walk_end, end_spots_of_last, ending_of, EndsListing, Entries, first_end, first_rows, Form, IsAllowed, IsAmong, IsFresh, IsTextOver, IsTextWhile, OfRow, OnGrowingLast, TracesListing, Item, Job, last_plan, Leaves, listing, listing_plan, ListsAfter, ListsHonestly, ListsAlong, Plan, Printed, Prints, row_items, rows_end, second_walk_bound, Spot, spots_of_rows, next_spots, spots_of_walk, Subject, walk_call_bound, with_first_spots}
 use Rattle.ipmi_commands.proofs.CallLemmas.{calls_split}
 use Rattle.ipmi_commands.proofs.CountLemmas.{between, ends_here, ends_since}
-use Rattle.ipmi_commands.proofs.ItemLemmas.{IsCarried, leaves_carried, no_items, none_printed, texts_joined}
+use Rattle.ipmi_bus.proofs.HeldLemmas.{begins_length, grew_first, grew_second}
+use Rattle.ipmi_commands.proofs.GrownListing.{first_end-done, fresh_grown, grown_listing, ListsGrown}
+use Rattle.ipmi_commands.proofs.MeanwhileLemmas.{log_again, log_first, log_later, log_now, log_second, while_second}
+use Rattle.ipmi_commands.proofs.ItemLemmas.{IsCarried, leaves_carried, leaves_map, no_items, none_printed, row_item, texts_joined}
 use Rattle.ipmi_commands.proofs.ListingLemmas.{fresh_along, fresh_ends, holds_none}
 use Rattle.ipmi_commands.proofs.SpotLemmas.{among_after, quiet_there, spots_at_walk_end-joined, spots_of_rows-split}
 
@@ -58,15 +62,15 @@ module _ (IsText : Subject → List ℕ → Type 0) (spots : List Spot) (p : Pla
       (λ is all. (grind (arith, all.0), ends all.1)) leaves
 
 -- the plan allows the output of the listing of the last entries
-last_leaves : (entries : Entries) (store : Store) (n k : ℕ) (start : Place)
+last_leaves : (IsText : Subject → List ℕ → Type 0) (entries : Entries) (n k : ℕ) (start : Place)
     (walk : List Row) (old new : List ℕ) (ending : Ending) → k ≡ length walk - n
-    → IsAllowed (IsTextOver store) (listing_plan (listing (Form.EntryLine entries) (place_after_rows start (take k walk)) None) (drop k walk) Done) old new ending
-    → IsAllowed (IsTextOver store) (last_plan entries n start walk Done) old new ending
-last_leaves entries store n k start walk old new ending is allowed =
+    → IsAllowed IsText (listing_plan (listing (Form.EntryLine entries) (place_after_rows start (take k walk)) None) (drop k walk) Done) old new ending
+    → IsAllowed IsText (last_plan entries n start walk Done) old new ending
+last_leaves IsText entries n k start walk old new ending is allowed =
     let place = place_after_rows start (take k walk) in
     let ends = spots_at_walk_end start walk Done in
     let joined : spots_at_walk_end place (drop k walk) Done ≡ ends = spots_at_walk_end-joined start (take k walk) (drop k walk) Done ∙ ap (λ (l : List Row). spots_at_walk_end start l Done) (take-append-drop k walk) in
-    rw (← is) (leaves_wide (IsTextOver store) (spots_of_walk start walk Done) (listing_plan (listing (Form.EntryLine entries) place None) (drop k walk) Done) ends (rows_end (Form.EntryLine entries) walk Done) joined
+    rw (← is) (leaves_wide IsText (spots_of_walk start walk Done) (listing_plan (listing (Form.EntryLine entries) place None) (drop k walk) Done) ends (rows_end (Form.EntryLine entries) walk Done) joined
     (λ spot among. rw (spots_of_rows-split k start walk ends) (among_after (spots_of_rows start (take k walk)) (spots_of_rows place (drop k walk) ++ ends) spot (first_there entries place (drop k walk) ends spot (rw joined at among))))
     old new ending ending (cause_of ending) (λ is. is) allowed)
 
@@ -77,61 +81,89 @@ calls_for-named : (entries : Entries) (store : Store) (tries : ℕ) (rows : List
 calls_for-named entries store tries [] = refl
 calls_for-named entries store tries (row ∷ rows) = rw (calls_for-named entries store tries rows) refl
 
+-- a skipped entry has no text
+abbrev AreNoTexts : (Subject → List ℕ → Type 0) → Type 0
+AreNoTexts IsText = (row : Row) (text : List ℕ) → IsText (OfRow Form.Passed row) text → text ≡ []
+
+none_over : (store : Store) → AreNoTexts (IsTextOver store)
+none_over store row text is = is
+
+none_while : (s s' : Seen) → AreNoTexts (IsTextWhile s s')
+none_while s s' row text is = is.is
+
 -- nothing is printed for skipped entries
-no_text : (store : Store) (rows : List Row) (start : Place) (done rest : List Item) (text : List ℕ)
-    → row_items Form.Passed start rows ≡ done ++ rest → AreTexts (IsTextOver store) done text
+no_text : (IsText : Subject → List ℕ → Type 0) → AreNoTexts IsText → (rows : List Row) (start : Place) (done rest : List Item) (text : List ℕ)
+    → row_items Form.Passed start rows ≡ done ++ rest → AreTexts IsText done text
     → text ≡ []
-no_text store rows start [] rest text is are = are
-no_text store [] start (d ∷ done) rest text is are = cc is
-no_text store (row ∷ rows) start (d ∷ done) rest text is are =
-    grind (arith, are.joined, are.is_first, no_text store rows (place_after row.next) done rest are.rest (cc is) are.is_rest)
+no_text IsText none rows start [] rest text is are = are
+no_text IsText none [] start (d ∷ done) rest text is are = cc is
+no_text IsText none (row ∷ rows) start (d ∷ done) rest text is are =
+    let head : row_item Form.Passed start row ≡ d = cc is in
+    let first = none row are.first (subst (λ (x : Item). IsText x.subject are.first) (sym head) are.is_first) in
+    grind (arith, are.joined, first, no_text IsText none rows (place_after row.next) done rest are.rest (cc is) are.is_rest)
 
 -- the first entries were skipped
-nothing : (store : Store) (most : Option ℕ) (start : Place) (walk : List Row)
+nothing : (IsText : Subject → List ℕ → Type 0) → AreNoTexts IsText → (most : Option ℕ) (start : Place) (walk : List Row)
     (done rest : List Item) (old new : List ℕ)
     → row_items Form.Passed start (first_rows most walk) ≡ done ++ rest
-    → Printed (IsTextOver store) done old new → new ≡ old
-nothing store most start walk done rest old new is printed = printed.new_is ∙ rw (no_text store (first_rows most walk) start done rest printed.text is printed.are) (append-nil old)
+    → Printed IsText done old new → new ≡ old
+nothing IsText none most start walk done rest old new is printed = printed.new_is ∙ rw (no_text IsText none (first_rows most walk) start done rest printed.text is printed.are) (append-nil old)
 
 -- a run that ends while entries are skipped
-module _ (entries : Entries) (store : Store) (n : ℕ) (most : Option ℕ) (start : Place)
+module _ (IsText : Subject → List ℕ → Type 0) (none : AreNoTexts IsText) (entries : Entries) (n : ℕ) (most : Option ℕ) (start : Place)
     (walk : List Row) (end : WalkEnd) (end_is : first_end most walk end ≡ end) (old new : List ℕ) (failure : Failure) where
   abbrev passing : Plan
   passing = listing_plan (listing Form.Passed start most) walk end
 
-  passing_failed : (cause : Cause) → Leaves (IsTextOver store) passing old new (Err failure) cause
-      → Leaves (IsTextOver store) (last_plan entries n start walk end) old new (Err failure) cause
-  passing_failed cause leaves = leaves_carried (IsTextOver store) passing (last_plan entries n start walk end) old old new (Err failure) (Err failure) cause
+  passing_failed : (cause : Cause) → Leaves IsText passing old new (Err failure) cause
+      → Leaves IsText (last_plan entries n start walk end) old new (Err failure) cause
+  passing_failed cause leaves = leaves_carried IsText passing (last_plan entries n start walk end) old old new (Err failure) (Err failure) cause
       (λ whole first. record {
-        first = no_items (IsTextOver store) (last_plan entries n start walk end) old whole (nothing store most start walk first.done first.rest old whole first.items_are first.printed);
+        first = no_items IsText (last_plan entries n start walk end) old whole (nothing IsText none most start walk first.done first.rest old whole first.items_are first.printed);
         spots = λ spot among. grind (arith, quiet_there Form.Passed (λ row. refl) most start walk first.done first.rest (spots_at_walk_end start walk end) spot first.items_are (rw end_is at among));
         next = λ item later text next is_text some.
             let is : row_items Form.Passed start (first_rows most walk) ≡ (first.done ++ item ∷ []) ++ later = first.items_are ∙ rw next (sym (append_assoc first.done (item ∷ []) later)) in
-            let one : AreTexts (IsTextOver store) (item ∷ []) text = record { first = text; rest = []; is_first = is_text; is_rest = refl; joined = sym (append-nil text) } in
-            let none = no_text store (first_rows most walk) start (first.done ++ item ∷ []) later (first.printed.text ++ text) is (texts_joined (IsTextOver store) first.done (item ∷ []) first.printed.text text first.printed.are one) in
-            absurd (omega (arith, some, ap length none, length-append first.printed.text text));
+            let one : AreTexts IsText (item ∷ []) text = record { first = text; rest = []; is_first = is_text; is_rest = refl; joined = sym (append-nil text) } in
+            let empty = no_text IsText none (first_rows most walk) start (first.done ++ item ∷ []) later (first.printed.text ++ text) is (texts_joined IsText first.done (item ∷ []) first.printed.text text first.printed.are one) in
+            absurd (omega (arith, some, ap length empty, length-append first.printed.text text));
       })
-      (λ is all. grind (arith, none_printed, rw end_is at all.1, nothing store most start walk _ [] old new (sym (append-nil _)) all.0)) leaves
+      (λ is all. grind (arith, none_printed, rw end_is at all.1, nothing IsText none most start walk _ [] old new (sym (append-nil _)) all.0)) leaves
 
 -- ---- counting entries
+
+-- all entries of the log as it was at one moment
+counts_grown : (from : Option ℕ) {begun now : CursorState} {c : Change} (result : Result ℕ Failure) (trace : TracesListing Form.Passed None begun now c result) (first : List Row)
+    (g : ListsGrown Sel (start_of from) first c.seen [] (handed_out trace.steps) Form.Passed None now c result)
+    → EndsTrace Form.Passed None now trace.steps c result
+    → Counted (IsTextWhile c.seen c.seen') (start_of from) g.log Done c.old c.new result
+counts_grown from {begun} {now} {c} (Ok count) trace first g ends = (
+  ends.0.count_is ∙ ap (length {A = Row}) (g.whole (elim ends.0.done [ inl limit ↦ cc limit | inr at_end ↦ at_end ])),
+  refl,
+  nothing (IsTextWhile c.seen c.seen') (none_while c.seen c.seen') None (start_of from) g.log _ [] c.old c.new (sym (append-nil _)) g.allowed.0,
+)
+counts_grown from {begun} {now} {c} (Err failure) trace first g ends = λ entries n.
+    passing_failed (IsTextWhile c.seen c.seen') (none_while c.seen c.seen') entries n None (start_of from) g.log Done refl c.old c.new failure (cause_of (Err failure)) g.allowed
 
 module _ {command : CommandState} {from : Option ℕ} {tries : ℕ} {begun now : CursorState}
     {c : Change}
     (fresh : IsFresh command Form.Passed from begun) where
   counts : (result : Result ℕ Failure) (walk : List Row) (end : WalkEnd)
       → ListsAlong Form.Passed tries None begun now c result (start_of from) walk end 0
-      → Counted c.seen.store (start_of from) walk end c.old c.new result
-  counts (Ok count) walk end along = (along.all.count_is, grind (arith, along.leaves.1), nothing c.seen.store None (start_of from) walk _ [] c.old c.new (sym (append-nil _)) along.leaves.0)
-  counts (Err failure) walk end along = λ entries n. passing_failed entries c.seen.store n None (start_of from) walk end refl c.old c.new failure (cause_of (Err failure)) along.leaves
+      → Counted (IsTextOver c.seen.store) (start_of from) walk end c.old c.new result
+  counts (Ok count) walk end along = (along.all.count_is, grind (arith, along.leaves.1), nothing (IsTextOver c.seen.store) (none_over c.seen.store) None (start_of from) walk _ [] c.old c.new (sym (append-nil _)) along.leaves.0)
+  counts (Err failure) walk end along = λ entries n. passing_failed (IsTextOver c.seen.store) (none_over c.seen.store) entries n None (start_of from) walk end refl c.old c.new failure (cause_of (Err failure)) along.leaves
 
-  pub counted : (result : Result ℕ Failure)
+  pub counted : (result : Result ℕ Failure) → IsHonest c.seen
       → ListsHonestly Form.Passed tries None begun now c result
       → CountsEntries (start_of from) tries c result
-  counted result lists = record {
+  counted result honest lists = record {
     ends = fresh_ends fresh lists;
     along = λ same walk end w ends.
         let along = fresh_along fresh lists same walk end w ends in
         (counts result walk end along.0, along.1);
+    grows = λ first log grew.
+        let g = fresh_grown fresh lists.traces honest first log grew tt in
+        (g.log, g.was, counts_grown from result lists.traces first g lists.traces.ends);
   }
 
 pub counted_without_memory : (tries : ℕ) (start : Place) (s : Seen) (text : List ℕ) → IsHonest s
@@ -139,6 +171,8 @@ pub counted_without_memory : (tries : ℕ) (start : Place) (s : Seen) (text : Li
 counted_without_memory tries start s text honest = record {
   ends = ends_here honest refl tt;
   along = λ same walk end w ends. (λ entries n. no_items (IsTextOver s.store) (last_plan entries n start walk end) text text refl, omega arith);
+  grows = λ first log grew.
+      (first, log_now s s (stays_refl s honest).store honest first log, λ entries n. no_items (IsTextWhile s s) (last_plan entries n start first Done) text text refl);
 }
 
 -- ---- skipping entries, and listing those after them
@@ -149,40 +183,92 @@ pub after_without_memory : (entries : Entries) (tries : ℕ) (start : Place) (pa
 after_without_memory entries tries start passed s text honest = record {
   ends = ends_here honest refl tt;
   along = λ same walk end w ends n done is. (no_items (IsTextOver s.store) (last_plan entries n start walk end) text text refl, omega arith);
+  grows = λ first few log grew. (
+    first,
+    log_now s s (stays_refl s honest).store honest first log,
+    no_items (IsTextWhile s s) (last_plan entries (length first - passed) start first Done) text text refl,
+  );
 }
 
 module _ (entries : Entries) {command : CommandState} {from : Option ℕ}
     {tries passed : ℕ} {begun mid : CursorState} {s s' : Seen} {old text : List ℕ} (fresh : IsFresh command Form.Passed from begun) where
   -- skipping failed
-  pub after_failed : (failure : Failure)
+  pub after_failed : (failure : Failure) → IsHonest s
       → ListsHonestly Form.Passed tries (Some passed) begun mid (change s s' old text) (Err failure)
       → ListsAfter entries (start_of from) passed tries (change s s' old text) (Err failure)
-  after_failed failure lists = record {
+  after_failed failure honest lists = record {
     ends = fresh_ends fresh lists;
     along = λ same walk end w ends n done is.
         let along = fresh_along fresh lists same walk end w ends in (
-          passing_failed entries s.store n (Some passed) (start_of from) walk end (grind (arith, done)) old text failure (cause_of (Err failure)) along.0.leaves,
+          passing_failed (IsTextOver s.store) (none_over s.store) entries n (Some passed) (start_of from) walk end (grind (arith, done)) old text failure (cause_of (Err failure)) along.0.leaves,
           omega (arith, along.1, calls_split Form.Passed s.store tries passed walk),
+        );
+    grows = λ first few log grew.
+        let g = fresh_grown fresh lists.traces honest first log grew tt in (
+          g.log,
+          g.was,
+          passing_failed (IsTextWhile s s') (none_while s s') entries (length g.log - passed) (Some passed) (start_of from) g.log Done (first_end-done (Some passed) g.log)
+              old text failure (cause_of (Err failure)) g.allowed,
         );
   }
 
   -- there are fewer entries than were counted
-  pub after_fewer : (count : ℕ) → (count ≡ passed → ⊥)
+  pub after_fewer : (count : ℕ) → (count ≡ passed → ⊥) → IsHonest s
       → ListsHonestly Form.Passed tries (Some passed) begun mid (change s s' old text) (Ok count)
       → ListsAfter entries (start_of from) passed tries (change s s' old text) (Ok tt)
-  after_fewer count fewer lists = record {
+  after_fewer count fewer honest lists = record {
     ends = fresh_ends fresh lists;
     along = λ same walk end w ends n done is.
         absurd (fewer ((fresh_along fresh lists same walk end w ends).0.all.count_is ∙ length-take-le passed walk (omega (arith, is))));
+    grows = λ first few log grew.
+        let g = fresh_grown fresh lists.traces honest first log grew tt in
+        let listed = lists.traces.ends.0 in
+        elim listed.done [
+          | inl limit ↦ absurd (fewer (sym (cc limit)))
+          | inr at_end ↦
+              let all = ap (length {A = Row}) (g.whole at_end) in
+              absurd (fewer (omega (arith, listed.count_is, listed.within, few, all, begins_length first g.log g.was.grown)))
+        ];
   }
+
+  -- of a log that only grew, all after the first ones
+  after_grown : (now : CursorState) (s'' : Seen) (new : List ℕ) (result : Result ℕ Failure) → IsHonest s
+      → ListsHonestly Form.Passed tries (Some passed) begun mid (change s s' old text) (Ok passed)
+      → ListsHonestly (Form.EntryLine entries) tries None mid now (change s' s'' text new) result
+      → (first : List Row) → IsLog Sel (start_of from) s.store first → OnlyGrew Sel (start_of from) s s''
+      → (log : List Row) × WasLog Sel (start_of from) s s'' first log
+      × IsAllowed (IsTextWhile s s'') (last_plan entries (length log - passed) (start_of from) log Done) old new (ending_of result)
+  after_grown now s'' new result honest passes lists first log grew =
+      let a = passes.ends.stays.store in
+      let b = lists.ends.stays.store in
+      let pre = passes.traces in
+      let skipped = fresh_grown fresh pre honest first log (grew_first Sel (start_of from) s s' s'' a b grew) tt in
+      let nothing_yet : text ≡ old = nothing (IsTextWhile s s') (none_while s s') (Some passed) (start_of from) skipped.log _ [] old text (sym (append-nil _)) skipped.allowed.0 in
+      let count : length (handed_out pre.steps) ≡ passed = sym pre.ends.0.count_is in
+      let shelf_is : begun.shelf ≡ Sel = ap (λ (x : CursorState). x.shelf) fresh.is in
+      let trace = subst (λ (x : CursorState). TracesListing (Form.EntryLine entries) None x now (change s' s'' text new) result) (sym pre.traced.cursor) lists.traces in
+      let g = grown_listing begun s (start_of from) first honest (subst (λ (x : Shelf). IsLog x (start_of from) s.store first) (sym shelf_is) log)
+      (fresh.stands (rows_of begun.shelf s.store) first) pre.steps pre.traced.are (Form.EntryLine entries) None now (change s' s'' text new) pre.traced.stays result trace
+      (subst (λ (x : Shelf). OnlyGrew x (start_of from) s s'') (sym shelf_is) grew) tt in
+      let k : passed ≡ length g.log - (length g.log - passed) = omega (arith, g.enough, count) in
+      let place : place_after_rows (start_of from) (handed_out pre.steps) ≡ place_after_rows (start_of from) (take passed g.log) = ap (place_after_rows (start_of from)) (g.before ∙ ap (λ (n : ℕ). take n g.log) count) in
+      let plan : Place → ℕ → Plan = λ p n. listing_plan (listing (Form.EntryLine entries) p None) (drop n g.log) Done in
+      let allowed = subst (λ (p : Place). IsAllowed (IsTextWhile s' s'') (plan p (length (handed_out pre.steps))) text new (ending_of result)) place g.allowed in
+      let all = subst (λ (n : ℕ). IsAllowed (IsTextWhile s' s'') (plan (place_after_rows (start_of from) (take passed g.log)) n) text new (ending_of result)) count allowed in
+      let wide = leaves_map (IsTextWhile s' s'') (IsTextWhile s s'') (while_second s s' s'' a b) (plan (place_after_rows (start_of from) (take passed g.log)) passed) text new (ending_of result) (cause_of (ending_of result)) all in (
+        g.log,
+        subst (λ (x : Shelf). WasLog x (start_of from) s s'' first g.log) shelf_is g.was,
+        last_leaves (IsTextWhile s s'') entries (length g.log - passed) passed (start_of from) g.log old new (ending_of result) k
+            (subst (λ (l : List ℕ). IsAllowed (IsTextWhile s s'') (plan (place_after_rows (start_of from) (take passed g.log)) passed) l new (ending_of result)) nothing_yet wide),
+      )
 
   -- the entries after them were listed
   pub after_passed : (now : CursorState) (s'' : Seen) (new : List ℕ) (result : Result ℕ Failure)
-      → 0 < mid.part → ListsHonestly Form.Passed tries (Some passed) begun mid
+      → 0 < mid.part → IsHonest s → ListsHonestly Form.Passed tries (Some passed) begun mid
       (change s s' old text) (Ok passed)
       → ListsHonestly (Form.EntryLine entries) tries None mid now (change s' s'' text new) result
       → ListsAfter entries (start_of from) passed tries (change s s'' old new) (ending_of result)
-  after_passed now s'' new result some passes lists = record {
+  after_passed now s'' new result some honest passes lists = record {
     ends = ends_since (fresh_ends fresh passes) (λ p. (passes.ends.stays.plain p, passes.holds p (holds_none fresh s))) lists.ends;
     along = λ same walk end w ends n done is.
         let since = between s s' s'' passes.ends.stays lists.ends.stays same in
@@ -191,10 +277,11 @@ module _ (entries : Entries) {command : CommandState} {from : Option ℕ}
         let here : 0 + passed ≡ passed = omega arith in
         let stands : StandsAt (rows_of Sel s.store) (start_of from) walk passed mid = rw here at first.all.stands in
         let later = (rw stays at (lists.along since.1 (start_of from) walk end passed)) (record { walks = w; ends = ends; stands = stands }) in
-        let none = nothing s.store (Some passed) (start_of from) walk _ [] old text (sym (append-nil _)) first.leaves.0 in (
-          rw done (last_leaves entries s.store n passed (start_of from) walk old new (ending_of result) is (rw (done, none) at later.leaves)),
+        let none = nothing (IsTextOver s.store) (none_over s.store) (Some passed) (start_of from) walk _ [] old text (sym (append-nil _)) first.leaves.0 in (
+          rw done (last_leaves (IsTextOver s.store) entries n passed (start_of from) walk old new (ending_of result) is (rw (done, none) at later.leaves)),
           omega (arith, rw (calls_for-named entries s.store tries (drop passed walk)) at (later.calls some), first.all.calls refl, fresh.falls, calls_split Form.Passed s.store tries passed walk),
         );
+    grows = λ first few log grew. after_grown now s'' new result honest passes lists first log grew;
   }
 
 -- ---- the last entries
@@ -233,3 +320,40 @@ module _ (entries : Entries) (n : ℕ) (from : Option ℕ) (tries : ℕ) (some :
       let later = (rw (stays.store.stays same) at (lists.along same' walk end)) w ends n along.0.1 (rw along.0.0 refl) in
       let twice = second_walk_bound-some (walk_call_bound Form.Passed s.store tries walk) (drop (length walk - n) walk) (omega (arith, length-drop (length walk - n) walk, along.0.0, some, more)) in
       (rw along.0.2 at later.0, rw along.0.1 (omega (arith, along.1, later.1, twice)))
+
+  -- ---- a log that only grew
+
+  -- counting failed, or there are no entries
+  pub last_grown_none : (result : Result ℕ Failure) → IfOk result (λ count. count ≡ 0) → CountsEntries (start_of from) tries (change s s' old text) result
+      → OnGrowingLast entries n from s s' (λ plan. IsAllowed (IsTextWhile s s') plan old text (ending_of result))
+  last_grown_none (Ok count) none counts = λ first log grew.
+      let c = counts.grows first log grew in
+      let empty = nil_from_length c.0 (sym c.2.0 ∙ none) in
+      (c.0, c.1, (c.0, log_again s s' c.0 c.1, rw (empty, drop-nil) (none_printed (IsTextWhile s s') old text c.2.2, refl)))
+  last_grown_none (Err failure) none counts = λ first log grew.
+      let c = counts.grows first log grew in
+      (c.0, c.1, (c.0, log_again s s' c.0 c.1, c.2 entries (length c.0 - (length c.0 - n))))
+
+  -- the entries after the skipped ones were listed
+  pub last_grown : (s'' : Seen) (new : List ℕ) (count : ℕ) (ending : Ending) → StaysHonest s s' → StaysHonest s' s''
+      → CountsEntries (start_of from) tries (change s s' old text) (Ok count)
+      → ListsAfter entries (start_of from) (count - n) tries (change s' s'' text new) ending
+      → OnGrowingLast entries n from s s'' (λ plan. IsAllowed (IsTextWhile s s'') plan old new ending)
+  last_grown s'' new count ending first_stays later_stays counts lists = λ first log grew.
+      let a = first_stays.store in
+      let b = later_stays.store in
+      let c = counts.grows first log (grew_first Sel (start_of from) s s' s'' a b grew) in
+      -- the log as it was when the second walk began has at least the counted entries
+      let now = log_later s s' c.0 (grew_first Sel (start_of from) s s' s'' a b grew) c.1 in
+      let later = lists.grows now.0 (omega (arith, c.2.0, begins_length c.0 now.0 now.1)) now.2 (grew_second Sel (start_of from) s s' s'' a b grew) in
+      let size : length later.0 - (count - n) ≡ length later.0 - (length c.0 - n) = omega (arith, c.2.0) in
+      let wide = leaves_map (IsTextWhile s' s'') (IsTextWhile s s'') (while_second s s' s'' a b) (last_plan entries (length later.0 - (count - n)) (start_of from) later.0 Done) text new ending (cause_of ending) later.2 in (
+        c.0,
+        log_first s s' s'' a b first c.0 c.1,
+        (
+          later.0,
+          log_second s s' s'' a b c.0 now.0 later.0 now.1 later.1,
+          subst (λ (l : List ℕ). IsAllowed (IsTextWhile s s'') (last_plan entries (length later.0 - (length c.0 - n)) (start_of from) later.0 Done) l new ending) c.2.2
+              (subst (λ (m : ℕ). IsAllowed (IsTextWhile s s'') (last_plan entries m (start_of from) later.0 Done) text new ending) size wide),
+        ),
+      )

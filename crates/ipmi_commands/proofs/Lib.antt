@@ -2,9 +2,11 @@ mod AskLemmas
 mod CallLemmas
 mod CountLemmas
 mod ExistenceLemmas
+mod GrownListing
 mod ItemLemmas
 mod LastLemmas
 mod ListingLemmas
+mod MeanwhileLemmas
 mod NameLemmas
 mod NamedLemmas
 mod NamedPages
@@ -13,4 +15,5 @@ mod PagesLaw
 mod PerformLemmas
 mod RunLemmas
 mod SpotLemmas
+mod TraceLemmas
 mod UniqueLemmas

@@ -5,11 +5,13 @@ use Rattle.std.specs.FinSet as set
 use Rattle.std.specs.FinSet.{len-empty}
 use Rattle.std.specs.Ordering.{nat_cmp}
 use Rattle.ipmi_commands.specs.Below.{step_call_bound, digits, End, First, first_row, KeepsReservations, len_of, look, Shelf, current, Place, Ended, Row, Store, rows_of, MayFail, WalkEnd, WalkStep, Done, CycleAt, MissingAt, place_after, place_after_rows, Seen, IsHonest, AsksNothing, CursorState, CursorHoldsCurrent, StandsAt, FailsAt, IsStep, NotGivenUpOrRefused, StepAnswers, StepIsHonest, StepLeaves, asked_at, TakesPart, Ending, Failure, CommandState, start_of}
-use Rattle.ipmi_commands.specs.Prelude.{AsksAt, AtEnd, AtRecord, CallsAlong, calls_for, Cause, cause_of, cause_of_unread, Change, change, CountsSo, end_of, spots_at_walk_end, ending_of, EndsFor, failure_of, FindsIt, FindsNone, first_end, first_rows, Form, HasFirstItems, IsAllowed, IsAmong, IsFine, IsFresh, IsOnWalk, is_reached, OnWalk, walk_call_bound, IsTextOver, IsRowText, listing, listing_plan, Lists, ListsAlong, ListsHonestly, Item, IsStopAmong, most_after, most_for_one, OnEachWalk, Plan, Printed, row_items, rows_end, shelf_of, Spot, spots_because_of, StopsAt, Unread}
+use Rattle.ipmi_commands.specs.Prelude.{AsksAt, AtEnd, AtRecord, CallsAlong, calls_for, Cause, cause_of, cause_of_unread, Change, change, CountsSo, end_of, spots_at_walk_end, ending_of, EndsFor, failure_of, FindsIt, FindsNone, first_end, first_rows, Form, HasFirstItems, IsAllowed, IsAmong, IsFine, IsFresh, IsOnWalk, is_reached, OnWalk, walk_call_bound, IsTextOver, IsRowText, listing, listing_plan, Lists, ListsAlong, ListsHonestly, Item, IsStopAmong, most_after, most_for_one, IsWithin, OnEachWalk, Plan, Printed, row_items, rows_end, shelf_of, Spot, spots_because_of, StopsAt, TracesListing, Unread}
 use Rattle.ipmi_commands.proofs.AskLemmas.{asks_as}
-use Rattle.ipmi_commands.proofs.CallLemmas.{HasCalled, IsWithin, at_limit, called_ended, called_more, called_stopped, calls_ended, digits_some, first_end-all, first_end-none, first_row-first_rows, first_rows-all, next_calls, next_one, none_left, not_at_limit, place_after_rows-append, within_more}
+use Rattle.ipmi_commands.proofs.CallLemmas.{HasCalled, at_limit, called_ended, called_more, called_stopped, calls_ended, digits_some, first_end-all, first_end-none, first_row-first_rows, first_rows-all, next_calls, next_one, none_left, not_at_limit, place_after_rows-append, within_more}
 use Rattle.ipmi_commands.proofs.CountLemmas.{between, ends_since}
 use Rattle.ipmi_commands.proofs.ItemLemmas.{cut_after, one_printed, printed_joined, row_item, row_items-next, row_items-split, stops_after}
+use Rattle.ipmi_commands.proofs.MeanwhileLemmas.{keeps_at_same}
+use Rattle.ipmi_commands.proofs.TraceLemmas.{traced_cut, traced_done, traced_ended, traced_full, traced_lost, traced_more, Tracing}
 use Rattle.ipmi_commands.proofs.NameLemmas.{end_of-wrote, Wrote, wrote_more}
 use Rattle.ipmi_commands.proofs.SpotLemmas.{asked_first, end_spot, spots_at_walk_end-joined}
 
@@ -23,7 +25,7 @@ abbrev used : Option ℕ → List Row → ℕ → List Row
 used most walk k = first_rows most (drop k walk)
 
 -- the first of them
-take_used : (most : Option ℕ) (count : ℕ) (rows : List Row) → IsWithin most count
+pub take_used : (most : Option ℕ) (count : ℕ) (rows : List Row) → IsWithin most count
     → take count (first_rows most rows) ≡ take count rows
 take_used None count rows within = refl
 take_used (Some n) count rows within = take-take count n rows within
@@ -60,6 +62,7 @@ pub record Went (form : Form) (tries : ℕ) (most : Option ℕ) (count : ℕ) (b
       → OnEachWalk (shelf_of form) begun c.seen.store
       (λ start walk end k. WentAlong form tries most count count
       (calls_for form c.seen.store tries (left_rows most count walk k)) begun now c start walk k)
+  pub tracing : Tracing form count begun now c
 
 -- a listing that continues
 pub record Listed (form : Form) (tries : ℕ) (most : Option ℕ) (count : ℕ) (wrote : Bool)
@@ -112,7 +115,7 @@ current-kept : (shelf : Shelf) (s s' : Seen) → KeepsReservations s s'
 current-kept shelf s s' keeps = grind arith
 
 -- a stop at a later spot is a stop at one of all spots
-may_later : (first : Spot) (spots : List Spot) (cause : Cause) → IsStopAmong spots cause
+pub may_later : (first : Spot) (spots : List Spot) (cause : Cause) → IsStopAmong spots cause
     → IsStopAmong (first ∷ spots) cause
 may_later first spots cause may = grind arith
 
@@ -193,6 +196,7 @@ module _ {form : Form} {tries : ℕ} {most : Option ℕ} {count : ℕ} {wrote : 
                 calls = λ part. omega (arith, there.calls, digits_some now.part (kept.called.keeps.part part));
                 all = ok_end _ form wrote count (record { count_is = count_is; stands = there.stands; calls = λ limited. omega (arith, there.calls) });
               };
+          traces = traced_full wrote most went.tracing limit kept.within kept.has_written;
         };
       }
 
@@ -305,6 +309,7 @@ module _ {form : Form} {tries : ℕ} {most : Option ℕ} {count : ℕ} {wrote : 
         ends = all_ends wanted step h;
         holds = tt;
         along = λ same start walk end k on. record { leaves = leaves h same on ended step; calls = in_all wanted step h same on; all = tt };
+        traces = traced_ended most (kept.went h).tracing ended step (kept.went h).ends.stays.honest (below wanted step);
       };
     }
       where
@@ -334,6 +339,7 @@ module _ {form : Form} {tries : ℕ} {most : Option ℕ} {count : ℕ} {wrote : 
               calls = in_all wanted step h same on;
               all = ok_end _ form wrote count (record { count_is = count_all wanted step h same on at.0; stands = at.2; calls = λ limit. absurd (not_at_limit most count wanted limit) });
             };
+        traces = traced_done wrote most (kept.went h).tracing step (kept.went h).ends.stays.honest kept.within kept.has_written;
       };
     }
 
@@ -370,7 +376,7 @@ module _ {form : Form} {tries : ℕ} {most : Option ℕ} {count : ℕ} {wrote : 
               ≤ s.calls + calls_for form s.store tries (used most walk k) + digits begun.part
           calls_on =
               let first = (apart same).0 in
-              let piece = rw (store_is same) at (piece_asked.calls (apart same).1) in
+              let piece = rw (store_is same) at (piece_asked.calls (keeps_at_same (spots_because_of form row) s'' last piece_asked.ends.stays.store (apart same).1)) in
               elim (asks_next wanted step h first on) [
                 | inl nothing ↦ absurd (asks_something now next row step.leaves nothing)
                 | inr is ↦ omega (arith, piece, rw row_is at (there wanted step h first on).calls, rw (stepped wanted step h first on).0 at (for_next wanted step h first on is))
@@ -393,8 +399,9 @@ module _ {form : Form} {tries : ℕ} {most : Option ℕ} {count : ℕ} {wrote : 
           (first : HasFirstItems (IsTextOver s.store) p old new) (place : Place) (later : List Item)
           → first.rest ≡ row_item form place row ∷ later
           → IsAllowed (IsTextOver s.store) p old text (Err failure))
+          → (IsHonest s → TracesListing form most begun next (change s last old text) (Err failure))
           → Lists form tries most begun next (change s last old text) (Err failure)
-      stopped failure text asks leaves = record {
+      stopped failure text asks leaves traces = record {
         keeps = more_called.keeps;
         calls = called_stopped _ (count + 1) most begun next s last (Err failure) more_called;
         honest = λ h. record {
@@ -406,6 +413,7 @@ module _ {form : Form} {tries : ℕ} {most : Option ℕ} {count : ℕ} {wrote : 
             calls = λ part. omega (arith, calls_on asks h same on, digits_some next.part step.same.part_not_zero);
             all = tt;
           };
+          traces = traces h;
         };
       }
 
@@ -416,19 +424,29 @@ module _ {form : Form} {tries : ℕ} {most : Option ℕ} {count : ℕ} {wrote : 
       listing_none unread none = stopped (failure_of unread) new (λ h. (none h).asks) (λ h same p first place later at.
           stops_after (IsTextOver s.store) p old new (Err (failure_of unread)) (cause_of_unread unread) first
           (rw at (may_later (AtRecord (asked_at place)) (spots_because_of form row) (cause_of_unread unread) (none (honest_step wanted step h).stays.honest).there)))
+          (λ h.
+          let lost = none (honest_step wanted step h).stays.honest in
+          traced_lost most (kept.went h).tracing step last lost.asks.ends.stays (below wanted step) unread lost.there)
 
       module _ (piece_text : List ℕ) (finds : IsHonest s''
           → FindsIt (λ store. IsRowText store form row piece_text)
           (spots_because_of form row) tries s'' last) where
         is_text : IsHonest s → last.stores_added ≡ s.stores_added
             → IsRowText s.store form row piece_text
-        is_text h same = let found = finds (honest_step wanted step h).stays.honest in rw (store_is (λ h. (finds h).asks) h same) at (found.is (apart (λ h. (finds h).asks) h same).1)
+        is_text h same =
+            let found = finds (honest_step wanted step h).stays.honest in
+            let none = (apart (λ h. (finds h).asks) h same).1 in
+            let stays = found.asks.ends.stays.store in
+            rw (stays.stays none ∙ store_is (λ h. (finds h).asks) h same) at (found.is (keeps_at_same (spots_because_of form row) s'' last stays none))
 
         -- a part of the piece was written
         pub listing_cut : (text : List ℕ) → 0 < length piece_text → TakesPart new text piece_text
             → Lists form tries most begun next (change s last old text) (Err Failure.WriteFault)
         listing_cut text some part = stopped Failure.WriteFault text (λ h. asks_as (finds h).asks (finds h).asks.ends.counts tt) (λ h same p first place later at.
             cut_after (IsTextOver s.store) p old new text (Err Failure.WriteFault) first (row_item form place row) later piece_text at (is_text h same) some part)
+            (λ h.
+            let found = finds (honest_step wanted step h).stays.honest in
+            traced_cut most (kept.went h).tracing step last found.asks.ends.stays (below wanted step) text piece_text found.is some part)
 
         -- the piece was written
         pub listing_more : (text : List ℕ) → text ≡ new ++ piece_text
@@ -457,6 +475,9 @@ module _ {form : Form} {tries : ℕ} {most : Option ℕ} {count : ℕ} {wrote : 
                           (there wanted step h first on).are_printed
                           (one_printed (IsTextOver s.store) (row_item form (place_after_rows at (take count (used most walk k))) row) piece_text new text (is_text h same) is));
                     };
+                tracing =
+                    let found = finds (honest_step wanted step h).stays.honest in
+                    traced_more most (kept.went h).tracing step last found.asks.ends.stays text piece_text found.is is;
               };
         }
 

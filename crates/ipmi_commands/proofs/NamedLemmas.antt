@@ -4,23 +4,29 @@ use Rattle.std.specs.List.{AllPass, concat}
 use Rattle.std.proofs.lemmas.Bool.Decides.{nat_tests}
 use Rattle.ipmi_text.specs.SdrHeader.{sdr_len}
 use Rattle.std.proofs.lemmas.List.Elements.{All-cons, All-nil}
-use Rattle.ipmi_commands.specs.Below.{AllOf, Count, CycleAt, Done, Ending, Failure, First, FoundIsRow, IsHonest, IsShelf, IsStore, is_whole_record, MissingAt, Place, place_after, records_in, Row, Sdr, Seen, Store, WalkEnd}
+use Rattle.ipmi_commands.specs.Below.{AllOf, Count, CycleAt, Done, Ending, Failure, First, FoundIsRow, IsHonest, IsShelf, IsStore, is_whole_record, MissingAt, Place, place_after, records_in, Row, Sdr, Seen, stays_refl, Store, WalkEnd}
 use Rattle.ipmi_commands.specs.Named.{end_after, ending_then, walk_of}
 use Rattle.ipmi_commands.specs.declared.named.Walked.{Walked}
-use Rattle.ipmi_commands.specs.Prelude.{after_names, AreTexts, AtEnd, bytes_of_rows, Cause, cause_of, Change, change, Dishonest, end_after_names, ending_of, end_spots_of_last, EndsNamed, EndsFor, EndsListing, Entries, entries_in, Form, GaveUp, HasFirstItems, IsAllowed, IsAmong, IsPage, IsTextOver, Item, Job, job_with, Leaves, listing, listing_plan, MayEnd, most_calls, most_named, most_on_walk, Named, next_spots, NoMemory, NoOutput, OnNamed, OnPlan, Plan, Printed, Refused, row_items, rows_end, Runs, Spot, spots_at_walk_end, spots_before, spots_of_walk, with_first_spots, Wording}
+use Rattle.ipmi_commands.specs.Prelude.{after_names, AreTexts, AtEnd, bytes_of_rows, Cause, cause_of, Change, change, Dishonest, end_after_names, ending_of, end_spots_of_last, EndsNamed, EndsFor, EndsListing, Entries, entries_in, Form, GaveUp, HasFirstItems, IsAllowed, IsAmong, IsPage, IsTextOver, IsTextWhile, Item, Job, job_with, Leaves, listing, listing_plan, MayEnd, most_calls, most_named, most_on_walk, Named, next_spots, NoMemory, NoOutput, OfRow, OnNamed, OnPlan, Plan, Printed, Refused, row_items, rows_end, Runs, Spot, spots_at_walk_end, spots_before, spots_of_walk, Subject, TracesJob, with_first_spots, Wording}
 use Rattle.ipmi_commands.proofs.CountLemmas.{between, ends_here, ends_since}
-use Rattle.ipmi_commands.proofs.ItemLemmas.{no_items}
+use Rattle.ipmi_bus.proofs.HeldLemmas.{grew_first}
+use Rattle.ipmi_commands.proofs.ItemLemmas.{leaves_map, no_items}
+use Rattle.ipmi_commands.proofs.MeanwhileLemmas.{log_first, named_growing, named_second, while_second, with_growing}
 use Rattle.ipmi_commands.proofs.LastLemmas.{leaves_wide}
 use Rattle.ipmi_commands.proofs.SpotLemmas.{among_after, quiet_there}
 
 -- ---- the bytes of the records
 
-bytes_text : (store : Store) (rows : List Row) (start : Place) (text : List ℕ)
-    → AreTexts (IsTextOver store) (row_items Form.Bytes start rows) text
+-- each text of a row is its bytes
+abbrev AreBytesOf : (Subject → List ℕ → Type 0) → Type 0
+AreBytesOf IsText = (row : Row) (text : List ℕ) → IsText (OfRow Form.Bytes row) text → text ≡ row.bytes
+
+bytes_text : (IsText : Subject → List ℕ → Type 0) → AreBytesOf IsText → (rows : List Row) (start : Place) (text : List ℕ)
+    → AreTexts IsText (row_items Form.Bytes start rows) text
     → text ≡ concat (bytes_of_rows rows)
-bytes_text store [] start text are = are
-bytes_text store (row ∷ rows) start text are =
-    are.joined ∙ rw (are.is_first, bytes_text store rows (place_after row.next) are.rest are.is_rest) refl
+bytes_text IsText bytes [] start text are = are
+bytes_text IsText bytes (row ∷ rows) start text are =
+    are.joined ∙ rw (bytes row are.first are.is_first, bytes_text IsText bytes rows (place_after row.next) are.rest are.is_rest) refl
 
 whole_record : (bytes : List ℕ) → length bytes ≡ sdr_len bytes → is_whole_record bytes ≡ true
 whole_record bytes is = grind (arith, nat_tests)
@@ -36,12 +42,12 @@ abbrev pub RecordsAreFound : Type 0
 RecordsAreFound = (records : List (List ℕ)) → AllPass is_whole_record records → records_in (concat records) ≡ records
 
 -- the listed bytes are those of the records on the walk
-pub read_records : FoundIsRow → RecordsAreFound → (store : Store) (walk : List Row) (text : List ℕ)
-    → IsStore store → AllOf store.sdr walk
-    → Printed (IsTextOver store) (row_items Form.Bytes First walk) [] text
+pub read_records : FoundIsRow → RecordsAreFound → (IsText : Subject → List ℕ → Type 0) → AreBytesOf IsText
+    → (store : Store) (walk : List Row) (text : List ℕ) → IsStore store → AllOf store.sdr walk
+    → Printed IsText (row_items Form.Bytes First walk) [] text
     → records_in text ≡ bytes_of_rows walk
-read_records look_row split store walk text ok all printed =
-    ap records_in (printed.new_is ∙ bytes_text store walk First printed.text printed.are)
+read_records look_row split IsText bytes store walk text ok all printed =
+    ap records_in (printed.new_is ∙ bytes_text IsText bytes walk First printed.text printed.are)
     ∙ split (bytes_of_rows walk) (whole_rows look_row store.sdr walk ok.sdr all)
 
 -- equal known contents are equal
@@ -118,6 +124,13 @@ with_end wording records (Named.Events (Count.First n) from) c = tt
 with_end wording records (Named.Events (Count.Last n) from) c = tt
 with_end wording records Named.Devices c = tt
 
+with_traces : (wording : Wording) (records : List (List ℕ)) (named : Named) (s : Seen) (text : List ℕ)
+    → TracesJob (job_with wording records named) (change s s text text) (Err Failure.OutOfMemory)
+with_traces wording records (Named.Events Count.All from) s text = λ not_zero. inl (refl, refl, refl)
+with_traces wording records (Named.Events (Count.First n) from) s text = λ not_zero. inl (refl, refl, refl)
+with_traces wording records (Named.Events (Count.Last n) from) s text = tt
+with_traces wording records Named.Devices s text = tt
+
 pub with_without_memory : (wording : Wording) (records : List (List ℕ)) (named : Named) (tries : ℕ) (s : Seen) (text : List ℕ)
     → Runs (job_with wording records named) tries (change s s text text) (Err Failure.OutOfMemory)
 with_without_memory wording records named tries s text = record {
@@ -125,6 +138,8 @@ with_without_memory wording records named tries s text = record {
   ends = with_end wording records named (change s s text text);
   why = λ h. ends_here h refl tt;
   prints = λ h same. with_all wording records tries s.store _ named (λ plan calls. (no_items (IsTextOver s.store) plan text text refl, omega arith));
+  grows = λ h. with_growing s s h (stays_refl s h).store _ (λ plan. no_items (IsTextWhile s s) plan text text refl) wording records named;
+  traces = λ h. with_traces wording records named s text;
 }
 
 -- ---- the walk of the records was not finished
@@ -139,12 +154,12 @@ not_at_end records Done result failure is at = grind arith
 not_at_end records (CycleAt n) result failure is at = grind arith
 not_at_end records (MissingAt n) result failure is at = grind arith
 
-module _ (store : Store) (records : List Row) (end : WalkEnd) (plan : Plan) (kept text : List ℕ) where
+module _ (IsText : Subject → List ℕ → Type 0) (records : List Row) (end : WalkEnd) (plan : Plan) (kept text : List ℕ) where
   abbrev q : Plan
   q = after_names records end plan
 
   -- the run stops at a spot of that walk
-  stop_there : (first : HasFirstItems (IsTextOver store) (records_plan records end) [] kept) (spot : Spot)
+  stop_there : (first : HasFirstItems IsText (records_plan records end) [] kept) (spot : Spot)
       → IsAmong (next_spots first.rest (spots_at_walk_end First records end)) spot
       → IsAmong (next_spots q.items q.end_spots) spot
   stop_there first spot there =
@@ -164,19 +179,19 @@ module _ (store : Store) (records : List Row) (end : WalkEnd) (plan : Plan) (kep
 
   pub stop_by : (result : Result Place Failure) (failure : Failure) → walk_of result ≡ Err failure
       → (cause : Cause) → cause_of (ending_of result) ≡ cause
-      → Leaves (IsTextOver store) (records_plan records end) [] kept (ending_of result) cause
-      → IsAllowed (IsTextOver store) q text text (Err failure)
+      → Leaves IsText (records_plan records end) [] kept (ending_of result) cause
+      → IsAllowed IsText q text text (Err failure)
   stop_by result failure is AtEnd at leaves = absurd (not_at_end records end result failure is leaves.1)
   stop_by result failure is (GaveUp spot) at leaves =
       rw (cause_kept result failure is (λ e. cc (sym at ∙ e)) ∙ at)
-      (record { first = no_items (IsTextOver store) q text text refl; there = stop_there leaves.first spot leaves.there })
+      (record { first = no_items IsText q text text refl; there = stop_there leaves.first spot leaves.there })
   stop_by result failure is (Refused spot code) at leaves =
       rw (cause_kept result failure is (λ e. cc (sym at ∙ e)) ∙ at)
-      (record { first = no_items (IsTextOver store) q text text refl; there = stop_there leaves.first spot leaves.there })
+      (record { first = no_items IsText q text text refl; there = stop_there leaves.first spot leaves.there })
   stop_by result failure is NoMemory at leaves =
-      rw (cause_kept result failure is (λ e. cc (sym at ∙ e)) ∙ at) (no_items (IsTextOver store) q text text refl)
+      rw (cause_kept result failure is (λ e. cc (sym at ∙ e)) ∙ at) (no_items IsText q text text refl)
   stop_by result failure is NoOutput at leaves =
-      rw (cause_of-memory result failure is at) (no_items (IsTextOver store) q text text refl)
+      rw (cause_of-memory result failure is at) (no_items IsText q text text refl)
   stop_by result failure is Dishonest at leaves = absurd leaves
 
 -- a walk with a known end was at the end of its plan
@@ -217,9 +232,17 @@ module _ (tries : ℕ) (s s' : Seen) (kept : List ℕ) (wording : Wording) (name
     prints = λ h same records end w ends_.
         let along = (page_of h).along same records end w ends_ in
         named_all wording (bytes_of_rows records) tries s.store _ named (λ plan calls. (
-          stop_by s.store records end plan kept text result failure is (cause_of (ending_of result)) refl along.leaves,
+          stop_by (IsTextOver s.store) records end plan kept text result failure is (cause_of (ending_of result)) refl along.leaves,
           omega (arith, along.calls),
         ));
+    grows = λ h first log grew.
+        let ends = (page_of h).ends.stays.store in
+        let walked = (page_of h).grows tt first log grew in (
+          walked.0,
+          walked.1,
+          named_growing s s' h ends _ (λ plan. stop_by (IsTextWhile s s') walked.0 Done plan kept text result failure is (cause_of (ending_of result)) refl walked.2) wording (bytes_of_rows walked.0) named,
+        );
+    traces = λ h. tt;
   }
 
 -- ---- after the walk
@@ -232,12 +255,12 @@ then_ends wording Named.Devices seen ending walked ends = grind arith
 pub then_for : (ending : Ending) (walked : Walked) → cause_of (ending_then ending walked) ≡ cause_of ending
 then_for ending walked = grind arith
 
-pub then_allowed : (store : Store) (records : List Row) (end : WalkEnd) (plan : Plan) (old new : List ℕ)
+pub then_allowed : (IsText : Subject → List ℕ → Type 0) (records : List Row) (end : WalkEnd) (plan : Plan) (old new : List ℕ)
     (ending : Ending) (walked : Walked) → end_after walked ≡ end_after_names end (Ok tt)
-    → IsAllowed (IsTextOver store) plan old new ending
-    → IsAllowed (IsTextOver store) (after_names records end plan) old new (ending_then ending walked)
-then_allowed store records end plan old new ending walked end_is allowed =
-    rw (then_for ending walked) (leaves_wide (IsTextOver store) (spots_before records end plan) plan plan.end_spots (end_after_names end plan.end) refl
+    → IsAllowed IsText plan old new ending
+    → IsAllowed IsText (after_names records end plan) old new (ending_then ending walked)
+then_allowed IsText records end plan old new ending walked end_is allowed =
+    rw (then_for ending walked) (leaves_wide IsText (spots_before records end plan) plan plan.end_spots (end_after_names end plan.end) refl
     (λ spot among. among_after (spots_of_walk First records end) (next_spots plan.items plan.end_spots) spot among)
     old new ending (ending_then ending walked) (cause_of ending) (λ is. then_end ending plan.end is) allowed)
   where
@@ -267,10 +290,30 @@ named_run look_row split tries s s' s'' kept old new wording named result walked
       λ records end w ends_.
       let along = page.along since.0 records end w ends_ in
       let all = rw (walked_at_end result walked is) at along.leaves in
-      let records_are = read_records look_row split s.store records kept h.store w.of_shelf all.0 in
+      let records_are = read_records look_row split (IsTextOver s.store) (λ row text is. is) s.store records kept h.store w.of_shelf all.0 in
       let on = rw records_are at printed in
       named_map wording (bytes_of_rows records) tries s.store _ _ named (λ plan calls_. λ both. (
-        then_allowed s.store records end plan old new ending walked (walked_end records end result walked is all.1) both.0,
+        then_allowed (IsTextOver s.store) records end plan old new ending walked (walked_end records end result walked is all.1) both.0,
         omega (arith, both.1, along.calls),
       )) on;
+  grows = λ h first log grew.
+      let page = page_of h in
+      let ends = rw (walked_at_end result walked is) at page.ends in
+      let later = runs.why ends.stays.honest in
+      let a = ends.stays.store in
+      let b = later.stays.store in
+      let read = page.grows tt first log (grew_first Sdr First s s' s'' a b grew) in
+      let all = rw (walked_at_end result walked is) at read.2 in
+      let was = read.1 in
+      let records_are = read_records look_row split (IsTextWhile s s') (λ row text is. is.is) was.store read.0 kept was.is_store was.is_log.walks.of_shelf all.0 in
+      let on = rw records_are at (runs.grows ends.stays.honest) in (
+        read.0,
+        log_first s s' s'' a b first read.0 was,
+        named_second s s' s'' ends.stays later.stays (λ plan. IsAllowed (IsTextWhile s' s'') plan old new ending)
+            (λ plan. IsAllowed (IsTextWhile s s'') (after_names read.0 Done plan) old new (ending_then ending walked))
+            (λ plan allowed. then_allowed (IsTextWhile s s'') read.0 Done plan old new ending walked (walked_end read.0 Done result walked is all.1)
+            (leaves_map (IsTextWhile s' s'') (IsTextWhile s s'') (while_second s s' s'' a b) plan old new ending (cause_of ending) allowed))
+            wording (bytes_of_rows read.0) named on,
+      );
+  traces = λ h. tt;
 }

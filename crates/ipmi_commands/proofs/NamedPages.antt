@@ -1,9 +1,9 @@
 -- All entries in pages, after the walk that reads the names of their sensors.
-use Rattle.std.proofs.Common.{◌≡◌, inl, ℕ, ◌+◌, ◌*◌, ◌≤◌, IsTrue, Option, None, Some, Ok, Err, List, [], ◌∷◌, refl, sym, arith}
+use Rattle.std.proofs.Common.{inl, ℕ, ◌+◌, ◌*◌, ◌≤◌, IsTrue, Option, None, Some, Ok, Err, List, [], ◌∷◌, refl, sym, arith}
 use Rattle.ipmi_commands.specs.Below.{Count, Ending, Failure, FoundIsRow, IsHonest, Place, records_in, Seen, start_of, TailIsWalk}
 use Rattle.ipmi_commands.specs.Named.{ending_then, ReadsRecords}
 use Rattle.ipmi_commands.specs.declared.named.Walked.{Walked}
-use Rattle.ipmi_commands.specs.Prelude.{ArePages, bytes_of_rows, cause_of, change, ending_of, EndsListing, entries_in, entries_with, Form, listing, listing_plan, most_on_walk, Named, pages_made, RunsNamedInPages, Wording}
+use Rattle.ipmi_commands.specs.Prelude.{IsTextOver, ArePages, bytes_of_rows, cause_of, change, ending_of, EndsListing, entries_in, entries_with, Form, listing, listing_plan, most_on_walk, Named, pages_made, RunsNamedInPages, Wording}
 use Rattle.ipmi_commands.proofs.CountLemmas.{between, ends_since}
 use Rattle.ipmi_commands.proofs.NamedLemmas.{entries_end, failed_ends, failed_for, read_records, RecordsAreFound, stop_by, then_allowed, then_ends, then_for, walked_at_end, walked_end}
 use Rattle.ipmi_commands.proofs.PageLemmas.{page_without_memory}
@@ -31,7 +31,7 @@ module _ (tries : ℕ) (s s' : Seen) (kept : List ℕ) (wording : Wording) (from
     prints = λ h same records end w ends_ walk end' w' ends' open_.
         let along = (reads.page h).along same records end w ends_ in
         let plan = listing_plan (listing (entries_with wording (bytes_of_rows records)) (start_of from) None) walk end' in (
-          stop_by s.store records end plan kept text reads.listed failure (sym reads.is) (cause_of (ending_of reads.listed)) refl along.leaves,
+          stop_by (IsTextOver s.store) records end plan kept text reads.listed failure (sym reads.is) (cause_of (ending_of reads.listed)) refl along.leaves,
           omega (arith, along.calls),
         );
   }
@@ -64,11 +64,11 @@ module _ (tries : ℕ) (s s' : Seen) (kept : List ℕ) (wording : Wording) (from
             λ records end w ends__.
             let along = page.along since.0 records end w ends__ in
             let all = rw at_end at along.leaves in
-            let on = rw (read_records look_row split s.store records kept h.store w.of_shelf all.0) at printed in
+            let on = rw (read_records look_row split (IsTextOver s.store) (λ row text is. is) s.store records kept h.store w.of_shelf all.0) at printed in
             λ walk end' w' ends' open_.
             let both = on walk end' w' ends' open_ in
             let plan = listing_plan (listing (entries_with wording (bytes_of_rows records)) (start_of from) None) walk end' in (
-              then_allowed s.store records end plan old new ending walked (walked_end records end reads.listed walked (sym reads.is) all.1) both.0,
+              then_allowed (IsTextOver s.store) records end plan old new ending walked (walked_end records end reads.listed walked (sym reads.is) all.1) both.0,
               omega (arith, both.1, along.calls),
             );
       }

@@ -1,16 +1,45 @@
 -- Pages of a listing.
-use Rattle.std.proofs.Common.{◌≡◌, inl, inr, ℕ, zero, suc, ◌+◌, ◌*◌, ◌<◌, ◌≤◌, ◌==◌, false, Option, None, Some, Result, Ok, Err, List, [], ◌∷◌, length, take, drop, get_or, refl, ap, subst, ◌∙◌, arith, take_all, length-take}
+use Rattle.std.specs.FinSet as set
+use Rattle.std.proofs.Common.{◌≡◌, ◌⊎◌, inl, inr, ℕ, Bool, sym, append-nil, zero, suc, ◌+◌, ◌*◌, ◌<◌, ◌≤◌, ◌==◌, false, Option, None, Some, Result, Ok, Err, List, [], ◌∷◌, length, take, drop, get_or, refl, ap, subst, ◌∙◌, arith, take_all, length-take}
 use Rattle.std.proofs.lemmas.Grind.{common_steps}
 use Rattle.std.proofs.lemmas.List.{take_min, at_drop_more}
 use Rattle.ipmi_commands.specs.Pages.{PageAlong}
-use Rattle.ipmi_commands.specs.Below.{Place, End, Row, rows_of, WalkEnd, Done, CycleAt, MissingAt, EndsBy, row_at, IsWalk, place_after_rows, Seen, IsHonest, CommandState, CursorState, start_of, Ending, Failure}
-use Rattle.ipmi_commands.specs.Prelude.{ArePages, AtEnd, cause_of, Change, change, end_of, ending_of, first_rows, Form, IsFresh, IsPage, IsTextOver, listing, listing_plan, ListsHonestly, pages_made, shelf_of}
+use Rattle.ipmi_commands.specs.Below.{Place, End, Ended, Id, IsLog, Shelf, stays_refl, Store, Row, rows_of, WalkEnd, Done, CycleAt, MissingAt, EndsBy, row_at, IsWalk, place_after_rows, Seen, IsHonest, CommandState, CursorState, start_of, Ending, Failure}
+use Rattle.ipmi_commands.specs.Prelude.{ArePages, AtEnd, cause_of, Change, change, end_of, ending_of, first_rows, Form, IsFresh, IsPage, IsTextOver, IsTextWhile, IsWithin, Traces, listing, listing_plan, ListsHonestly, pages_made, shelf_of}
 use Rattle.ipmi_commands.proofs.CallLemmas.{first_end-none}
 use Rattle.ipmi_commands.proofs.CountLemmas.{ends_here}
+use Rattle.ipmi_commands.proofs.GrownListing.{fresh_grows, fresh_traces}
 use Rattle.ipmi_commands.proofs.ItemLemmas.{no_items, none_printed}
 use Rattle.ipmi_commands.proofs.ListingLemmas.{fresh_along, fresh_ends}
+use Rattle.ipmi_commands.proofs.MeanwhileLemmas.{log_now}
+use Rattle.ipmi_commands.proofs.TraceLemmas.{traced_whole}
 
 -- ---- a page that makes no call
+
+within_none : (most : Option ℕ) → IsWithin most 0
+within_none None = tt
+within_none (Some n) = omega arith
+
+end_same : {A B : Type 0} (form : Form) (wrote : Bool) (a : A) (b : B) → ending_of (end_of form wrote a) ≡ ending_of (end_of form wrote b)
+end_same form wrote a b = grind arith
+
+-- a listing that is at its end before the first step
+no_steps : {A : Type 0} (form : Form) (start : Place) (most : Option ℕ) (s : Seen) (text : List ℕ) (value : A) → IsHonest s
+    → IsWithin most 0 → (most ≡ Some 0) ⊎ (start ≡ End)
+    → Traces form start most (change s s text text) (ending_of (end_of form false value))
+no_steps form start most s text value honest within done = λ not_zero.
+    let here : CursorState = record { shelf = shelf_of form; place = start; part = 0; tries = 0; ids = set.empty; reservation = None } in
+    inr (record {
+      begun = here;
+      now = here;
+      result = end_of form false 0;
+      is = end_same form false value 0;
+      shelf = refl;
+      place = refl;
+      ids = refl;
+      traces = traced_whole form false 0 [] (record { are = tt; cursor = refl; stays = stays_refl s honest })
+          (record { count_is = refl; within = within; done = done; printed = record { text = []; are = refl; new_is = sym (append-nil text) } }) refl;
+    })
 
 -- a page of size 0
 pub page_of_none : (form : Form) (place : Place) (tries : ℕ) (s : Seen) (text : List ℕ) → IsHonest s
@@ -25,6 +54,9 @@ page_of_none form place tries s text honest =
         calls = omega arith;
         goes_on = grind arith;
       };
+      grows = λ keeps first log grew.
+          (first, log_now s s (stays_refl s honest).store honest first log, rw cause (none_printed (IsTextWhile s s) text text refl, grind (arith, first_end-none 0 first Done (omega arith))));
+      traces = no_steps form place (Some 0) s text place honest (omega arith) (inl refl);
     }
 
 -- from a place without a row the walk is empty
@@ -41,6 +73,10 @@ page_at_end form tries most s text honest =
       ends = rw cause (ends_here honest refl tt);
       none = λ zero_. refl;
       along = λ same walk end w ends. along walk end (no_walk _ End walk refl w) ends;
+      grows = λ keeps first log grew.
+          let empty = no_walk _ End first refl log.walks in
+          (first, log_now s s (stays_refl s honest).store honest first log, rw empty (grind (arith, common_steps)));
+      traces = no_steps form End most s text End honest (within_none most) (inr refl);
     }
   where
     along : (walk : List Row) (end : WalkEnd) → walk ≡ []
@@ -59,6 +95,25 @@ page_without_memory form place tries most s text honest = record {
   ends = ends_here honest refl tt;
   none = λ zero_. refl;
   along = λ same walk end w ends. record { leaves = no_items (IsTextOver s.store) (listing_plan (listing form place most) walk end) text text refl; calls = omega arith; goes_on = tt };
+  grows = λ keeps first log grew.
+      (first, log_now s s (stays_refl s honest).store honest first log, no_items (IsTextWhile s s) (listing_plan (listing form place most) first Done) text text refl);
+  traces = λ not_zero. inl (refl, refl, refl);
+}
+
+-- from id 0000h no walk ends with Done
+no_log : (shelf : Shelf) (store : Store) (rows : List Row) → IsLog shelf (Id 0) store rows → ⊥
+no_log shelf store [] log = log.ends
+no_log shelf store (row ∷ rows) log = let none = log.walks.first in cc none
+
+-- a page from id 0000h
+pub page_of_cycle : (form : Form) (tries : ℕ) (most : Option ℕ) (s : Seen) (text : List ℕ) → IsHonest s
+    → (most ≡ Some 0 → ⊥) → IsPage form (Id 0) tries most (change s s text text) (Err (Failure.Ended (Ended.Cycle 0)))
+page_of_cycle form tries most s text honest some = record {
+  ends = ends_here honest refl tt;
+  none = λ zero_. refl;
+  along = λ same walk end w ends. grind (arith, common_steps);
+  grows = λ keeps first log grew. absurd (no_log (shelf_of form) s.store first log);
+  traces = λ not_zero. absurd (not_zero refl);
 }
 
 -- ---- a page with a cursor
@@ -71,9 +126,9 @@ page_result next (Err failure) = Err failure
 pub page_by_cursor : {command : CommandState} {form : Form} {from : Option ℕ} {tries : ℕ}
     {most : Option ℕ}
     {begun now : CursorState} {c : Change} (result : Result ℕ Failure) → IsFresh command form from begun
-    → (most ≡ Some 0 → ⊥) → ListsHonestly form tries most begun now c result
+    → (most ≡ Some 0 → ⊥) → IsHonest c.seen → ListsHonestly form tries most begun now c result
     → IsPage form (start_of from) tries most c (page_result now.place result)
-page_by_cursor {from = from} {most = most} {now = now} (Ok count) fresh some lists = record {
+page_by_cursor {from = from} {most = most} {now = now} (Ok count) fresh some honest lists = record {
   ends = fresh_ends fresh lists;
   none = λ zero_. absurd (some zero_);
   along = λ same walk end w ends.
@@ -85,11 +140,15 @@ page_by_cursor {from = from} {most = most} {now = now} (Ok count) fresh some lis
         calls = along.1;
         goes_on = elim along.0.all.stands.place [ inl there ↦ inl (there ∙ ap (place_after_rows (start_of from)) (ap (λ (n : ℕ). take n walk) here ∙ first)) | inr empty ↦ inr empty ];
       };
+  grows = fresh_grows fresh lists.traces honest;
+  traces = fresh_traces fresh lists.traces honest;
 }
-page_by_cursor (Err failure) fresh some lists = record {
+page_by_cursor (Err failure) fresh some honest lists = record {
   ends = fresh_ends fresh lists;
   none = λ zero_. absurd (some zero_);
   along = λ same walk end w ends. let along = fresh_along fresh lists same walk end w ends in record { leaves = along.0.leaves; calls = along.1; goes_on = tt };
+  grows = fresh_grows fresh lists.traces honest;
+  traces = fresh_traces fresh lists.traces honest;
 }
 
 -- ---- pages, one after another

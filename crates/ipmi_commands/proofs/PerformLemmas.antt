@@ -1,10 +1,12 @@
 -- Tasks that print one text, and the task of all inventories: one text, then a listing.
 use Rattle.std.proofs.Common.{◌≡◌, ℕ, ◌+◌, ◌≤◌, IsTrue, Option, None, Some, Result, Ok, Err, Vec, Global, List, [], ◌∷◌, ◌++◌, option_map, refl, arith}
-use Rattle.ipmi_commands.specs.Below.{fru_call_bound, Shelf, Place, First, Seen, IsHonest, Row, Store, info_of, inventory_of, WalkEnd, Ending, Failure}
+use Rattle.ipmi_commands.specs.Below.{Done, fru_call_bound, LastFailed, NotPresent, Sdr, Shelf, Place, First, Seen, IsHonest, Row, Store, info_of, inventory_of, WalkEnd, Ending, Failure}
 use Rattle.ipmi_commands.specs.Run.{EndsInfo, EndsInventory}
-use Rattle.ipmi_commands.specs.Prelude.{LacksInventory, LacksValue, AtEnd, AtRecord, cause_of, Change, change, ending_of, spots_at_walk_end, EndsFor, EndsListing, failure_of, Finds, Form, info_plan, inventories_plan, AtInventory, inventory_item, inventory_plan, IsInventoryIn, most_on_walk, IsAllowed, IsAmong, IsInfoText, IsPage, IsTextOver, Item, Job, Listing, listing, listing_plan, IsStopAmong, OfInfo, OfInventory, Plan, row_items, Runs, Spot, next_spots, Subject, text_plan, Unread, Wording, WritesText}
+use Rattle.ipmi_commands.specs.Prelude.{LacksInventory, LacksValue, AtEnd, AtRecord, cause_of, Change, change, ending_of, spots_at_walk_end, EndsFor, EndsListing, failure_of, Finds, Form, info_plan, inventories_plan, AtInventory, inventory_item, inventory_plan, IsInventoryIn, most_on_walk, IsAllowed, IsAmong, IsInfoText, IsPage, IsTextOver, IsTextWhile, Item, Job, Listing, listing, listing_plan, IsStopAmong, OfInfo, OfInventory, Plan, row_items, Runs, Spot, next_spots, Subject, text_plan, Unread, Wording, WritesText}
 use Rattle.ipmi_commands.proofs.CountLemmas.{between, ends_as, ends_since}
-use Rattle.ipmi_commands.proofs.ItemLemmas.{cut_after, leaves_joined, leaves_longer, no_items, one_printed, stops_after}
+use Rattle.ipmi_bus.proofs.HeldLemmas.{keeps_first, keeps_second}
+use Rattle.ipmi_commands.proofs.ItemLemmas.{cut_after, leaves_joined, leaves_longer, leaves_map, no_items, none_printed, one_printed, printed_map, stops_after}
+use Rattle.ipmi_commands.proofs.MeanwhileLemmas.{growing_second, keeps_at_same, keeps_inventory, log_now, while_first, while_last, while_second}
 
 -- ---- one listing
 
@@ -19,6 +21,8 @@ page_runs l tries c result ends calls page = record {
   ends = ends;
   why = λ h. (page h).ends;
   prints = λ h same walk end w done. let along = (page h).along same walk end w done in (along.leaves, along.calls);
+  grows = λ h. (page h).grows;
+  traces = λ h. (page h).traces;
 }
 
 -- ---- writing a text
@@ -74,8 +78,33 @@ module _ (wording : Wording) (shelf : Shelf) (tries : ℕ) (s s' : Seen) (calls 
     calls = calls;
     ends = grind arith;
     why = λ h. text_ends tries (IsTrue s.plain) s s' text.items old new ending (finds h).asks.ends writes;
-    prints = λ h same. (info_leaves wording shelf s.store (info_of shelf s.store) text.items old new ending ((finds h).is same) writes, calls);
+    prints = λ h same.
+        let stays = (finds h).asks.ends.stays.store in
+        (info_leaves wording shelf s.store (info_of shelf s.store) text.items old new ending (rw (stays.stays same) at ((finds h).is tt)) writes, calls);
+    grows = λ h. leaves_map (IsTextOver s'.store) (IsTextWhile s s') (while_last s s') (info_plan wording shelf (info_of shelf s'.store)) old new ending (cause_of ending)
+        (info_leaves wording shelf s'.store (info_of shelf s'.store) text.items old new ending ((finds h).is tt) writes);
+    traces = λ h. tt;
   }
+
+  -- the controller has no info
+  pub info_absent : (text : List ℕ) → LastFailed (λ class. class ≡ NotPresent) s' → FoundInfo (Ok None)
+      → Runs (Job.Info wording shelf) tries (change s s' text text) (Err Failure.NoInfo)
+  info_absent text says finds = record {
+    calls = calls;
+    ends = says;
+    why = λ h. (finds h).asks.ends;
+    prints = λ h same.
+        let stays = (finds h).asks.ends.stays.store in
+        (none_of s.store (info_of shelf s.store) (rw (stays.stays same) at ((finds h).is tt)), calls);
+    grows = λ h. leaves_map (IsTextOver s'.store) (IsTextWhile s s') (while_last s s') (info_plan wording shelf (info_of shelf s'.store)) text text (Err Failure.NoInfo) AtEnd
+        (none_of s'.store (info_of shelf s'.store) ((finds h).is tt));
+    traces = λ h. tt;
+  }
+    where
+      none_of : (store : Store) (o : Option (List ℕ)) → IsInfoText wording shelf o None
+          → IsAllowed (IsTextOver store) (info_plan wording shelf o) text text (Err Failure.NoInfo)
+      none_of store None is = (none_printed (IsTextOver store) text text refl, refl)
+      none_of store (Some info) is = absurd is
 
   pub info_unread : (text : List ℕ) (unread : Unread) → LacksValue unread s'
       → FoundInfo (Err unread)
@@ -85,6 +114,8 @@ module _ (wording : Wording) (shelf : Shelf) (tries : ℕ) (s s' : Seen) (calls 
     ends = value_ends s' unread says;
     why = λ h. (none h).asks.ends;
     prints = λ h same. (none_leaves (IsTextOver s.store) (info_plan wording shelf (info_of shelf s.store)) text (Err (failure_of unread)) (rw info_spots (none h).there), calls);
+    grows = λ h. none_leaves (IsTextWhile s s') (info_plan wording shelf (info_of shelf s'.store)) text (Err (failure_of unread)) (rw info_spots (none h).there);
+    traces = λ h. tt;
   }
 
 -- ---- one inventory
@@ -102,9 +133,14 @@ module _ (wording : Wording) (id : ℕ) (name : Option (List ℕ)) (tries : ℕ)
     ends = grind arith;
     why = λ h. text_ends tries (IsTrue s.plain) s s' text.items old new ending (finds h).asks.ends writes;
     prints = λ h same. (
-      text_leaves (IsTextOver s.store) (OfInventory wording id name) (AtInventory id ∷ []) old new text.items ending ((finds h).is same) writes,
-      omega (arith, (finds h).asks.calls same),
+      let stays = (finds h).asks.ends.stays.store in
+          text_leaves (IsTextOver s.store) (OfInventory wording id name) (AtInventory id ∷ []) old new text.items ending
+          (rw (stays.stays same) at ((finds h).is (keeps_at_same (AtInventory id ∷ []) s s' stays same))) writes,
+      omega (arith, (finds h).asks.calls (keeps_at_same (AtInventory id ∷ []) s s' (finds h).asks.ends.stays.store same)),
     );
+    grows = λ h keeps. leaves_map (IsTextOver s'.store) (IsTextWhile s s') (while_last s s') (inventory_plan wording id name) old new ending (cause_of ending)
+        (text_leaves (IsTextOver s'.store) (OfInventory wording id name) (AtInventory id ∷ []) old new text.items ending ((finds h).is (keeps, tt)) writes);
+    traces = λ h. tt;
   }
 
   pub inventory_unread : (text : List ℕ) (unread : Unread) → LacksInventory unread s'
@@ -116,18 +152,20 @@ module _ (wording : Wording) (id : ℕ) (name : Option (List ℕ)) (tries : ℕ)
     why = λ h. (none h).asks.ends;
     prints = λ h same. (
       none_leaves (IsTextOver s.store) (inventory_plan wording id name) text (Err (failure_of unread)) (none h).there,
-      omega (arith, (none h).asks.calls same),
+      omega (arith, (none h).asks.calls (keeps_at_same (AtInventory id ∷ []) s s' (none h).asks.ends.stays.store same)),
     );
+    grows = λ h keeps. none_leaves (IsTextWhile s s') (inventory_plan wording id name) text (Err (failure_of unread)) (none h).there;
+    traces = λ h. tt;
   }
 
 -- ---- all inventories
 
 -- the inventory of device 0 was not finished
-first_leaves : (wording : Wording) (name : Option (List ℕ)) (store : Store) (walk : List Row) (end : WalkEnd) (old new : List ℕ)
-    (failure : Failure) → IsAllowed (IsTextOver store) (inventory_plan wording 0 name) old new (Err failure)
-    → IsAllowed (IsTextOver store) (inventories_plan wording name walk end) old new (Err failure)
-first_leaves wording name store walk end old new failure allowed =
-    leaves_longer (IsTextOver store) (inventory_plan wording 0 name) (inventories_plan wording name walk end) (row_items (Form.Device wording) First walk) refl there old new (Err failure) (cause_of (Err failure))
+first_leaves : (IsText : Subject → List ℕ → Type 0) (wording : Wording) (name : Option (List ℕ)) (walk : List Row) (end : WalkEnd) (old new : List ℕ)
+    (failure : Failure) → IsAllowed IsText (inventory_plan wording 0 name) old new (Err failure)
+    → IsAllowed IsText (inventories_plan wording name walk end) old new (Err failure)
+first_leaves IsText wording name walk end old new failure allowed =
+    leaves_longer IsText (inventory_plan wording 0 name) (inventories_plan wording name walk end) (row_items (Form.Device wording) First walk) refl there old new (Err failure) (cause_of (Err failure))
     (λ is all. cc all.1) allowed
   where
     there : (spot : Spot) (rest : List Item) → IsAmong (next_spots rest []) spot
@@ -141,7 +179,13 @@ first_run wording name tries s s' old new failure runs = record {
   calls = omega (arith, runs.calls);
   ends = of_device failure runs.ends;
   why = runs.why;
-  prints = λ h same. λ walk end w ends. let printed = runs.prints h same in (first_leaves wording name s.store walk end old new failure printed.0, omega (arith, printed.1));
+  prints = λ h same. λ walk end w ends. let printed = runs.prints h same in (first_leaves (IsTextOver s.store) wording name walk end old new failure printed.0, omega (arith, printed.1));
+  grows = λ h keeps first log grew. (
+    first,
+    log_now s s' (runs.why h).stays.store h first log,
+    first_leaves (IsTextWhile s s') wording name first Done old new failure (runs.grows h (keeps_inventory 0 s s' keeps)),
+  );
+  traces = λ h. tt;
 }
   where
     of_device : (failure : Failure) → EndsInventory s' (Err failure)
@@ -170,4 +214,19 @@ inventories_run wording name tries s s' s'' old text new next calls may first pa
         leaves_joined (IsTextOver s.store) (inventory_item wording 0 name ∷ []) (listing_plan (listing (Form.Device wording) First None) walk end) old text new (ending_of next) (cause_of (ending_of next)) printed.0.0 along.leaves,
         omega (arith, printed.1, along.calls),
       );
+  grows = λ h keeps.
+      let ends = first.why h in
+      let page = page_of ends.stays.honest in
+      let a = ends.stays.store in
+      let b = page.ends.stays.store in
+      let printed = first.grows h (keeps_inventory 0 s s' (keeps_first (λ (store : Store). store.inventories) s s' s'' a b keeps)) in
+      let rest : List Row → Plan = λ log. listing_plan (listing (Form.Device wording) First None) log Done in
+      growing_second s s' s'' ends.stays page.ends.stays Sdr First
+      (λ log. IsAllowed (IsTextWhile s' s'') (rest log) text new (ending_of next))
+      (λ log. IsAllowed (IsTextWhile s s'') (inventories_plan wording name log Done) old new (ending_of next))
+      (λ log allowed. leaves_joined (IsTextWhile s s'') (inventory_item wording 0 name ∷ []) (rest log) old text new (ending_of next) (cause_of (ending_of next))
+      (printed_map (IsTextWhile s s') (IsTextWhile s s'') (while_first s s' s'' a b) (inventory_item wording 0 name ∷ []) old text printed.0)
+      (leaves_map (IsTextWhile s' s'') (IsTextWhile s s'') (while_second s s' s'' a b) (rest log) text new (ending_of next) (cause_of (ending_of next)) allowed))
+      (page.grows (keeps_second (λ (store : Store). store.inventories) s s' s'' a b keeps));
+  traces = λ h. tt;
 }

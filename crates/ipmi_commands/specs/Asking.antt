@@ -6,26 +6,28 @@ use Rattle.ipmi_commands.specs.declared.job.Form.{Form}
 use Rattle.ipmi_commands.specs.declared.job.Wording.{Wording}
 use Rattle.ipmi_commands.specs.declared.piece.Piece.{Piece}
 use Rattle.ipmi_commands.specs.declared.unread.Unread.{Unread}
-use Rattle.ipmi_commands.specs.Allowed.{AtEnd, Cause, GaveUp, Refused, NoMemory, cause_of, EndsFor, IsAmong}
+use Rattle.ipmi_commands.specs.Allowed.{AtEnd, Cause, cause_of, EndsFor}
 use Rattle.ipmi_commands.specs.Calls.{calls_for_spots}
+use Rattle.ipmi_commands.specs.Meanwhile.{KeepsAt}
 use Rattle.ipmi_commands.specs.Plan.{Spot}
 use Rattle.ipmi_commands.specs.Run.{LacksValue}
 use Rattle.ipmi_commands.specs.Texts.{IsInfoIn}
+use Rattle.ipmi_commands.specs.Traced.{IsStopAmong}
 
 -- ---- found, or not
 
 -- what holds over an honest controller after requests at these spots that end with this cause
 pub record AsksAt (spots : List Spot) (tries : ℕ) (s s' : Seen) (cause : Cause) : Type 0 where
   pub ends : EndsFor tries (IsTrue s.plain) s s' cause
-  pub calls : s'.stores_added ≡ s.stores_added
-      → s'.calls ≤ s.calls + calls_for_spots tries s.store spots
+  pub calls : KeepsAt spots s s' → s'.calls ≤ s.calls + calls_for_spots tries s.store spots
   pub keeps : IsTrue s.plain → KeepsReservations s s'
 
--- the value is found, and the run continues
+-- the value is found, as the store has it now, and the run continues; if an inventory changed while it
+-- was read, any value
 pub record FindsIt (Is : Store → Type 0) (spots : List Spot) (tries : ℕ)
     (s s' : Seen) : Type 0 where
   pub asks : AsksAt spots tries s s' AtEnd
-  pub is : s'.stores_added ≡ s.stores_added → Is s.store
+  pub is : KeepsAt spots s s' → Is s'.store
 
 -- the failure of a run that ends for this reason
 abbrev pub failure_of : Unread → Failure
@@ -35,13 +37,6 @@ failure_of Unread.Memory = Failure.OutOfMemory
 
 abbrev pub cause_of_unread : Unread → Cause
 cause_of_unread unread = cause_of (Err (failure_of unread))
-
--- the request gives up or is refused at one of the spots, or is out of memory
-abbrev pub IsStopAmong : List Spot → Cause → Type 0
-IsStopAmong spots (GaveUp spot) = IsAmong spots spot
-IsStopAmong spots (Refused spot code) = IsAmong spots spot
-IsStopAmong spots NoMemory = Unit {0}
-IsStopAmong spots _ = ⊥
 
 -- the value is not found; the run ends with this cause
 pub record FindsNone (spots : List Spot) (tries : ℕ) (s s' : Seen) (cause : Cause) : Type 0 where

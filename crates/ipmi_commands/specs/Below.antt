@@ -24,13 +24,17 @@ pub use Rattle.ipmi_events.specs.SensorLaws.{SensorBlockExists, SensorBlockIsUni
 pub use Rattle.ipmi_events.specs.SensorLines.{IsSensorLine}
 pub use Rattle.ipmi_bus.specs.Bounds.{digits, DigitsAreFew, fru_call_bound, step_call_bound}
 pub use Rattle.ipmi_bus.specs.CursorState.{CursorState, start_of}
+pub use Rattle.ipmi_bus.specs.Grown.{BeginsWith, OnlyGrew}
+pub use Rattle.ipmi_bus.specs.Growth.{AllFollowOrStop, AtSomeEnd, FollowsGrowth, FollowsOrStops, IsLog, OnGrowing, WasLog}
+pub use Rattle.ipmi_bus.specs.Held.{Keeps, WasHeld}
 pub use Rattle.ipmi_bus.specs.Lent.{row_of_record}
 pub use Rattle.ipmi_bus.specs.Readers.{EndsUnder, inventory_len, InventoryCounts, IsRefusedInventory, IsRefusedOverChange, KeepsReservations, ReadsInventory, ReadsValue, ValueIs}
 pub use Rattle.ipmi_bus.specs.Seen.{AsksAtMost, current, IsHonest, Seen, stays_refl, stays_trans, StaysHonest}
 pub use Rattle.ipmi_bus.specs.Shelf.{first_row, FoundIsRow, IsRow, IsShelf, largest_len, len_of, look, Row, whole_len}
 pub use Rattle.ipmi_bus.specs.Standing.{MayFail, StandsAt, WalkStep}
 pub use Rattle.ipmi_bus.specs.Step.{asked_at, AsksNothing, CursorHoldsCurrent, FailsAt, HandsOut, IsStep, StepAnswers, StepIsHonest, StepLeaves}
-pub use Rattle.ipmi_bus.specs.Store.{info_of, inventory_of, IsInfo, IsStore, reading_of, rows_of, Store, store_shelf}
+pub use Rattle.ipmi_bus.specs.Steps.{AreSteps, cursor_after, handed_out, seen_after, Stepped, with_handed}
+pub use Rattle.ipmi_bus.specs.Store.{info_of, Inventory, inventory_in, inventory_of, IsInfo, IsStore, reading_of, rows_of, Store, store_shelf}
 pub use Rattle.ipmi_bus.specs.Tries.{IsTrouble, LastCallSays, LastFailed, LastFruCallSays, NotGivenUpOrRefused, RefusesRecord, RefusesValue}
 pub use Rattle.ipmi_bus.specs.declared.code.CodeClass.{CodeClass}
 pub use Rattle.ipmi_bus.specs.declared.code.CodeClass.TheVariants.{NotPresent}

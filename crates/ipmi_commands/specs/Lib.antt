@@ -5,6 +5,7 @@ pub mod Calls
 pub mod Job
 pub mod Laws
 pub mod Listing
+pub mod Meanwhile
 pub mod Named
 pub mod PagedRun
 pub mod Pages
@@ -12,3 +13,4 @@ pub mod Plan
 pub mod Prelude
 pub mod Run
 pub mod Texts
+pub mod Traced

@@ -2,14 +2,16 @@
 -- contracts of private functions.
 use Rattle.std.specs.Prelude.{◌≡◌, Bool, false, ℕ, ◌+◌, ◌-◌, ◌*◌, ◌<◌, ◌≤◌, ◌==◌, IsTrue, Option, None, Some, IfOk, Result, Ok, Err, List, length, take, drop}
 use Rattle.std.specs.FinSet as set
-use Rattle.ipmi_commands.specs.Below.{step_call_bound, digits, Place, Row, Shelf, Sel, Store, rows_of, IsWalk, WalkEnd, Done, EndsBy, place_after_rows, Seen, IsHonest, CursorState, StandsAt, CursorHoldsCurrent, Ending, Failure}
+use Rattle.ipmi_commands.specs.Below.{step_call_bound, digits, IsLog, OnGrowing, OnlyGrew, WasLog, Place, Row, Shelf, Sel, Store, rows_of, IsWalk, WalkEnd, Done, EndsBy, place_after_rows, Seen, IsHonest, CursorState, StandsAt, CursorHoldsCurrent, Ending, Failure}
 use Rattle.ipmi_commands.specs.declared.job.Entries.{Entries}
 use Rattle.ipmi_commands.specs.declared.job.Form.{Form}
 use Rattle.ipmi_commands.specs.Allowed.{ending_of, IsAllowed, EndsFor, cause_of, Change}
 use Rattle.ipmi_commands.specs.Calls.{calls_for, most_for_one, walk_call_bound}
 use Rattle.ipmi_commands.specs.Job.{shelf_of, listing, IsPlace}
+use Rattle.ipmi_commands.specs.Meanwhile.{IsTextWhile}
 use Rattle.ipmi_commands.specs.Plan.{OnWalk, first_rows, listing_plan, last_plan}
-use Rattle.ipmi_commands.specs.Texts.{IsTextOver}
+use Rattle.ipmi_commands.specs.Texts.{IsTextOver, Subject}
+use Rattle.ipmi_commands.specs.Traced.{TracesListing}
 
 -- ---- over any controller
 
@@ -97,6 +99,7 @@ pub record ListsHonestly (form : Form) (tries : ℕ) (most : Option ℕ) (begun 
   pub along : c.seen'.stores_added ≡ c.seen.stores_added
       → OnEachWalk (shelf_of form) begun c.seen.store
       (λ start walk end k. ListsAlong form tries most begun now c result start walk end k)
+  pub traces : TracesListing form most begun now c result
 
 -- the contract of a listing by a cursor
 pub record Lists (form : Form) (tries : ℕ) (most : Option ℕ) (begun now : CursorState) (c : Change)
@@ -109,21 +112,23 @@ pub record Lists (form : Form) (tries : ℕ) (most : Option ℕ) (begun now : Cu
 
 -- all entries were counted, and nothing was printed; or the run fails in a way that is possible for
 -- any number of last entries
-abbrev pub Counted : Store → Place → List Row → WalkEnd → List ℕ → List ℕ → Result ℕ Failure
-    → Type 0
-Counted store start walk end old new (Ok count) =
+abbrev pub Counted : (Subject → List ℕ → Type 0) → Place → List Row → WalkEnd → List ℕ → List ℕ
+    → Result ℕ Failure → Type 0
+Counted IsText start walk end old new (Ok count) =
     (count ≡ length walk) × (end ≡ Done) × (new ≡ old)
-Counted store start walk end old new (Err failure) =
+Counted IsText start walk end old new (Err failure) =
     (entries : Entries) (n : ℕ)
-    → IsAllowed (IsTextOver store) (last_plan entries n start walk end) old new (Err failure)
+    → IsAllowed IsText (last_plan entries n start walk end) old new (Err failure)
 
 pub record CountsEntries (start : Place) (tries : ℕ) (c : Change)
     (result : Result ℕ Failure) : Type 0 where
   pub ends : EndsFor tries (IsTrue c.seen.plain) c.seen c.seen' (cause_of (ending_of result))
   pub along : c.seen'.stores_added ≡ c.seen.stores_added
       → OnWalk Sel start c.seen.store (λ walk end.
-      Counted c.seen.store start walk end c.old c.new result
+      Counted (IsTextOver c.seen.store) start walk end c.old c.new result
       × (c.seen'.calls ≤ c.seen.calls + walk_call_bound Form.Passed c.seen.store tries walk))
+  pub grows : OnGrowing Sel start c.seen c.seen' (λ log.
+      Counted (IsTextWhile c.seen c.seen') start log Done c.old c.new result)
 
 -- `passed` entries were skipped and those after them listed; these are the last entries of a walk
 -- that ends with `Done`
@@ -134,3 +139,6 @@ pub record ListsAfter (entries : Entries) (start : Place) (passed tries : ℕ)
       → OnWalk Sel start c.seen.store (λ walk end. (n : ℕ) → end ≡ Done → passed ≡ length walk - n
       → IsAllowed (IsTextOver c.seen.store) (last_plan entries n start walk end) c.old c.new ending
       × (c.seen'.calls ≤ c.seen.calls + walk_call_bound Form.Passed c.seen.store tries walk))
+  pub grows : (first : List Row) → passed ≤ length first → IsLog Sel start c.seen.store first
+      → OnlyGrew Sel start c.seen c.seen' → (log : List Row) × WasLog Sel start c.seen c.seen' first log
+      × IsAllowed (IsTextWhile c.seen c.seen') (last_plan entries (length log - passed) start log Done) c.old c.new ending

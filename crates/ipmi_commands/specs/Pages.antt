@@ -6,8 +6,10 @@ use Rattle.ipmi_commands.specs.declared.job.Form.{Form}
 use Rattle.ipmi_commands.specs.Allowed.{IsAllowed, ending_of, EndsFor, cause_of, Change, change}
 use Rattle.ipmi_commands.specs.Calls.{calls_for, walk_call_bound}
 use Rattle.ipmi_commands.specs.Job.{shelf_of, listing}
+use Rattle.ipmi_commands.specs.Meanwhile.{IsTextWhile, OnGrowingListing}
 use Rattle.ipmi_commands.specs.Plan.{OnWalk, Plan, first_rows, listing_plan}
 use Rattle.ipmi_commands.specs.Texts.{IsTextOver}
+use Rattle.ipmi_commands.specs.Traced.{Traces}
 
 -- the initial cursor of a listing, at the id `from` or at the first record, with the command's part
 -- size and tries
@@ -57,6 +59,9 @@ pub record IsPage (form : Form) (start : Place) (tries : ℕ) (most : Option ℕ
   pub along : c.seen'.stores_added ≡ c.seen.stores_added
       → OnWalk (shelf_of form) start c.seen.store
       (λ walk end. PageAlong form start tries most c result walk end)
+  pub grows : OnGrowingListing (listing form start most) c.seen c.seen'
+      (λ plan. IsAllowed (IsTextWhile c.seen c.seen') plan c.old c.new (ending_of result))
+  pub traces : Traces form start most c (ending_of result)
 
 -- ---- pages
 

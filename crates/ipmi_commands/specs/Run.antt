@@ -1,6 +1,6 @@
 -- The contract of a run: over any controller, over an honest one, in pages, and over an image.
-use Rattle.std.specs.Prelude.{◌≡◌, ◌⊎◌, ℕ, ◌+◌, ◌*◌, ◌<◌, ◌≤◌, Bool, true, false, IsTrue, Option, None, Some, Result, Ok, Err, List, [], ◌++◌, length}
-use Rattle.ipmi_commands.specs.Below.{Count, device_name, Ended, fru_call_bound, LastCallSays, LastFailed, LastFruCallSays, NotPresent, RefusesRecord, RefusesValue, Seen, Shelf, start_of, Place, First, Sdr, Sel, Row, Store, info_of, WalkEnd, IsHonest, ImageFault, UsageFault, CommandState, Received, ReceivesText, TakesPart, Ending, Failure, failure_of_usage, said_of, status_of}
+use Rattle.std.specs.Prelude.{◌≡◌, ◌⊎◌, ℕ, ◌+◌, ◌*◌, ◌<◌, ◌≤◌, ◌-◌, Bool, true, false, IsTrue, Option, None, Some, Result, Ok, Err, List, [], ◌++◌, length}
+use Rattle.ipmi_commands.specs.Below.{Count, device_name, Ended, fru_call_bound, LastCallSays, LastFailed, LastFruCallSays, NotPresent, RefusesRecord, RefusesValue, Seen, Shelf, start_of, Place, First, Sdr, Sel, Row, Store, Done, OnGrowing, WasLog, info_of, inventory_of, Keeps, WalkEnd, IsHonest, ImageFault, UsageFault, CommandState, Received, ReceivesText, TakesPart, Ending, Failure, failure_of_usage, said_of, status_of}
 use Rattle.ipmi_commands.specs.declared.job.Entries.{Entries}
 use Rattle.ipmi_commands.specs.declared.job.Form.{Form}
 use Rattle.ipmi_commands.specs.declared.job.Job.{Job}
@@ -11,9 +11,11 @@ use Rattle.ipmi_commands.specs.declared.unread.Unread.{Unread}
 use Rattle.ipmi_commands.specs.Allowed.{NoMemory, cause_of, EndsFor, IsAllowed, IsFine, Change}
 use Rattle.ipmi_commands.specs.Calls.{calls_for_spot, walk_call_bound, most_on_walk}
 use Rattle.ipmi_commands.specs.Job.{entries_in, shelf_of, is_rewrite, job_in, job_of, listing}
+use Rattle.ipmi_commands.specs.Meanwhile.{IsTextWhile, OnGrowingListing}
 use Rattle.ipmi_commands.specs.Pages.{ArePages, IsOneListing, pages_made}
 use Rattle.ipmi_commands.specs.Plan.{OnWalk, AtInventory, Plan, after_names, bytes_of_rows, first_rows, last_rows, listing_plan, last_plan, inventory_plan, inventories_plan, info_plan, rewrite_plan, no_plan}
 use Rattle.ipmi_commands.specs.Texts.{IsTextOver}
+use Rattle.ipmi_commands.specs.Traced.{Traces}
 
 -- ---- over any controller
 
@@ -173,17 +175,75 @@ Prints job tries c ending =
     IsAllowed (IsTextOver c.seen.store) plan c.old c.new ending
     × (c.seen'.calls ≤ c.seen.calls + calls))
 
+-- ---- over an honest controller whose records only grow
+
+-- the last n entries of the log as it was when they were counted, and those appended since
+abbrev pub OnGrowingLast : Entries → ℕ → Option ℕ → Seen → Seen → (Plan → Type 0) → Type 0
+OnGrowingLast entries n from s s' Holds = OnGrowing Sel (start_of from) s s' (λ counted.
+    (log : List Row) × WasLog Sel (start_of from) s s' counted log
+    × Holds (last_plan entries (length log - (length counted - n)) (start_of from) log Done))
+
+abbrev pub OnGrowingEntries : Entries → Count → Option ℕ → Seen → Seen → (Plan → Type 0) → Type 0
+OnGrowingEntries entries Count.All from s s' Holds =
+    OnGrowingListing (listing (Form.EntryLine entries) (start_of from) None) s s' Holds
+OnGrowingEntries entries (Count.First n) from s s' Holds =
+    OnGrowingListing (listing (Form.EntryLine entries) (start_of from) (Some n)) s s' Holds
+OnGrowingEntries entries (Count.Last n) from s s' Holds = OnGrowingLast entries n from s s' Holds
+
+-- no inventory changes
+abbrev pub OnGrowingInventories : Wording → Option (List ℕ) → Seen → Seen → (Plan → Type 0) → Type 0
+OnGrowingInventories wording name s s' Holds = Keeps (λ store. store.inventories) s s'
+    → OnGrowing Sdr First s s' (λ log. Holds (inventories_plan wording name log Done))
+
+abbrev pub OnGrowingNamed : Wording → List (List ℕ) → Named → Seen → Seen → (Plan → Type 0) → Type 0
+OnGrowingNamed wording records (Named.Events count from) s s' Holds =
+    OnGrowingEntries (entries_in wording records) count from s s' Holds
+OnGrowingNamed wording records Named.Devices s s' Holds =
+    OnGrowingInventories wording (device_name 0 records) s s' Holds
+
+-- `Holds` for the job's plan over the records as they were meanwhile: all that were there when the
+-- run began, in order, and perhaps some that were appended. An info is as it was at last; an
+-- inventory must not change.
+abbrev pub OnGrowingPlan : Job → Seen → Seen → (Plan → Type 0) → Type 0
+OnGrowingPlan (Job.Records l) s s' Holds = OnGrowingListing l s s' Holds
+OnGrowingPlan (Job.Last entries n from) s s' Holds = OnGrowingLast entries n from s s' Holds
+OnGrowingPlan (Job.Named wording named) s s' Holds = OnGrowing Sdr First s s' (λ records.
+    OnGrowingNamed wording (bytes_of_rows records) named s s'
+    (λ plan. Holds (after_names records Done plan)))
+OnGrowingPlan (Job.Info wording shelf) s s' Holds =
+    Holds (info_plan wording shelf (info_of shelf s'.store))
+OnGrowingPlan (Job.Inventory wording id name) s s' Holds =
+    Keeps (inventory_of id) s s' → Holds (inventory_plan wording id name)
+OnGrowingPlan (Job.AllInventories wording name) s s' Holds =
+    OnGrowingInventories wording name s s' Holds
+OnGrowingPlan Job.Rewrite s s' Holds = Holds no_plan
+
+-- the output agrees with that plan and with how the run ended; each text is over a store that the
+-- controller held meanwhile
+abbrev pub PrintsWhile : Job → Change → Ending → Type 0
+PrintsWhile job c ending = OnGrowingPlan job c.seen c.seen'
+    (λ plan. IsAllowed (IsTextWhile c.seen c.seen') plan c.old c.new ending)
+
+-- a job that is one listing
+abbrev pub TracesJob : Job → Change → Ending → Type 0
+TracesJob (Job.Records l) c ending = Traces l.form l.start l.most c ending
+TracesJob job c ending = Unit {0}
+
 -- ---- a run
 
 -- A run. Over any controller: the largest number of calls, and the possible ends. Over an honest
--- one: why it ended, and, if no store was added, its output. If a store was added, or if the
--- controller is not honest, this says nothing about the output.
+-- one: why it ended; its output, if its records stay or grow (`grows`), and exactly, with the number
+-- of calls, if no store was added (`prints`); whatever its store does, the records that a listing's
+-- cursor returned and their texts (`traces`). If the controller is not honest, this says nothing about
+-- the output.
 pub record Runs (job : Job) (tries : ℕ) (c : Change) (ending : Ending) : Type 0 where
   pub calls : c.seen'.calls ≤ c.seen.calls + most_calls job tries
   pub ends : MayEnd job c ending
   pub why : IsHonest c.seen → EndsFor tries (IsTrue c.seen.plain) c.seen c.seen' (cause_of ending)
   pub prints : IsHonest c.seen → c.seen'.stores_added ≡ c.seen.stores_added
       → Prints job tries c ending
+  pub grows : IsHonest c.seen → PrintsWhile job c ending
+  pub traces : IsHonest c.seen → TracesJob job c ending
 
 -- the job of a command, in codes and in a wording
 abbrev pub job_of_command : CommandState → Job

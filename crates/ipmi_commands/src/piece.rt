@@ -174,6 +174,7 @@ fn entry_line(
 }
 
 /// The block of a record with this name. Empty for a record without it, or with a fault.
+#[tactic(auto, using(crate::proofs::AskLemmas::no_memory, crate::proofs::AskLemmas::then_no_memory))]
 fn named_block<C: Controller>(
     alloc: Global,
     ctl: &mut C,

@@ -1,4 +1,5 @@
 pub mod AgainLemmas
+pub mod AppendLemmas
 pub mod BuildLemmas
 pub mod DigitLemmas
 pub mod LineLemmas

@@ -1,9 +1,9 @@
 -- The records of a shelf, whose bytes are in one list.
-use Rattle.std.proofs.Common.{◌≡◌, ℕ, zero, suc, ◌+◌, ◌<◌, ◌≤◌, Option, None, Some, List, [], ◌∷◌, ◌++◌, length, drop, map, refl, ◌∙◌, arith, All, option_map, slice_get, unwrap_or, length-drop}
+use Rattle.std.proofs.Common.{◌≡◌, ℕ, zero, suc, ◌+◌, ◌<◌, ◌≤◌, ◌&&◌, true, Option, None, Some, List, [], ◌∷◌, ◌++◌, length, drop, map, refl, ◌∙◌, arith, All, option_map, slice_get, unwrap_or, length-drop}
 use Rattle.std.proofs.lemmas.Option.{get_or_from_slice_get, slice_get_cases, slice_get_within}
 use Rattle.std.proofs.lemmas.List.{map-append, take-append-le, drop-append-le, drop_more, drop_all}
 use Rattle.std.proofs.Math.Seq.{take-length, drop-append_seam}
-use Rattle.ipmi_image.specs.Prelude.{RowHead, SavedRow, first_id, place_of, id_of, row_in}
+use Rattle.ipmi_image.specs.Prelude.{RowHead, SavedRow, begins_saved, begins_with, chained, first_id, is_same_saved, place_of, id_of, row_in}
 
 abbrev pub head_id : RowHead → ℕ
 head_id head = head.id
@@ -52,3 +52,29 @@ module _ (bytes more : List ℕ) where
       ++ record { id = id; next = next; start = length bytes; len = length more } ∷ [])
       ≡ map (row_in bytes) heads ++ record { id = id; next = next; bytes = more } ∷ []
   map-row_in_with heads id next within = map-append (row_in (bytes ++ more)) heads _ ∙ rw (map-row_in_longer heads within, drop-append_seam bytes more, take-length more) refl
+
+-- ---- shelves of which one begins with the records of the other
+
+-- from a place on
+pub begins_at : (rows later : List SavedRow) (place : ℕ) (row : SavedRow)
+    → slice_get rows place ≡ Some row
+    → begins_saved (drop place rows) (drop place later)
+    ≡ (is_same_saved row (slice_get later place) && begins_saved (drop (place + 1) rows) (drop (place + 1) later))
+begins_at rows later place row at = rw (drop-found rows place row at) (by (slice_get later place) refl)
+  where
+    by : (o : Option SavedRow) → slice_get later place ≡ o
+        → begins_saved (row ∷ drop (place + 1) rows) (drop place later)
+        ≡ (is_same_saved row o && begins_saved (drop (place + 1) rows) (drop (place + 1) later))
+    by None past = rw (drop-past later place past) refl
+    by (Some now) there = rw (drop-found later place now there) refl
+
+-- past the last row
+pub begins_past : (rows later : List SavedRow) (place : ℕ) → slice_get rows place ≡ None
+    → begins_saved (drop place rows) (drop place later) ≡ true
+begins_past rows later place past = rw (drop-past rows place past) refl
+
+pub begins_with_chained : (rows later : List SavedRow)
+    → begins_with (chained rows) (chained later) ≡ begins_saved rows later
+begins_with_chained [] later = refl
+begins_with_chained (row ∷ rows) [] = refl
+begins_with_chained (row ∷ rows) (now ∷ later) = rw (begins_with_chained rows later) refl

@@ -1,8 +1,8 @@
 -- An answer after the effect of a mood, and an answer by a mood.
-use Rattle.std.proofs.Common.{◌≡◌, ℕ, Bool, true, false, Option, Result, Ok, Err, List, [], refl, sym, ◌∙◌, arith, IsTrue, true≢false, MatchResult}
+use Rattle.std.proofs.Common.{◌≡◌, ℕ, ◌+◌, ◌-◌, drop, ap, Bool, true, false, Option, Result, Ok, Err, List, [], refl, sym, ◌∙◌, arith, IsTrue, true≢false, MatchResult}
 use Rattle.std.specs.Vec.Iter.{into_iter_deque, into_iter_items, into_iter_len}
-use Rattle.std.proofs.lemmas.List.{nil_from_length}
-use Rattle.ipmi_image.specs.Below.{Shelf, Sdr, Sel, Part, FruSize, Code, CodeClass, Cancelled, Busy, SmallerPart, NotPresent, Refusal, class_of, Store, Seen, IsHonest, IsQuiet, IsFinished, IsChange, MayLoseReservation, current, Asked, other, FailsWith, CountsPiece, ReserveAnswers, PartAnswers, ValueAnswers, SizeAnswers, BytesAnswers}
+use Rattle.std.proofs.lemmas.List.{drop-drop, nil_from_length}
+use Rattle.ipmi_image.specs.Below.{Shelf, Sdr, Sel, Part, FruSize, Code, CodeClass, Cancelled, Busy, SmallerPart, NotPresent, Refusal, class_of, Store, Seen, held, IsHonest, IsQuiet, IsFinished, IsChange, MayLoseReservation, current, Asked, other, FailsWith, CountsPiece, ReserveAnswers, PartAnswers, ValueAnswers, SizeAnswers, BytesAnswers}
 use Rattle.ipmi_image.specs.declared.scripted.Turn.{Turn}
 use Rattle.ipmi_image.specs.Prelude.{Turns, Responder, Scripted, seen_as}
 
@@ -62,6 +62,9 @@ module _ {asked most : ℕ} (old : Seen) (r r' : Responder) (plain : old.plain �
       store = record {
         grows = let s = same in omega (arith, s, first.change.stays.store.grows);
         stays = λ e. change.stays.store.stays same ∙ first.change.stays.store.stays (sym same ∙ e);
+        past = let s = same in ap (λ (n : ℕ). drop n (held new)) {y = answered.stores_added - mid.stores_added + (mid.stores_added - old.stores_added)} (omega (arith, s, first.change.stays.store.grows))
+            ∙ sym (drop-drop (mid.stores_added - old.stores_added) (answered.stores_added - mid.stores_added) (held new))
+            ∙ ap (drop (mid.stores_added - old.stores_added)) change.stays.store.past ∙ first.change.stays.store.past;
       };
       plain_store = λ p. not_plain p;
     };
@@ -75,12 +78,12 @@ module _ {asked most : ℕ} (old : Seen) (r r' : Responder) (plain : old.plain �
   loses : (shelf : Shelf) → MayLoseReservation shelf mid answered → MayLoseReservation shelf old new
   loses Sdr b = record {
     none_given = λ r e. first.sdr.none_given r (b.none_given r e);
-    none_over_change = λ more. b.plain refl ∙ first.sdr.none_over_change (let s = same in omega (arith, more, s));
+    kept_over_change = λ more number e. rw (change.stays.store.stays same) (first.sdr.kept_over_change (let s = same in omega (arith, more, s)) number (sym (b.plain refl) ∙ e));
     plain = λ p. not_plain p;
   }
   loses Sel b = record {
     none_given = λ r e. first.sel.none_given r (b.none_given r e);
-    none_over_change = λ more. b.plain refl ∙ first.sel.none_over_change (let s = same in omega (arith, more, s));
+    kept_over_change = λ more number e. rw (change.stays.store.stays same) (first.sel.kept_over_change (let s = same in omega (arith, more, s)) number (sym (b.plain refl) ∙ e));
     plain = λ p. not_plain p;
   }
 

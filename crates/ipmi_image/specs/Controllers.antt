@@ -1,6 +1,6 @@
 -- The state of the controllers over an image that contracts see, and the effect of a mood on a
 -- call.
-use Rattle.std.specs.Prelude.{◌≡◌, ℕ, ◌<◌, ◌==◌, nat_lt, max, if◌then◌else◌, Bool, true, false, not, None, Some, Result, Ok, Err, List, [], ◌∷◌}
+use Rattle.std.specs.Prelude.{◌≡◌, ◌⊎◌, ℕ, ◌<◌, ◌==◌, nat_lt, max, if◌then◌else◌, Bool, true, false, not, None, Some, Result, Ok, Err, List, [], ◌∷◌}
 use Rattle.std.specs.Vec.Iter.{into_iter_items}
 use Rattle.ipmi_image.specs.Below.{Code, Refusal, Shelf, Sdr, Sel, class_of, Seen, IsCall, IsQuiet, IsChange, MayLoseReservation, FailsWith}
 use Rattle.ipmi_image.specs.declared.controller.ImageController.{ImageController}
@@ -8,7 +8,7 @@ use Rattle.ipmi_image.specs.declared.responder.Responder.{Responder}
 use Rattle.ipmi_image.specs.declared.scripted.Mood.{Mood}
 use Rattle.ipmi_image.specs.declared.scripted.Scripted.{Scripted}
 use Rattle.ipmi_image.specs.declared.scripted.Turn.{Turn}
-use Rattle.ipmi_image.specs.Responder.{with_reservation, seen_as}
+use Rattle.ipmi_image.specs.Responder.{with_appended, with_image, with_reservation, seen_as}
 
 -- a controller over an image is honest, and plain
 abbrev pub seen_of : ImageController → Seen
@@ -66,13 +66,29 @@ mood_turn asked Mood.TooLong =
 mood_turn asked (Mood.Refuse code) =
     if is_refusal code.0 then Turn.Failed code else Turn.Answers 254
 mood_turn asked (Mood.Change image) = Turn.Answers 254
+mood_turn asked (Mood.Append image) = Turn.Answers 254
 
 -- the image and its reservations as a mood leaves them, before the call is counted
 abbrev pub after_mood : Mood → Responder → Responder
 after_mood Mood.Cancel r = record r { sdr_reservation = None; sel_reservation = None }
 after_mood (Mood.Change image) r =
-    record r { image = image; sdr_reservation = None; sel_reservation = None }
+    record (with_image image r) { sdr_reservation = None; sel_reservation = None }
+after_mood (Mood.Append image) r = with_appended image r
 after_mood other r = r
+
+-- the image is unchanged, or no reservation is current
+abbrev pub KeepsImageOrForgets : Responder → Responder → Type 0
+KeepsImageOrForgets old new =
+    ((new.image ≡ old.image) × (new.earlier ≡ old.earlier))
+    ⊎ ((new.sdr_reservation ≡ None) × (new.sel_reservation ≡ None))
+
+-- `Append` is the only mood that may keep a reservation over another image
+abbrev pub MayKeepReservations : Mood → Responder → Type 0
+MayKeepReservations (Mood.Append image) r = Unit {0}
+MayKeepReservations mood r = KeepsImageOrForgets r (after_mood mood r)
+
+abbrev pub OnlyAppendKeepsReservations : Type 0
+OnlyAppendKeepsReservations = (mood : Mood) (r : Responder) → MayKeepReservations mood r
 
 -- if no mood is left, the controller answers like an `ImageController`
 abbrev pub next_mood : List Mood → Mood

@@ -1,6 +1,6 @@
 -- The state and the answers of an image that answers calls.
-use Rattle.std.specs.Prelude.{◌≡◌, ℕ, ◌+◌, ◌-◌, ◌≤◌, ◌==◌, nat_lt, nat_le, min, if◌then◌else◌, Bool, true, false, ◌&&◌, not, Option, None, Some, Result, Ok, Err, List, [], ◌∷◌, length, drop}
-use Rattle.ipmi_image.specs.Below.{Code, FruSize, Part, Shelf, Sdr, Sel, Row, Seen, Asked, IsPiece, not_present}
+use Rattle.std.specs.Prelude.{◌≡◌, ℕ, ◌+◌, ◌-◌, ◌≤◌, ◌==◌, nat_lt, nat_le, min, if◌then◌else◌, Bool, true, false, bytes_eq, ◌&&◌, not, Option, None, Some, Result, Ok, Err, List, [], ◌∷◌, length, drop}
+use Rattle.ipmi_image.specs.Below.{Code, FruSize, Part, Shelf, Sdr, Sel, Row, Store, Seen, Asked, IsPiece, not_present}
 use Rattle.ipmi_image.specs.declared.responder.Responder.{Responder}
 use Rattle.ipmi_image.specs.Line.{SavedRow, id_of}
 use Rattle.ipmi_image.specs.Table.{place_of}
@@ -33,6 +33,29 @@ number_after number = if number == 0xFFFF then 1 else number + 1
 abbrev pub with_reservation : Shelf → ℕ → Responder → Responder
 with_reservation Sdr number r = record r { given = number; sdr_reservation = Some number }
 with_reservation Sel number r = record r { given = number; sel_reservation = Some number }
+
+-- the second shelf begins with the records of the first; next ids may differ
+abbrev pub begins_with : List Row → List Row → Bool
+begins_with [] later = true
+begins_with (row ∷ rows) [] = false
+begins_with (row ∷ rows) (now ∷ later) =
+    ((row.id == now.id) && bytes_eq row.bytes now.bytes) && begins_with rows later
+
+abbrev pub reservation_if : Bool → Option ℕ → Option ℕ
+reservation_if true reservation = reservation
+reservation_if false reservation = None
+
+-- another image
+abbrev pub with_image : Store → Responder → Responder
+with_image image r =
+    record r { image = image; earlier = record { stores = r.image ∷ r.earlier.stores } }
+
+-- another image; the reservation of a shelf stays if the shelf begins with its earlier records
+abbrev pub with_appended : Store → Responder → Responder
+with_appended image r = record (with_image image r) {
+  sdr_reservation = reservation_if (begins_with r.image.sdr image.sdr) r.sdr_reservation;
+  sel_reservation = reservation_if (begins_with r.image.sel image.sel) r.sel_reservation;
+}
 
 -- at an offset above 0, and not under the last reservation of the shelf
 abbrev pub is_stale : ℕ → ℕ → Option ℕ → Bool
@@ -71,6 +94,7 @@ size_answer (Some bytes) = Ok (record { size = length bytes; words = false })
 abbrev pub seen_as : Bool → Responder → Seen
 seen_as plain r = record {
   store = r.image;
+  earlier = r.earlier.stores;
   honest = true;
   plain = plain;
   sdr_reservation = r.sdr_reservation;

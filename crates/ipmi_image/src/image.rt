@@ -1,7 +1,7 @@
 //! A saved image of a management controller, read from its text.
 ghost use Rattle.std.specs.Prelude.{◌≡◌, ◌⊎◌, [], ◌≤◌, All, IfOk, IfErr, OnOk, IfSome, Ok, Err, length, option_map};
 ghost use Rattle.ipmi_image.specs.Below.{IsStore, rows_of, inventory_of, reading_of, info_of};
-ghost use Rattle.ipmi_image.specs.Prelude.{pieces, chained, at_line, IsBuilt, store_after, store_of_image, IsSaved, store_of, HoldsLines};
+ghost use Rattle.ipmi_image.specs.Prelude.{begins_with, pieces, chained, at_line, IsBuilt, store_after, store_of_image, IsSaved, store_of, HoldsLines};
 
 use crate::contents::Contents;
 use crate::image_line::{LineFault, read_line};
@@ -188,6 +188,14 @@ impl Image {
         ensures { chained result.now ≡ rows_of shelf self.now }
     {
         self.contents.rows(shelf)
+    }
+
+    /// Whether the shelf of `later` begins with the records of this one's.
+    #[tactic(auto, using(crate::proofs::RowsLemmas::begins_with_chained))]
+    pub(crate) fn begins(&self, later: &Image, shelf: Shelf) -> bool
+        ensures { result ≡ begins_with (rows_of shelf self.now) (rows_of shelf later.now) }
+    {
+        self.rows(shelf).begin(later.rows(shelf))
     }
 
     /// The bytes of the inventory with this id.

@@ -1,5 +1,5 @@
 //! Laws of images. Each law is the contract of an empty function.
-ghost use Rattle.ipmi_image.specs.Prelude.{ImagesGiveStores, RewritingKeepsStores};
+ghost use Rattle.ipmi_image.specs.Prelude.{ImagesGiveStores, OnlyAppendKeepsReservations, RewritingKeepsStores};
 
 /// The store of an image's bytes is well formed.
 pub fn images_give_stores()
@@ -10,4 +10,9 @@ pub fn images_give_stores()
 #[tactic(auto, using(crate::proofs::AgainLemmas::store_of_image_image_text_of))]
 pub fn rewriting_keeps_stores()
     ensures { RewritingKeepsStores }
+{}
+
+/// A mood that replaces the image of a `Scripted` cancels both reservations, unless it is `Append`.
+pub fn only_append_keeps_reservations()
+    ensures { OnlyAppendKeepsReservations }
 {}

@@ -5,6 +5,7 @@ mod builder;
 mod contents;
 mod controller;
 mod digits;
+mod earlier;
 mod image;
 mod image_line;
 pub mod laws;

@@ -1,8 +1,9 @@
 //! The answers of an image to a controller's calls.
-ghost use Rattle.std.specs.Prelude.{◌≡◌, ◌+◌, ◌<◌, ◌≤◌, ◌≢◌, true, false, MatchBool, IfOk, OnErr, Ok, ok_or, Some, None, length, drop, option_map, unwrap_or};
+ghost use Rattle.std.specs.Prelude.{◌≡◌, ◌+◌, ◌<◌, ◌≤◌, ◌≢◌, true, false, MatchBool, IfOk, OnErr, Ok, ok_or, Some, None, [], length, drop, option_map, unwrap_or};
 ghost use Rattle.ipmi_image.specs.Below.{IsCall, failing_code, look, current, not_present, row_of_record, class_of, IsStore, rows_of, info_of, reading_of, inventory_of, IsHonest, FailsWith, ReserveAnswers, PartAnswers, ValueAnswers, SizeAnswers, BytesAnswers, part_asked};
-ghost use Rattle.ipmi_image.specs.Prelude.{chained, first_id, seen_as, place_asked, IsCopied, number_after, with_reservation, part_answer, fru_answer, size_answer, id_of};
+ghost use Rattle.ipmi_image.specs.Prelude.{chained, first_id, seen_as, place_asked, IsCopied, number_after, with_reservation, part_answer, fru_answer, size_answer, id_of, with_appended, with_image};
 
+use crate::earlier::Earlier;
 use crate::image::Image;
 use crate::rows::Rows;
 use ipmi_bus::{Code, Event, FIRST_RECORD_ID, FruSize, INFO_LEN, Part, Record, Shelf, Tally};
@@ -64,6 +65,7 @@ fn copy_piece(bytes: &[u8], offset: usize, most: u8, into: &mut [u8]) -> Option<
 #[derive(Drop)]
 pub(crate) struct Responder {
     image: Image,
+    earlier: Earlier,
     /// The number of the last reservation.
     given: u16,
     sdr_reservation: Option<u16>,
@@ -77,11 +79,13 @@ impl Responder {
     /// An image before its first reservation.
     pub(crate) fn new(image: Image) -> Responder
         ensures store { result.image ≡ image }
+        ensures none_earlier { result.earlier.stores ≡ [] }
         ensures none_current { (result.sdr_reservation ≡ None) × (result.sel_reservation ≡ None) }
         ensures none_given { result.given ≡ 0 }
     {
         Responder {
             image,
+            earlier: Earlier::none(),
             given: 0,
             sdr_reservation: None,
             sel_reservation: None,
@@ -98,18 +102,43 @@ impl Responder {
         self.sel_reservation = None;
     }
 
+    /// Replaces the image with another.
+    fn replace(&mut self, image: Image)
+        ensures replaced { self.new ≡ record (with_image image self.old) { tally = self.new.tally } }
+        ensures counted { self.new.tally.counts ≡ record self.old.tally.counts
+            { stores_added = self.old.tally.counts.stores_added + 1 } }
+    {
+        self.earlier = Earlier::and(&self.earlier, &self.image);
+        self.image = image;
+        self.tally.count(Event::Stored);
+    }
+
     /// Replaces the image with another, and cancels both reservations.
     pub(crate) fn change(&mut self, image: Image)
         ensures store { IsStore self.new.image }
-        ensures changed { self.new.tally.counts ≡ record self.old.tally.counts
+        ensures counted { self.new.tally.counts ≡ record self.old.tally.counts
             { stores_added = self.old.tally.counts.stores_added + 1 } }
-        ensures forgotten { (self.new.sdr_reservation ≡ None) × (self.new.sel_reservation ≡ None) }
-        ensures image { self.new.image ≡ image }
-        ensures given { self.new.given ≡ self.old.given }
+        ensures changed { self.new ≡ record (with_image image self.old)
+            { sdr_reservation = None; sel_reservation = None; tally = self.new.tally } }
     {
-        self.image = image;
+        self.replace(image);
         self.forget();
-        self.tally.count(Event::Stored);
+    }
+
+    /// Replaces the image with another. The reservation of a shelf stays if the shelf begins with its earlier records.
+    pub(crate) fn append(&mut self, image: Image)
+        ensures store { IsStore self.new.image }
+        ensures counted { self.new.tally.counts ≡ record self.old.tally.counts
+            { stores_added = self.old.tally.counts.stores_added + 1 } }
+        ensures appended { self.new ≡ record (with_appended image self.old) { tally = self.new.tally } }
+    {
+        if !self.image.begins(&image, Shelf::Sdr) {
+            self.sdr_reservation = None;
+        }
+        if !self.image.begins(&image, Shelf::Sel) {
+            self.sel_reservation = None;
+        }
+        self.replace(image);
     }
 
     /// Counts a call for `asked` bytes that fails with this code, and returns the code.

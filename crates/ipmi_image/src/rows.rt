@@ -1,7 +1,7 @@
 //! The records of a shelf, with all their bytes in one buffer.
 ghost use Rattle.ipmi_image.specs.declared.image_line.LineFault.{LineFault};
 ghost use Rattle.std.specs.Prelude.{◌≡◌, ◌+◌, ◌≤◌, ◌<◌, ◌==◌, ◌^◌, ◌++◌, ◌∷◌, [], MatchBool, IfOk, IfSome, None, true, is_some, option_map, length, drop, slice_get, MatchResult, OnErr, ◌⊎◌};
-ghost use Rattle.ipmi_image.specs.Prelude.{first_id, place_of, id_of, row_of};
+ghost use Rattle.ipmi_image.specs.Prelude.{begins_saved, first_id, is_same_saved, place_of, id_of, row_of};
 
 use crate::image_line::LineFault;
 use crate::table::{Table, TableItem};
@@ -117,6 +117,16 @@ fn begin(bytes: &mut Vec<u8>) -> Result<(), AllocError>
     Ok(())
 }
 
+/// Whether `now` is the same record. Its next id may be another one.
+fn is_same(row: &StoredRow<'_>, now: Option<StoredRow<'_>>) -> bool
+    ensures { result ≡ is_same_saved (row_of row.now) (option_map row_of now.entry) }
+{
+    match now {
+        Some(now) => row.id == now.id && row.bytes == now.bytes,
+        None => false,
+    }
+}
+
 /// The records of a shelf, in order. Their bytes are in one `Vec`, so a record needs no allocation of its own.
 #[derive(Drop)]
 pub(crate) struct Rows {
@@ -182,6 +192,20 @@ impl Rows {
             next: head.next,
             bytes: &self.bytes[start..start + head.len.get()],
         })
+    }
+
+    /// Whether `later` begins with these records. Next ids may differ.
+    pub(crate) fn begin(&self, later: &Rows) -> bool
+        ensures { result ≡ begins_saved self.now later.now }
+    {
+        let mut place = 0;
+        'rows: while let Some(row) = self.get(place) {
+            if !is_same(&row, later.get(place)) {
+                return false;
+            }
+            place += 1;
+        }
+        true
     }
 
     /// The id of the record at the index, FFFFh if there is none.

@@ -24,6 +24,8 @@ pub enum Mood {
     Refuse(Code),
     /// It takes this image as its store, cancels both reservations, and then answers like an `ImageController`.
     Change(Image),
+    /// Like `Change`, but the reservation of a shelf stays if the shelf begins with the records that it had before.
+    Append(Image),
 }
 
 /// The effect of a mood on a call.
@@ -72,6 +74,10 @@ fn mood_turn(responder: &mut Responder, mood: Mood, asked: u8) -> Turn
         }
         Mood::Change(image) => {
             responder.change(image);
+            Turn::Answers(LARGEST_PART)
+        }
+        Mood::Append(image) => {
+            responder.append(image);
             Turn::Answers(LARGEST_PART)
         }
     }

@@ -31,7 +31,7 @@ stays : (s t : Seen) (c d : Counts) → StaysHonest s t → StaysHonest (through
 stays s t c d h = record {
   honest = record { said = h.honest.said; store = h.honest.store };
   plain = h.plain;
-  store = record { grows = h.store.grows; stays = h.store.stays };
+  store = record { grows = h.store.grows; stays = h.store.stays; past = h.store.past };
   plain_store = h.plain_store;
 }
 
@@ -76,8 +76,8 @@ same_current Sel s c = refl
 
 loses : (shelf : Shelf) (s t : Seen) (c d : Counts) → MayLoseReservation shelf s t
     → MayLoseReservation shelf (through s c) (through t d)
-loses Sdr s t c d h = record { none_given = h.none_given; none_over_change = h.none_over_change; plain = h.plain }
-loses Sel s t c d h = record { none_given = h.none_given; none_over_change = h.none_over_change; plain = h.plain }
+loses Sdr s t c d h = record { none_given = h.none_given; kept_over_change = h.kept_over_change; plain = h.plain }
+loses Sel s t c d h = record { none_given = h.none_given; kept_over_change = h.kept_over_change; plain = h.plain }
 
 counts : (whole : Bool) (s t : Seen) (c d : Counts) → CountsPiece whole s t → CountsPiece whole (through s c) (through t d)
 counts true s t c d h = finished s t c d h

@@ -38,7 +38,7 @@ pub(crate) struct Two<'a> {
 }
 
 /// The mood of a letter. A dot grants all bytes, and `1` one byte. `x` changes to the second image, `y` to the first, `N`
-/// to `CHANGED_ROWS`, and `E` to `EMPTY`.
+/// to `CHANGED_ROWS`, and `E` to `EMPTY`. `a` appends the second image, `b` the first: a shelf that begins as before keeps its reservation.
 fn mood(rt: &impl Abort, alloc: Global, images: Two<'_>, letter: u8) -> Mood {
     match letter {
         b'.' => Mood::Grant(254),
@@ -49,6 +49,8 @@ fn mood(rt: &impl Abort, alloc: Global, images: Two<'_>, letter: u8) -> Mood {
         b'R' => Mood::Refuse(Code(0xD4)),
         b'x' => Mood::Change(image_of(rt, alloc, images.second)),
         b'y' => Mood::Change(image_of(rt, alloc, images.first)),
+        b'a' => Mood::Append(image_of(rt, alloc, images.second)),
+        b'b' => Mood::Append(image_of(rt, alloc, images.first)),
         b'N' => Mood::Change(image_of(rt, alloc, CHANGED_ROWS)),
         b'E' => Mood::Change(image_of(rt, alloc, EMPTY)),
         _ => panic!(rt; "{letter} is no mood"),

@@ -46,6 +46,12 @@ sdr 0001 ffff CPU_TEMP
 reading 0 01 2dc00000
 end
 --
+warmer sensor
+ipmi-image 1
+sdr 0001 ffff CPU_TEMP
+reading 0 01 2ec00000
+end
+--
 sensor without reading
 ipmi-image 1
 sdr 0001 ffff CPU_TEMP

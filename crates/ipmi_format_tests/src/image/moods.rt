@@ -19,8 +19,18 @@ fn change(rt: &impl Abort, alloc: Global, text: &str) -> Mood {
     Mood::Change(image(rt, alloc, text))
 }
 
+fn append(rt: &impl Abort, alloc: Global, name: &str) -> Mood {
+    let text = match name {
+        "longer" => LONGER,
+        "other" => OTHER,
+        "same_log" => SAME_LOG,
+        _ => SAVED,
+    };
+    Mood::Append(image(rt, alloc, text))
+}
+
 /// The mood of these words: `grant` with the most bytes, `refuse` with a code, `cancel`, `busy` or `too_long`, and
-/// `saved` or `other` for a change to that image.
+/// `saved` or `other` for a change to that image; `append` and `saved`, `longer`, `other` or `same_log` for that image appended.
 fn mood(rt: &impl Abort, alloc: Global, text: &str) -> Mood {
     let mut words = LineWords::of(text);
     match words.next(rt) {
@@ -31,6 +41,7 @@ fn mood(rt: &impl Abort, alloc: Global, text: &str) -> Mood {
         "too_long" => Mood::TooLong,
         "saved" => change(rt, alloc, SAVED),
         "other" => change(rt, alloc, OTHER),
+        "append" => append(rt, alloc, words.next(rt)),
         _ => panic!(rt; "{text} is no mood"),
     }
 }
@@ -244,6 +255,53 @@ fn other_moods_keep_the_reservations(rt: HostRuntime) {
     assert_answers_after_reserving(&rt, alloc, "busy", "reading 0 1|code c0", KEPT);
     assert_answers_after_reserving(&rt, alloc, "too_long", "reading 0 1|2dc00000", KEPT);
     assert_answers_after_reserving(&rt, alloc, "refuse d4", "reading 0 1|code d4", KEPT);
+}
+
+/// Its shelves begin with the records of `SAVED`. The reading is another one.
+const LONGER: &str = "ipmi-image 1
+sdr 0001 0002 010051c001aa
+sdr 0002 0003 020051c002bbcc
+sdr 0003 ffff 030051c000
+sel 0001 0002 01000201000020200004013001595f5a
+sel 0002 ffff 02000200000020200004013081570000
+reading 0 01 2ec00001
+end
+";
+
+/// The event log of `SAVED`, with other sensor data records.
+const SAME_LOG: &str = "ipmi-image 1
+sdr 0001 ffff 010051c001ab
+sel 0001 ffff 01000201000020200004013001595f5a
+end
+";
+
+/// `call|answer`, if both reservations are kept and records were appended.
+const GROWN: &str = "part sdr 1 1 2 1|0002 01 51
+part sdr 1 2 2 8|0003 05 51c002bbcceeeeee
+part sel 2 1 2 1|0002 01 02";
+
+/// `call|answer`, if records were replaced or are gone.
+const REPLACED: &str = "part sdr 1 1 2 1|code c5
+part sel 2 1 2 1|code cb";
+
+/// `call|answer`, if only sensor data records were replaced.
+const LOG_KEPT: &str = "part sdr 1 1 2 1|code c5
+part sel 2 1 2 1|ffff 01 02";
+
+// A shelf that begins with its earlier records keeps its reservation.
+#[test]
+fn an_appended_image_may_keep_reservations(rt: HostRuntime) {
+    let alloc = rt.alloc();
+    assert_answers_after_reserving(&rt, alloc, "append saved", "reading 0 1|2dc00000", KEPT);
+    assert_answers_after_reserving(&rt, alloc, "append longer", "reading 0 1|2ec00001", GROWN);
+    assert_answers_after_reserving(&rt, alloc, "append other", "reading 0 1|2ec00001", REPLACED);
+    assert_answers_after_reserving(
+        &rt,
+        alloc,
+        "append same_log",
+        "reading 0 1|code cb",
+        LOG_KEPT,
+    );
 }
 
 const SIX_REFUSALS: &str = "refuse d0, refuse d1, refuse d2, refuse d3, refuse d4, refuse d5";

@@ -3,6 +3,7 @@ use Rattle.std.proofs.lemmas.List.Elements.{All-nil}
 use Rattle.ipmi_capture.specs.Left.{PlainLeaves}
 use Rattle.ipmi_capture.specs.declared.left.Left.{Left}
 use Rattle.ipmi_capture.proofs.CaptureLemmas.{assemble, captures_parts, left_out, stays_on}
+use Rattle.ipmi_bus.specs.Seen.{stays_trans}
 use Rattle.ipmi_capture.proofs.capturing.capture_into.Goals as goal
 
 pub returns-in_err-named-clause-stays : goal.returns-in_err-named-clause-stays
@@ -65,3 +66,12 @@ returns-clause-lacks g c =
     c.note_info-2.ensures.beside c.capture_readings.ensures.beside c.capture_inventories.ensures.beside c.requires.none
     c.in_ok-note_shelf.ensures.lacks c.in_ok-note_shelf-2.ensures.lacks c.in_ok-note_info.ensures.lacks c.in_ok-note_info-2.ensures.lacks
     c.in_ok-capture_readings.ensures.lacks c.in_ok-capture_inventories.ensures.lacks
+
+pub returns-in_err-note_shelf-2-clause-stays : goal.returns-in_err-note_shelf-2-clause-stays
+returns-in_err-note_shelf-2-clause-stays g c = λ h. let a0 = c.note_shelf.ensures.stays h in let a1 = stays_trans _ _ _ a0 (c.note_shelf-2.ensures.stays a0.honest) in a1
+
+pub returns-in_err-note_info-clause-stays : goal.returns-in_err-note_info-clause-stays
+returns-in_err-note_info-clause-stays g c = λ h. let a0 = c.note_shelf.ensures.stays h in let a1 = stays_trans _ _ _ a0 (c.note_shelf-2.ensures.stays a0.honest) in let a2 = stays_trans _ _ _ a1 (c.note_info.ensures.stays a1.honest) in a2
+
+pub returns-in_err-note_info-2-clause-stays : goal.returns-in_err-note_info-2-clause-stays
+returns-in_err-note_info-2-clause-stays g c = λ h. let a0 = c.note_shelf.ensures.stays h in let a1 = stays_trans _ _ _ a0 (c.note_shelf-2.ensures.stays a0.honest) in let a2 = stays_trans _ _ _ a1 (c.note_info.ensures.stays a1.honest) in let a3 = stays_trans _ _ _ a2 (c.note_info-2.ensures.stays a2.honest) in a3

@@ -1,6 +1,7 @@
 use Rattle.std.proofs.Common.{◌≡◌, ◌==◌, ◌||◌, false, arith, slice_index_or}
 use Rattle.ipmi_capture.proofs.FoundLemmas.{not_kept}
 use Rattle.ipmi_capture.proofs.ReadLemmas.{keeping_begun, keeping_done, keeping_lacks, keeping_read, keeping_skipped}
+use Rattle.ipmi_bus.specs.Seen.{stays_trans}
 use Rattle.ipmi_capture.proofs.inventories.capture_inventories.Goals as goal
 
 pub devices-init : goal.devices-init
@@ -24,3 +25,9 @@ devices-preserved g c =
 
 pub returns-clause-lacks : goal.returns-clause-lacks
 returns-clause-lacks g c = keeping_lacks c.devices.invariant
+
+pub returns-in-Err-clause-stays : goal.returns-in-Err-clause-stays
+returns-in-Err-clause-stays g c = λ h. let before = c.devices.invariant.stays h in stays_trans _ _ _ before (c.capture_inventory.ensures.stays before.honest)
+
+pub returns-in-Err-note-clause-stays : goal.returns-in-Err-note-clause-stays
+returns-in-Err-note-clause-stays g c = λ h. let before = c.devices.invariant.stays h in stays_trans _ _ _ before (c.capture_inventory.ensures.stays before.honest)

@@ -1,6 +1,7 @@
 use Rattle.ipmi_capture.specs.Left.{IsStateOf}
 use Rattle.ipmi_capture.proofs.CountLemmas.{is_state}
 use Rattle.ipmi_capture.proofs.ReadLemmas.{came_inventory, has_inventory, lacks_left, left_inventory}
+use Rattle.ipmi_bus.specs.Seen.{stays_trans}
 use Rattle.ipmi_capture.proofs.inventories.capture_inventory.Goals as goal
 
 pub returns-in_ok-put_inventory-in-Ok-clause-image : goal.returns-in_ok-put_inventory-in-Ok-clause-image
@@ -20,3 +21,6 @@ returns-in-Err-clause-honest g c = λ h.
 pub returns-in-Err-clause-lacks : goal.returns-in-Err-clause-lacks
 returns-in-Err-clause-lacks g c =
     lacks_left c.args.id c.in-Err.ended _ c.left_by.result c.args.image.now c.requires.none c.left_by.ensures.left
+
+pub returns-in-Err-clause-stays : goal.returns-in-Err-clause-stays
+returns-in-Err-clause-stays g c = λ h. let first = (c.read_fru.ensures.honest h).stays in stays_trans _ _ _ first (c.left_by.ensures.stays first.honest)

@@ -1,6 +1,7 @@
 use Rattle.std.proofs.Common.{◌≡◌, ◌+◌, ◌*◌, ◌/◌, ◌%◌, ◌<◌, false, arith, slice_index_or}
 use Rattle.ipmi_capture.proofs.FoundLemmas.{not_read}
 use Rattle.ipmi_capture.proofs.ReadLemmas.{reading_begun, reading_done, reading_lacks, reading_read, reading_skipped}
+use Rattle.ipmi_bus.specs.Seen.{stays_trans}
 use Rattle.ipmi_capture.proofs.values.capture_readings.Goals as goal
 
 pub places-init : goal.places-init
@@ -27,3 +28,9 @@ places-preserved g c =
 
 pub returns-clause-lacks : goal.returns-clause-lacks
 returns-clause-lacks g c = reading_lacks c.places.invariant
+
+pub returns-in-Err-clause-stays : goal.returns-in-Err-clause-stays
+returns-in-Err-clause-stays g c = λ h. let before = c.places.invariant.stays h in stays_trans _ _ _ before (c.capture_reading.ensures.stays before.honest)
+
+pub returns-in-Err-note-clause-stays : goal.returns-in-Err-note-clause-stays
+returns-in-Err-note-clause-stays g c = λ h. let before = c.places.invariant.stays h in stays_trans _ _ _ before (c.capture_reading.ensures.stays before.honest)

@@ -1,6 +1,7 @@
 use Rattle.std.proofs.Common.{rules}
 use Rattle.ipmi_capture.specs.Left.{IsStateOf}
 use Rattle.ipmi_capture.proofs.StepLemmas.{again_cleared, walks_all_ok}
+use Rattle.ipmi_bus.specs.Seen.{stays_trans}
 use Rattle.ipmi_capture.proofs.walks.capture_shelf.Goals as goal
 
 pub walks-preserved : goal.walks-preserved
@@ -22,3 +23,12 @@ returns-in-Ok-clause-honest g c = search (
 
 pub returns-clause-calls : goal.returns-clause-calls
 returns-clause-calls g c = search rules
+
+pub returns-in-Ok-clause-stays : goal.returns-in-Ok-clause-stays
+returns-in-Ok-clause-stays g c = λ h. let before = c.walks.invariant.stays h in stays_trans _ _ _ before (c.walk_shelf.ensures.stays before.honest)
+
+pub returns-in-Err-clause-stays : goal.returns-in-Err-clause-stays
+returns-in-Err-clause-stays g c = λ h. let before = c.walks.invariant.stays h in stays_trans _ _ _ before (c.walk_shelf.ensures.stays before.honest)
+
+pub returns-clause-stays : goal.returns-clause-stays
+returns-clause-stays g c = λ h. let before = c.walks.invariant.stays h in stays_trans _ _ _ before (c.walk_shelf-2.ensures.stays before.honest)

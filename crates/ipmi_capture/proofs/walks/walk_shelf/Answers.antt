@@ -2,6 +2,7 @@ use Rattle.std.proofs.Common.{◌≡◌, Ok, arith, ap, refl, sym, ◌∙◌}
 use Rattle.ipmi_capture.specs.Below.{rows_of}
 use Rattle.ipmi_capture.proofs.CountLemmas.{is_state}
 use Rattle.ipmi_capture.proofs.StepLemmas.{calls_on, came_done, came_ended, came_malformed, ids_next, rows_of-with_rows, walked_more, walked_none}
+use Rattle.ipmi_bus.specs.Seen.{stays_trans}
 use Rattle.ipmi_capture.proofs.walks.walk_shelf.Goals as goal
 
 pub records-init : goal.records-init
@@ -47,3 +48,15 @@ returns-in-Ok-false-clause-honest g c =
 
 pub returns-in-Err-put_record-clause-calls : goal.returns-in-Err-put_record-clause-calls
 returns-in-Err-put_record-clause-calls g c = calls_on c.records.invariant c.step.follows.holds-at-none
+
+pub returns-in-Ok-None-clause-stays : goal.returns-in-Ok-None-clause-stays
+returns-in-Ok-None-clause-stays g c = λ h. let before = c.records.invariant.stays h in stays_trans _ _ _ before (c.step.ensures.answers before.honest).0
+
+pub returns-in-Err-clause-stays : goal.returns-in-Err-clause-stays
+returns-in-Err-clause-stays g c = λ h. let before = c.records.invariant.stays h in stays_trans _ _ _ before (c.step.ensures.answers before.honest).0
+
+pub returns-in-Ok-false-clause-stays : goal.returns-in-Ok-false-clause-stays
+returns-in-Ok-false-clause-stays g c = λ h. let before = c.records.invariant.stays h in stays_trans _ _ _ before (c.step.ensures.answers before.honest).0
+
+pub returns-in-Err-put_record-clause-stays : goal.returns-in-Err-put_record-clause-stays
+returns-in-Err-put_record-clause-stays g c = λ h. let before = c.records.invariant.stays h in stays_trans _ _ _ before (c.step.ensures.answers before.honest).0

@@ -10,4 +10,4 @@ pub list_records-requires-clause-room : goal.list_records-requires-clause-room
 list_records-requires-clause-room g c = fresh_room c.in_ok-cursor.ensures
 
 pub returns-clause-honest : goal.returns-clause-honest
-returns-clause-honest g c = λ h. counted c.in_ok-cursor.ensures c.list_records.result (c.list_records.ensures.lists.honest h)
+returns-clause-honest g c = λ h. counted c.in_ok-cursor.ensures c.list_records.result h (c.list_records.ensures.lists.honest h)

@@ -1,8 +1,9 @@
-use Rattle.std.proofs.Common.{◌++◌, List, ℕ, Ok, ◌∙◌, ap, sym, arith}
+use Rattle.std.proofs.Common.{refl, rules, ◌++◌, List, ℕ, Ok, ◌∙◌, ap, sym, arith}
 use Rattle.ipmi_commands.specs.Below.{row_of_record}
 use Rattle.ipmi_commands.proofs.AskLemmas.{end_ends, step_ends_listing, unread_ends}
 use Rattle.ipmi_commands.proofs.CallLemmas.{len-next_ids}
 use Rattle.ipmi_commands.proofs.ListingLemmas.{listing_cut, listing_done, listing_ended, listing_full, listing_more, listing_none}
+use Rattle.ipmi_commands.proofs.TraceLemmas.{traced_none}
 use Rattle.ipmi_commands.proofs.listing.list_records.Goals as goal
 
 pub returns-then-is_reached-clause-lists : goal.returns-then-is_reached-clause-lists
@@ -58,3 +59,22 @@ returns-then-is_reached-clause-ends g c = rw c.end.ensures (end_ends c.args.form
 
 pub returns-in-Ok-None-clause-ends : goal.returns-in-Ok-None-clause-ends
 returns-in-Ok-None-clause-ends g c = rw c.end-in-Ok-None.ensures (end_ends c.args.form.now c.records.wrote c.records.count _)
+
+pub records-init : goal.records-init
+records-init g c = (
+  refl,
+  search rules,
+  record {
+    shelf = search rules;
+    tries_are = search rules;
+    called = search rules;
+    within = search rules;
+    has_written = search rules;
+    went = λ h. record {
+      ends = search rules;
+      holds = search rules;
+      along = search rules;
+      tracing = traced_none c.args.form.now c.args.cursor.now (g.C.Controller.seen c.args.ctl.now) (g.O.Sink.taken c.args.out.now) h;
+    };
+  },
+)

@@ -12,7 +12,7 @@ list_records-requires-clause-room g c = fresh_room c.in_ok-cursor.ensures
 
 pub returns-in_err-list_records-clause-honest : goal.returns-in_err-list_records-clause-honest
 returns-in_err-list_records-clause-honest g c = λ some h.
-    rw (passed _ _ c.from_residual-in_err-list_records.ensures.1) (page_by_cursor (Err _) c.in_ok-cursor.ensures some (c.in_err-list_records.ensures.lists.honest h))
+    rw (passed _ _ c.from_residual-in_err-list_records.ensures.1) (page_by_cursor (Err _) c.in_ok-cursor.ensures some h (c.in_err-list_records.ensures.lists.honest h))
 
 pub returns-clause-honest : goal.returns-clause-honest
-returns-clause-honest g c = λ some h. rw c.resume_at.ensures (page_by_cursor (Ok _) c.in_ok-cursor.ensures some (c.in_ok-list_records.ensures.lists.honest h))
+returns-clause-honest g c = λ some h. rw c.resume_at.ensures (page_by_cursor (Ok _) c.in_ok-cursor.ensures some h (c.in_ok-list_records.ensures.lists.honest h))

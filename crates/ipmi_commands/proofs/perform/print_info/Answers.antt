@@ -1,6 +1,5 @@
-use Rattle.std.proofs.Common.{rules}
 use Rattle.ipmi_commands.proofs.AskLemmas.{passed}
-use Rattle.ipmi_commands.proofs.PerformLemmas.{info_found, info_unread}
+use Rattle.ipmi_commands.proofs.PerformLemmas.{info_absent, info_found, info_unread}
 use Rattle.ipmi_commands.proofs.perform.print_info.Goals as goal
 
 pub returns-in_err-text-clause-runs : goal.returns-in_err-text-clause-runs
@@ -13,4 +12,5 @@ returns-in-Some-clause-runs g c =
     (rw c.as_slice.ensures.value at c.write_text.ensures.text))
 
 pub returns-in-None-clause-runs : goal.returns-in-None-clause-runs
-returns-in-None-clause-runs g c = search rules
+returns-in-None-clause-runs g c =
+    rw (← c.tries.ensures) (info_absent c.args.wording c.args.shelf _ _ _ c.info_text.ensures.calls _ (rw c.in-None.is at c.in_ok-text.ensures.says) (rw c.in-None.is at c.in_ok-text.ensures.honest))

@@ -1,4 +1,4 @@
-use Rattle.std.proofs.Common.{◌≡◌, rules, inl, inr, refl, sym, ◌∙◌}
+use Rattle.std.proofs.Common.{◌≡◌, rules, inr, refl, sym, ◌∙◌}
 use Rattle.ipmi_bus.proofs.CursorLemmas.{look-whole_row, handed_row-whole, hands_out, is_cursor-after, place_after-not_first, room_asked}
 use Rattle.ipmi_bus.proofs.WalkLemmas.{whole_step}
 use Rattle.ipmi_bus.specs.Prelude.{First}

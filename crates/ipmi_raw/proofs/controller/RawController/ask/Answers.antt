@@ -1,4 +1,7 @@
-use Rattle.std.proofs.Common.{◌≡◌, true, false, ap, ◌∙◌, rules}
+use Rattle.std.proofs.Common.{◌≡◌, ℕ, true, false, List, Result, Ok, ap, refl, subst, sym, ◌∙◌, rules}
+use Rattle.ipmi_bus.specs.declared.code.Code.{Code}
+use Rattle.ipmi_raw.specs.Answer.{given, IsAnswer, says_unreserved}
+use Rattle.ipmi_raw.proofs.ThroughLemmas.{answered}
 use Rattle.ipmi_raw.proofs.AskLemmas.{sends_counted}
 use Rattle.ipmi_raw.proofs.controller.RawController.ask.Goals as goal
 
@@ -39,4 +42,10 @@ pub returns-in-Some-Refused-clause-hears : goal.returns-in-Some-Refused-clause-h
 returns-in-Some-Refused-clause-hears g c = search rules
 
 pub returns-in-Some-Refused-clause-honest : goal.returns-in-Some-Refused-clause-honest
-returns-in-Some-Refused-clause-honest g c = search rules
+returns-in-Some-Refused-clause-honest g c = λ honest is.
+    let told : says_unreserved c.args.request c.in-Some-Refused.code ≡ true = sym c.if-says_unreserved.ensures in
+    let same : given c.args.request c.in-Some-Refused.field-0 ≡ Ok c.new.result = rw (c.in-Some-Refused.field-0-is, told, c.new.ensures.value) refl in
+    answered c.args.request (Ok c.new.result) (g.P.Peer.seen c.args.self.now.peer) (g.P.Peer.seen c.exchange.new.self.peer)
+    c.args.self.now.tally.counts c.exchange.new.self.tally.counts c.args.self.now.is_lost c.exchange.new.self.is_lost
+    (λ behind. subst (λ (r : Result (List ℕ) Code). IsAnswer c.args.request r (g.P.Peer.seen c.args.self.now.peer) (g.P.Peer.seen c.exchange.new.self.peer)) same (c.in-Some-Refused.ensures.honest behind is))
+    (ap (λ r. r.is_lost) c.in-Some-Refused.ensures.same) honest

@@ -1,0 +1,371 @@
+-- What a listing prints of a walk that only grew.
+use Rattle.std.proofs.Common.{◌≡◌, ◌≢◌, ℕ, ◌+◌, ◌≤◌, Option, None, Some, Result, Ok, Err, List, [], ◌∷◌, ◌++◌, inl, inr, length, take, drop, refl, sym, ap, subst, ◌∙◌, arith, take_all, take-add, append_assoc, length-append, length-take-le, take-append-drop}
+use Rattle.std.proofs.Math.Seq.{drop-append_seam, take-append_seam}
+use Rattle.ipmi_bus.proofs.GrowthLaws.{growth, Moment, moment, steps_stay}
+use Rattle.ipmi_commands.specs.Below.{AllFollowOrStop, WasLog, AreSteps, asked_at, CommandState, cursor_after, CursorState, Done, End, Ended, EndsBy, Ending, Failure, First, FollowsOrStops, handed_out, Id, IsHonest, IsLog, IsStep, last_next, OnlyGrew, place_after, Place, place_after_rows, Row, rows_of, Seen, seen_after, Shelf, StandsAt, start_of, StaysHonest, Stepped, stays_refl, stays_trans, WalkEnd, with_handed}
+use Rattle.ipmi_commands.specs.Meanwhile.{IsTextWhile, KeepsFor, OnGrowingListing}
+use Rattle.ipmi_commands.specs.Traced.{EndsTrace, HasResult, IsListed, IsWithin, PrintsSteps, ReturnsLast, StopsThere, Traces, TracesListing}
+use Rattle.ipmi_commands.specs.Prelude.{AtEnd, AtRecord, cause_of, Change, ending_of, first_end, first_rows, Form, HasFirstItems, IsAllowed, IsAmong, IsFresh, Item, listing, listing_plan, next_spots, Plan, Printed, row_items, rows_end, shelf_of, Spot, spots_at_walk_end, StopsAt, Subject}
+use Rattle.ipmi_commands.proofs.CallLemmas.{none_left, place_after_rows-append}
+use Rattle.ipmi_commands.proofs.ItemLemmas.{cut_after, row_item, row_items-append, row_items-split, stops_after}
+use Rattle.ipmi_commands.proofs.ListingLemmas.{may_later, take_used}
+use Rattle.ipmi_commands.proofs.MeanwhileLemmas.{steps_printed, text_while}
+use Rattle.ipmi_commands.proofs.NameLemmas.{while_found, while_none}
+use Rattle.ipmi_commands.proofs.SpotLemmas.{asked_first, spots_at_walk_end-joined}
+use Rattle.ipmi_commands.proofs.TraceLemmas.{handed_joined}
+
+-- ---- steps, and more steps
+
+steps_joined : (c : CursorState) (s s' : Seen) (steps more : List Stepped) → AreSteps c s steps
+    → StaysHonest (seen_after s steps) s' → AreSteps (cursor_after c steps) s' more → AreSteps c s (steps ++ more)
+steps_joined c s s' [] [] are stays later = tt
+steps_joined c s s' [] (step ∷ more) are stays later = (stays_trans s s' step.before stays later.0, later.1, later.2)
+steps_joined c s s' (one ∷ steps) more are stays later = (are.0, are.1, steps_joined one.cursor one.seen s' steps more are.2 stays later)
+
+cursor_joined : (c : CursorState) (steps more : List Stepped)
+    → cursor_after c (steps ++ more) ≡ cursor_after (cursor_after c steps) more
+cursor_joined c [] more = refl
+cursor_joined c (one ∷ steps) more = cursor_joined one.cursor steps more
+
+seen_joined : (s s' last : Seen) (steps more : List Stepped) → StaysHonest (seen_after s steps) s'
+    → StaysHonest (seen_after s' more) last → StaysHonest (seen_after s (steps ++ more)) last
+seen_joined s s' last [] [] stays later = stays_trans s s' last stays later
+seen_joined s s' last [] (step ∷ more) stays later = later
+seen_joined s s' last (one ∷ steps) more stays later = seen_joined one.seen s' last steps more stays later
+
+has_joined : (result : Result (Option Row) Ended) (steps more : List Stepped) → HasResult result more
+    → HasResult result (steps ++ more)
+has_joined result [] more has = has
+has_joined result (one ∷ steps) more has = inr (has_joined result steps more has)
+
+-- all steps but the last, and the last
+split_last : (c : CursorState) (s : Seen) (done : List Stepped) (step : Stepped) → AreSteps c s (done ++ step ∷ [])
+    → AreSteps c s done × StaysHonest (seen_after s done) step.before
+    × IsStep (cursor_after c done) step.cursor step.before step.seen step.result
+split_last c s [] step are = (tt, are.0, are.1)
+split_last c s (one ∷ done) step are = let rest = split_last one.cursor one.seen done step are.2 in ((are.0, are.1, rest.0), rest.1, rest.2)
+
+seen_last : (s : Seen) (done : List Stepped) (step : Stepped) → seen_after s (done ++ step ∷ []) ≡ step.seen
+seen_last s [] step = refl
+seen_last s (one ∷ done) step = seen_last one.seen done step
+
+-- a step that follows or stops has no other result
+follows : (result : Result (Option Row) Ended) (steps : List Stepped) → AllFollowOrStop steps
+    → HasResult result steps → FollowsOrStops result
+follows result [] all has = absurd has
+follows result (step ∷ steps) all (inl is) = subst FollowsOrStops is all.0
+follows result (step ∷ steps) all (inr later) = follows result steps all.1 later
+
+-- ---- the end of a log
+
+-- the place after a whole log that is not empty is the end
+after_log : (next : ℕ) (walk : List Row) → last_next next walk ≡ 65535
+    → place_after_rows (place_after next) walk ≡ End
+after_log next [] is = ap place_after is
+after_log next (row ∷ walk) is = after_log row.next walk is
+
+-- a cursor that is after a whole log, and not at the end, is at the start of an empty one
+before_log : (rows : List Row) (start : Place) (log : List Row) → EndsBy rows start log Done
+    → place_after_rows start log ≢ End
+    → IsAmong (spots_at_walk_end start log Done) (AtRecord (asked_at (place_after_rows start log)))
+before_log rows start (row ∷ log) ends open_ = absurd (open_ (after_log row.next log ends))
+before_log rows First [] ends open_ = inl refl
+before_log rows (Id n) [] ends open_ = absurd ends
+before_log rows End [] ends open_ = absurd (open_ refl)
+
+pub first_end-done : (most : Option ℕ) (rows : List Row) → first_end most rows Done ≡ Done
+first_end-done most rows = grind arith
+
+-- all rows within the limit
+whole_used : (most : Option ℕ) (rows : List Row) → IsWithin most (length rows) → first_rows most rows ≡ rows
+whole_used None rows within = refl
+whole_used (Some n) rows within = take_all n rows within
+
+-- ---- a listing that begins after these steps
+
+-- the rows returned before it, and those that it returned, are the first ones of the log as it was meanwhile; if the cursor is at
+-- the end, they are all
+pub record ListsGrown (shelf : Shelf) (start : Place) (first : List Row) (s : Seen) (hp hs : List Row) (form : Form)
+    (most : Option ℕ) (now : CursorState) (c : Change) (result : Result ℕ Failure) : Type 0 where
+  pub log : List Row
+  pub was : WasLog shelf start s c.seen' first log
+  pub before : hp ≡ take (length hp) log
+  pub enough : length hp ≤ length log
+  pub whole : now.place ≡ End → hs ≡ drop (length hp) log
+  pub allowed : IsAllowed (IsTextWhile c.seen c.seen') (listing_plan (listing form (place_after_rows start hp) most) (drop (length hp) log) Done) c.old c.new (ending_of result)
+
+module _ (begun : CursorState) (s : Seen) (start : Place) (first : List Row) (honest : IsHonest s)
+    (log : IsLog begun.shelf start s.store first)
+    (stands : StandsAt (rows_of begun.shelf s.store) start first 0 begun)
+    (pre : List Stepped) (made : AreSteps begun s pre) (form : Form) (most : Option ℕ) (now : CursorState) (c : Change)
+    (since : StaysHonest (seen_after s pre) c.seen) (result : Result ℕ Failure)
+    (trace : TracesListing form most (cursor_after begun pre) now c result)
+    (grew : OnlyGrew begun.shelf start s c.seen') (keeps : KeepsFor form c.seen c.seen') where
+  abbrev all : List Stepped
+  all = pre ++ trace.steps
+
+  abbrev hp : List Row
+  hp = handed_out pre
+
+  abbrev hs : List Row
+  hs = handed_out trace.steps
+
+  made_all : AreSteps begun s all
+  made_all = steps_joined begun s c.seen pre trace.steps made since trace.traced.are
+
+  after_all : StaysHonest (seen_after s all) c.seen'
+  after_all = seen_joined s c.seen c.seen' pre trace.steps since trace.traced.stays
+
+  now_is : cursor_after begun all ≡ now
+  now_is = cursor_joined begun pre trace.steps ∙ trace.traced.cursor
+
+  handed_is : handed_out all ≡ hp ++ hs
+  handed_is = handed_joined pre trace.steps
+
+  m : Moment begun.shelf start first s c.seen' (cursor_after begun all) (handed_out all)
+  m = moment begun s c.seen' start first honest log stands all made_all after_all grew
+
+  all_follow : AllFollowOrStop all
+  all_follow = (growth begun s c.seen' start first honest log stands all made_all after_all grew).1
+
+  abbrev left : List Row
+  left = drop (length hp) m.rows
+
+  -- the rows returned before, and those returned by the listing, are the first ones
+  begin_all : hp ++ hs ≡ take (length hp) m.rows ++ take (length hs) left
+  begin_all =
+      let n : length (handed_out all) ≡ length hp + length hs = ap (length {A = Row}) handed_is ∙ length-append hp hs in
+      sym handed_is ∙ m.begins ∙ ap (λ (k : ℕ). take k m.rows) n ∙ take-add (length hp) (length hs) m.rows
+
+  enough : length hp ≤ length m.rows
+  enough =
+      let n : length (handed_out all) ≡ length hp + length hs = ap (length {A = Row}) handed_is ∙ length-append hp hs in
+      let few = ap (length {A = Row}) m.begins in
+      let whole = ap (length {A = Row}) (take-append-drop (length (handed_out all)) m.rows) in
+      omega (arith, n, few, whole, length-append (take (length (handed_out all)) m.rows) (drop (length (handed_out all)) m.rows))
+
+  hp_is : hp ≡ take (length hp) m.rows
+  hp_is =
+      let len : length (take (length hp) m.rows) ≡ length hp = length-take-le (length hp) m.rows enough in
+      sym (take-append_seam hp hs) ∙ ap (take (length hp)) begin_all
+      ∙ ap (λ (k : ℕ). take k (take (length hp) m.rows ++ take (length hs) left)) (sym len) ∙ take-append_seam (take (length hp) m.rows) (take (length hs) left)
+
+  hs_is : hs ≡ take (length hs) left
+  hs_is =
+      let len : length (take (length hp) m.rows) ≡ length hp = length-take-le (length hp) m.rows enough in
+      sym (drop-append_seam hp hs) ∙ ap (drop (length hp)) begin_all
+      ∙ ap (λ (k : ℕ). drop k (take (length hp) m.rows ++ take (length hs) left)) (sym len) ∙ drop-append_seam (take (length hp) m.rows) (take (length hs) left)
+
+  abbrev place : Place
+  place = place_after_rows start hp
+
+  abbrev used : List Row
+  used = first_rows most left
+
+  abbrev p : Plan
+  p = listing_plan (listing form place most) left Done
+
+  abbrev W : Subject → List ℕ → Type 0
+  W = IsTextWhile c.seen c.seen'
+
+  abbrev Allowed : Type 0
+  Allowed = IsAllowed W p c.old c.new (ending_of result)
+
+  hs_used : IsWithin most (length hs) → hs ≡ take (length hs) used
+  hs_used within = hs_is ∙ sym (take_used most (length hs) left within)
+
+  abbrev rest : List Row
+  rest = drop (length hs) used
+
+  -- ---- all rows within the limit were listed
+
+  all_used : (count : ℕ) → IsListed form most now trace.steps c count → used ≡ hs
+  all_used count listed = elim listed.done [
+    | inl limit ↦ ap (λ (o : Option ℕ). first_rows o left) limit ∙ ap (λ (n : ℕ). take n left) listed.count_is ∙ sym hs_is
+    | inr at_end ↦
+        let whole : hp ++ hs ≡ m.rows = sym handed_is ∙ m.whole (ap (λ (x : CursorState). x.place) now_is ∙ at_end) in
+        let left_is : left ≡ hs = ap (drop (length hp)) (sym whole) ∙ drop-append_seam hp hs in
+        ap (first_rows most) left_is ∙ whole_used most hs (subst (IsWithin most) listed.count_is listed.within)
+  ]
+
+  stays : StaysHonest c.seen c.seen'
+  stays = stays_trans c.seen (seen_after c.seen trace.steps) c.seen' (steps_stay (cursor_after begun pre) c.seen trace.steps since.honest trace.traced.are) trace.traced.stays
+
+  printed_hs : PrintsSteps form trace.steps c.seen' c.old c.new → Printed W (row_items form place hs) c.old c.new
+  printed_hs printed = steps_printed form c.seen c.seen' keeps (cursor_after begun pre) c.seen trace.steps place c.seen' c.old c.new
+      (stays_refl c.seen since.honest) trace.traced.are trace.traced.stays (stays_refl c.seen' stays.honest) printed
+
+  whole_allowed : (count : ℕ) → IsListed form most now trace.steps c count → (ending : Ending)
+      → cause_of ending ≡ AtEnd → ending ≡ rows_end form hs Done → IsAllowed W p c.old c.new ending
+  whole_allowed count listed ending cause is =
+      let same = all_used count listed in
+      let end_is : p.end ≡ rows_end form hs Done = ap (λ (e : WalkEnd). rows_end form used e) (first_end-done most left) ∙ ap (λ (l : List Row). rows_end form l Done) same in
+      rw cause (subst (λ (l : List Row). Printed W (row_items form place l) c.old c.new) (sym same) (printed_hs listed.printed), is ∙ sym end_is)
+
+  -- ---- a step failed
+
+  items_hs : IsWithin most (length hs) → p.items ≡ row_items form place hs ++ row_items form (place_after_rows place hs) rest
+  items_hs within = subst (λ (l : List Row). row_items form place used ≡ row_items form place l ++ row_items form (place_after_rows place l) rest) (sym (hs_used within))
+      (row_items-split form place used (length hs))
+
+  now_place : now.place ≢ End → now.place ≡ place_after_rows place hs
+  now_place open_ =
+      let at : (cursor_after begun all).place ≡ now.place = ap (λ (x : CursorState). x.place) now_is in
+      sym at ∙ m.there (λ e. open_ (sym at ∙ e)) ∙ ap (place_after_rows start) handed_is ∙ place_after_rows-append start hp hs
+
+  rows_are : hp ++ left ≡ m.rows
+  rows_are = ap (λ (l : List Row). l ++ left) hp_is ∙ take-append-drop (length hp) m.rows
+
+  -- all rows of the log were returned, and the cursor is not at the end: the log is empty
+  at_last : IsWithin most (length hs + 1) → now.place ≢ End → rest ≡ []
+      → IsAmong p.end_spots (AtRecord (asked_at (place_after_rows place hs)))
+  at_last within open_ none =
+      let whole : hs ≡ left = hs_is ∙ take_all (length hs) left (none_left most (length hs) left within none) in
+      let there : place_after_rows place hs ≡ place_after_rows start m.rows =
+      sym (place_after_rows-append start hp hs) ∙ ap (λ (l : List Row). place_after_rows start (hp ++ l)) whole ∙ ap (place_after_rows start) rows_are in
+      let spots : p.end_spots ≡ spots_at_walk_end start m.rows Done =
+      ap (spots_at_walk_end place left) (first_end-done most left) ∙ spots_at_walk_end-joined start hp left Done ∙ ap (λ (l : List Row). spots_at_walk_end start l Done) rows_are in
+      subst (λ (l : List Spot). IsAmong l (AtRecord (asked_at (place_after_rows place hs)))) (sym spots)
+      (subst (λ (q : Place). IsAmong (spots_at_walk_end start m.rows Done) (AtRecord (asked_at q))) (sym there)
+      (before_log m.ends.0 start m.rows m.ends.1 (λ e. open_ (now_place open_ ∙ there ∙ e))))
+
+  less : IsWithin most (length hs + 1) → IsWithin most (length hs)
+  less within = by most within
+    where
+      by : (o : Option ℕ) → IsWithin o (length hs + 1) → IsWithin o (length hs)
+      by None w = tt
+      by (Some n) w = omega (arith, w)
+
+  stops : IsWithin most (length hs + 1) → PrintsSteps form trace.steps c.seen' c.old c.new → (n : ℕ)
+      → (n ≡ asked_at now.place) × (now.place ≢ End) → StopsAt (AtRecord n) W p c.old c.new
+  stops within printed n at = record {
+    first = record { done = row_items form place hs; rest = row_items form (place_after_rows place hs) rest; items_are = items_hs (less within); printed = printed_hs printed };
+    there =
+        let asked : AtRecord n ≡ AtRecord (asked_at (place_after_rows place hs)) = ap AtRecord (at.0 ∙ ap asked_at (now_place at.1)) in
+        subst (IsAmong (next_spots (row_items form (place_after_rows place hs) rest) p.end_spots)) (sym asked)
+        (asked_first form (place_after_rows place hs) rest p.end_spots (at_last within at.1));
+  }
+
+  never : (ended : Ended) → HasResult (Err ended) trace.steps → FollowsOrStops (Err ended)
+  never ended has = follows (Err ended) all all_follow (has_joined (Err ended) pre trace.steps has)
+
+  step_fails : (ended : Ended) → IsWithin most (length hs + 1) → PrintsSteps form trace.steps c.seen' c.old c.new
+      → HasResult (Err ended) trace.steps → StopsThere now ended → IsAllowed W p c.old c.new (Err (Failure.Ended ended))
+  step_fails (Ended.GaveUp n) within printed has there = stops within printed n there
+  step_fails (Ended.Refused n code) within printed has there = stops within printed n there
+  step_fails (Ended.Cycle n) within printed has there = absurd (never (Ended.Cycle n) has)
+  step_fails (Ended.Missing n) within printed has there = absurd (never (Ended.Missing n) has)
+  step_fails (Ended.Stalled n) within printed has there = absurd (never (Ended.Stalled n) has)
+  step_fails (Ended.Malformed n) within printed has there = absurd (never (Ended.Malformed n) has)
+
+  -- ---- the text of the last record failed
+
+  module _ (done : List Stepped) (step : Stepped) (row : Row) (last : ReturnsLast most trace.steps done step row) where
+    abbrev hd : List Row
+    hd = handed_out done
+
+    hs_last : hs ≡ hd ++ row ∷ []
+    hs_last = ap handed_out last.are ∙ handed_joined done (step ∷ []) ∙ ap (λ (r : Result (Option Row) Ended). hd ++ with_handed r []) last.returned
+
+    used_is : used ≡ hd ++ (row ∷ rest)
+    used_is = sym (take-append-drop (length hs) used) ∙ ap (λ (l : List Row). l ++ rest) (sym (hs_used last.within) ∙ hs_last) ∙ append_assoc hd (row ∷ []) rest
+
+    abbrev item : Item
+    item = row_item form (place_after_rows place hd) row
+
+    items_last : p.items ≡ row_items form place hd ++ (item ∷ row_items form (place_after row.next) rest)
+    items_last = ap (row_items form place) used_is ∙ row_items-append form place hd (row ∷ rest)
+
+    parts : AreSteps (cursor_after begun pre) c.seen done × StaysHonest (seen_after c.seen done) step.before
+        × IsStep (cursor_after (cursor_after begun pre) done) step.cursor step.before step.seen step.result
+    parts = split_last (cursor_after begun pre) c.seen done step (subst (AreSteps (cursor_after begun pre) c.seen) last.are trace.traced.are)
+
+    to_step : StaysHonest step.seen c.seen'
+    to_step = subst (λ (x : Seen). StaysHonest x c.seen') (ap (seen_after c.seen) last.are ∙ seen_last c.seen done step) trace.traced.stays
+
+    made_step : StaysHonest step.before step.seen
+    made_step = (parts.2.honest parts.1.honest).stays
+
+    from_here : StaysHonest c.seen step.seen
+    from_here = stays_trans c.seen step.before step.seen (stays_trans c.seen (seen_after c.seen done) step.before (steps_stay (cursor_after begun pre) c.seen done since.honest parts.0) parts.1) made_step
+
+    abbrev before_it : (text : List ℕ) → PrintsSteps form done step.before c.old text → HasFirstItems W p c.old text
+    before_it text printed = record {
+      done = row_items form place hd;
+      rest = item ∷ row_items form (place_after row.next) rest;
+      items_are = items_last;
+      printed = steps_printed form c.seen c.seen' keeps (cursor_after begun pre) c.seen done place step.before c.old text
+          (stays_refl c.seen since.honest) parts.0 parts.1 (stays_trans step.before step.seen c.seen' made_step to_step) printed;
+    }
+
+  prints : (r : Result ℕ Failure) → EndsTrace form most now trace.steps c r → IsAllowed W p c.old c.new (ending_of r)
+  prints (Ok count) ends = whole_allowed count ends.0 (Ok tt) refl (while_found form c.seen c.seen' place hs c.old c.new (printed_hs ends.0.printed) ends.1)
+  prints (Err failure) (inl fails) =
+      subst (λ (f : Failure). IsAllowed W p c.old c.new (Err f)) (sym fails.is) (step_fails fails.ended fails.within fails.printed fails.returned fails.there)
+  prints (Err failure) (inr (inl lost)) =
+      stops_after W p c.old c.new (Err failure) (cause_of (Err failure)) (before_it lost.done lost.step lost.row lost.last c.new lost.printed)
+      (may_later _ _ (cause_of (Err failure)) lost.there)
+  prints (Err failure) (inr (inr (inl cut))) =
+      subst (λ (f : Failure). IsAllowed W p c.old c.new (Err f)) (sym cut.is)
+      (cut_after W p c.old cut.before c.new (Err Failure.WriteFault) (before_it cut.done cut.step cut.row cut.last cut.before cut.printed)
+      (item cut.done cut.step cut.row cut.last) _ cut.text refl
+      (text_while form c.seen c.seen' keeps cut.row cut.step.seen c.seen' cut.text (from_here cut.done cut.step cut.row cut.last) (to_step cut.done cut.step cut.row cut.last) (stays_refl c.seen' stays.honest) cut.is_text)
+      cut.some cut.part)
+  prints (Err failure) (inr (inr (inr none))) =
+      subst (λ (f : Failure). IsAllowed W p c.old c.new (Err f)) (sym none.is)
+      (whole_allowed none.count none.listed (Err (Failure.NoName none.name)) refl
+      (subst (λ (f : Form). Err (Failure.NoName none.name) ≡ rows_end f hs Done) (sym none.searched)
+      (while_none none.wording none.name c.seen c.seen' place hs c.old c.new
+      (subst (λ (f : Form). Printed W (row_items f place hs) c.old c.new) none.searched (printed_hs none.listed.printed)) none.nothing)))
+
+  pub grown_listing : ListsGrown begun.shelf start first s hp hs form most now c result
+  grown_listing = record {
+    log = m.rows;
+    was = m.was;
+    before = hp_is;
+    enough = enough;
+    whole = λ at_end.
+        let whole : hp ++ hs ≡ m.rows = sym handed_is ∙ m.whole (ap (λ (x : CursorState). x.place) now_is ∙ at_end) in
+        sym (drop-append_seam hp hs) ∙ ap (drop (length hp)) whole;
+    allowed = prints result trace.ends;
+  }
+
+-- ---- a new cursor
+
+module _ {command : CommandState} {form : Form} {from : Option ℕ} {most : Option ℕ} {begun now : CursorState} {c : Change}
+    {result : Result ℕ Failure} (fresh : IsFresh command form from begun)
+    (trace : TracesListing form most begun now c result) (honest : IsHonest c.seen) where
+  shelf_is : begun.shelf ≡ shelf_of form
+  shelf_is = ap (λ (x : CursorState). x.shelf) fresh.is
+
+  pub fresh_grown : (first : List Row) → IsLog (shelf_of form) (start_of from) c.seen.store first
+      → OnlyGrew (shelf_of form) (start_of from) c.seen c.seen' → KeepsFor form c.seen c.seen'
+      → ListsGrown (shelf_of form) (start_of from) first c.seen [] (handed_out trace.steps) form most now c result
+  fresh_grown first log grew keeps =
+      let on = subst (λ (x : Shelf). IsLog x (start_of from) c.seen.store first) (sym shelf_is) log in
+      let only = subst (λ (x : Shelf). OnlyGrew x (start_of from) c.seen c.seen') (sym shelf_is) grew in
+      let g = grown_listing begun c.seen (start_of from) first honest on (fresh.stands (rows_of begun.shelf c.seen.store) first) [] tt form most now c (stays_refl c.seen honest) result trace only keeps in
+      record {
+        log = g.log;
+        was = subst (λ (x : Shelf). WasLog x (start_of from) c.seen c.seen' first g.log) shelf_is g.was;
+        before = g.before;
+        enough = g.enough;
+        whole = g.whole;
+        allowed = g.allowed;
+      }
+
+  pub fresh_grows : OnGrowingListing (listing form (start_of from) most) c.seen c.seen'
+      (λ plan. IsAllowed (IsTextWhile c.seen c.seen') plan c.old c.new (ending_of result))
+  fresh_grows = λ keeps first log grew. let g = fresh_grown first log grew keeps in (g.log, g.was, g.allowed)
+
+  pub fresh_traces : Traces form (start_of from) most c (ending_of result)
+  fresh_traces = λ not_zero. inr (record {
+    begun = begun;
+    now = now;
+    result = result;
+    is = refl;
+    shelf = shelf_is;
+    place = ap (λ (x : CursorState). x.place) fresh.is;
+    ids = ap (λ (x : CursorState). x.ids) fresh.is;
+    traces = trace;
+  })

@@ -1,0 +1,207 @@
+-- What is printed while the store changes, over a part of a run and over all of it.
+use Rattle.std.proofs.Common.{◌≡◌, ℕ, Bool, true, false, cond, Option, None, Some, Result, Ok, Err, List, [], ◌∷◌, ◌++◌, ◌==◌, is_some, sym, ap, subst, ◌∙◌}
+use Rattle.ipmi_bus.proofs.HeldLemmas.{begins_refl, begins_trans, grew_first, grew_second, grew_since, grows_over, held_at_first, held_at_last, held_in_first, held_in_second, keeps_first, keeps_same, keeps_second, keeps_through}
+use Rattle.ipmi_bus.proofs.GrowthLaws.{steps_stay}
+use Rattle.ipmi_bus.specs.Seen.{KeepsStore}
+use Rattle.ipmi_commands.specs.Below.{AreSteps, BeginsWith, Count, CursorState, device_name, Done, Ended, First, handed_out, IsHonest, IsLog, Keeps, OnGrowing, OnlyGrew, WasLog, inventory_in, inventory_of, Inventory, Place, place_after, Row, Sdr, SdrFault, SdrView, sdr_view_of, Seen, seen_after, Sel, Shelf, start_of, StaysHonest, Stepped, stays_refl, stays_trans, Store, with_handed}
+use Rattle.ipmi_records.specs.Sdr as sdr
+use Rattle.ipmi_commands.specs.Meanwhile.{IsTextWhile, KeepsAt, KeepsFor, OnGrowingListing}
+use Rattle.ipmi_commands.specs.Traced.{AreTextsOfSteps, IsTextAfter, IsTextOfResult, PrintsSteps, seen_next}
+use Rattle.ipmi_commands.specs.Prelude.{AreTexts, AtInventory, AtRecord, device_spots, Entries, Form, inventories_plan, IsTextOver, entries_in, job_with, Listing, listing, listing_plan, locator_spots, Named, named_spots, OfRow, OnGrowingInventories, OnGrowingLast, OnGrowingNamed, OnGrowingPlan, Plan, Printed, reading_spots, row_items, shelf_of, spots_because_of, Spot, Subject, Wording}
+
+-- ---- over a part of the run
+
+pub while_first : (a b c : Seen) → KeepsStore a b → KeepsStore b c → (subject : Subject) (text : List ℕ)
+    → IsTextWhile a b subject text → IsTextWhile a c subject text
+while_first a b c first then_ subject text is = record { store = is.store; held = held_in_first a b c first then_ is.store is.held; is = is.is }
+
+pub while_second : (a b c : Seen) → KeepsStore a b → KeepsStore b c → (subject : Subject) (text : List ℕ)
+    → IsTextWhile b c subject text → IsTextWhile a c subject text
+while_second a b c first then_ subject text is = record { store = is.store; held = held_in_second a b c first then_ is.store is.held; is = is.is }
+
+-- over the store as it was at last
+pub while_last : (s s' : Seen) (subject : Subject) (text : List ℕ) → IsTextOver s'.store subject text
+    → IsTextWhile s s' subject text
+while_last s s' subject text is = record { store = s'.store; held = held_at_last s s'; is = is }
+
+module _ {shelf : Shelf} {start : Place} (a b c : Seen) (first : KeepsStore a b) (then_ : KeepsStore b c) where
+  pub log_first : (rows log : List Row) → WasLog shelf start a b rows log → WasLog shelf start a c rows log
+  log_first rows log was = record { store = was.store; held = held_in_first a b c first then_ was.store was.held; is_store = was.is_store; is_log = was.is_log; grown = was.grown }
+
+  pub log_second : (rows now log : List Row) → BeginsWith rows now → WasLog shelf start b c now log
+      → WasLog shelf start a c rows log
+  log_second rows now log grown was =
+      record { store = was.store; held = held_in_second a b c first then_ was.store was.held; is_store = was.is_store; is_log = was.is_log; grown = begins_trans rows now log grown was.grown }
+
+-- the log as it was at first
+pub log_now : {shelf : Shelf} {start : Place} (s s' : Seen) → KeepsStore s s' → IsHonest s → (rows : List Row)
+    → IsLog shelf start s.store rows → WasLog shelf start s s' rows rows
+log_now s s' keeps honest rows log = record { store = s.store; held = held_at_first s s' keeps; is_store = honest.store; is_log = log; grown = begins_refl rows }
+
+-- the same log, as the first one of later entries
+pub log_again : {shelf : Shelf} {start : Place} {first : List Row} (s s' : Seen) (log : List Row) → WasLog shelf start s s' first log
+    → WasLog shelf start s s' log log
+log_again s s' log was = record { store = was.store; held = was.held; is_store = was.is_store; is_log = was.is_log; grown = begins_refl log }
+
+-- the log as it was at last begins with it
+pub log_later : {shelf : Shelf} {start : Place} {first : List Row} (s s' : Seen) (log : List Row) → OnlyGrew shelf start s s'
+    → WasLog shelf start s s' first log → (now : List Row) × BeginsWith log now × IsLog shelf start s'.store now
+log_later {shelf} {start} s s' log grew was =
+    let now = grew_since shelf start s s' was.store grew was.held log was.is_log.walks was.is_log.ends in
+    (now.0, now.1, record { walks = now.2; ends = now.3 })
+
+-- ---- inventories over a part of the run
+
+for_first : (form : Form) (a b c : Seen) → KeepsStore a b → KeepsStore b c → KeepsFor form a c → KeepsFor form a b
+for_first (Form.Device wording) a b c first then_ keeps = keeps_first (λ (store : Store). store.inventories) a b c first then_ keeps
+for_first _ a b c first then_ keeps = tt
+
+pub for_second : (form : Form) (a b c : Seen) → KeepsStore a b → KeepsStore b c → KeepsFor form a c → KeepsFor form b c
+for_second (Form.Device wording) a b c first then_ keeps = keeps_second (λ (store : Store). store.inventories) a b c first then_ keeps
+for_second _ a b c first then_ keeps = tt
+
+-- ---- logs as they were over the second part of a run
+
+module _ (a b c : Seen) (first : StaysHonest a b) (then_ : StaysHonest b c) where
+  pub growing_second : (shelf : Shelf) (start : Place) (Holds More : List Row → Type 0)
+      → ((log : List Row) → Holds log → More log) → OnGrowing shelf start b c Holds → OnGrowing shelf start a c More
+  growing_second shelf start Holds More keep on = λ rows log grew.
+      let now = grows_over shelf start a b first.store (grew_first shelf start a b c first.store then_.store grew) rows log.walks log.ends in
+      let later = on now.0 (record { walks = now.2; ends = now.3 }) (grew_second shelf start a b c first.store then_.store grew) in
+      (later.0, log_second a b c first.store then_.store rows now.0 later.0 now.1 later.1, keep later.0 later.2)
+
+  module _ (Holds More : Plan → Type 0) (keep : (plan : Plan) → Holds plan → More plan) where
+    pub listing_second : (l : Listing) → OnGrowingListing l b c Holds → OnGrowingListing l a c More
+    listing_second l on = λ keeps.
+        growing_second (shelf_of l.form) l.start (λ log. Holds (listing_plan l log Done)) (λ log. More (listing_plan l log Done))
+        (λ log. keep (listing_plan l log Done)) (on (for_second l.form a b c first.store then_.store keeps))
+
+    last_second : (entries : Entries) (n : ℕ) (from : Option ℕ) → OnGrowingLast entries n from b c Holds
+        → OnGrowingLast entries n from a c More
+    last_second entries n from on = growing_second Sel (start_of from) _ _
+        (λ counted later. (later.0, log_second a b c first.store then_.store counted counted later.0 (begins_refl counted) later.1, keep _ later.2)) on
+
+    pub inventories_second : (wording : Wording) (name : Option (List ℕ)) → OnGrowingInventories wording name b c Holds
+        → OnGrowingInventories wording name a c More
+    inventories_second wording name on = λ keeps.
+        growing_second Sdr First (λ log. Holds (inventories_plan wording name log Done)) (λ log. More (inventories_plan wording name log Done))
+        (λ log. keep (inventories_plan wording name log Done)) (on (keeps_second (λ (store : Store). store.inventories) a b c first.store then_.store keeps))
+
+    pub named_second : (wording : Wording) (records : List (List ℕ)) (named : Named)
+        → OnGrowingPlan (job_with wording records named) b c Holds → OnGrowingNamed wording records named a c More
+    named_second wording records (Named.Events Count.All from) on =
+        listing_second (listing (Form.EntryLine (entries_in wording records)) (start_of from) None) on
+    named_second wording records (Named.Events (Count.First n) from) on =
+        listing_second (listing (Form.EntryLine (entries_in wording records)) (start_of from) (Some n)) on
+    named_second wording records (Named.Events (Count.Last n) from) on = last_second (entries_in wording records) n from on
+    named_second wording records Named.Devices on = inventories_second wording (device_name 0 records) on
+
+-- a fact about every plan
+module _ (s s' : Seen) (honest : IsHonest s) (stays : KeepsStore s s') (Holds : Plan → Type 0) (holds : (plan : Plan) → Holds plan) where
+  pub named_growing : (wording : Wording) (records : List (List ℕ)) (named : Named) → OnGrowingNamed wording records named s s' Holds
+  named_growing wording records (Named.Events Count.All from) = λ keeps first log grew. (first, log_now s s' stays honest first log, holds _)
+  named_growing wording records (Named.Events (Count.First n) from) = λ keeps first log grew. (first, log_now s s' stays honest first log, holds _)
+  named_growing wording records (Named.Events (Count.Last n) from) = λ first log grew.
+      (first, log_now s s' stays honest first log, (first, log_now s s' stays honest first log, holds _))
+  named_growing wording records Named.Devices = λ keeps first log grew. (first, log_now s s' stays honest first log, holds _)
+
+  pub with_growing : (wording : Wording) (records : List (List ℕ)) (named : Named) → OnGrowingPlan (job_with wording records named) s s' Holds
+  with_growing wording records (Named.Events Count.All from) = named_growing wording records (Named.Events Count.All from)
+  with_growing wording records (Named.Events (Count.First n) from) = named_growing wording records (Named.Events (Count.First n) from)
+  with_growing wording records (Named.Events (Count.Last n) from) = named_growing wording records (Named.Events (Count.Last n) from)
+  with_growing wording records Named.Devices = named_growing wording records Named.Devices
+
+-- ---- inventories that did not change
+
+pub keeps_inventory : (id : ℕ) (s s' : Seen) → Keeps (λ store. store.inventories) s s' → Keeps (inventory_of id) s s'
+keeps_inventory id s s' keeps = keeps_through (λ (store : Store). store.inventories) (λ (l : List Inventory). inventory_in l id) s s' keeps
+
+if_keeps : (b : Bool) (spots : List Spot) (s s' : Seen) → KeepsAt spots s s' → KeepsAt (cond b spots []) s s'
+if_keeps true spots s s' keeps = keeps
+if_keeps false spots s s' keeps = tt
+
+reading_keeps : (id : ℕ) (view : Result SdrView SdrFault) (s s' : Seen) → KeepsAt (reading_spots id view) s s'
+reading_keeps id (Ok view) s s' = if_keeps (is_some (sdr.reading_of view)) (AtRecord id ∷ []) s s' tt
+reading_keeps id (Err fault) s s' = tt
+
+named_keeps : (name : List ℕ) (id : ℕ) (view : Result SdrView SdrFault) (s s' : Seen) → KeepsAt (named_spots name id view) s s'
+named_keeps name id (Ok view) s s' = if_keeps _ (reading_spots id (Ok view)) s s' (reading_keeps id (Ok view) s s')
+named_keeps name id (Err fault) s s' = tt
+
+device_keeps : (device : Option ℕ) (s s' : Seen) → Keeps (λ store. store.inventories) s s' → KeepsAt (device_spots device) s s'
+device_keeps None s s' keeps = tt
+device_keeps (Some id) s s' keeps = by (id == 0)
+  where
+    by : (b : Bool) → KeepsAt (cond b [] (AtInventory id ∷ [])) s s'
+    by true = tt
+    by false = (keeps_inventory id s s' keeps, tt)
+
+locator_keeps : (view : Result SdrView SdrFault) (s s' : Seen) → Keeps (λ store. store.inventories) s s' → KeepsAt (locator_spots view) s s'
+locator_keeps (Ok view) s s' keeps = device_keeps (sdr.fru_of view) s s' keeps
+locator_keeps (Err fault) s s' keeps = tt
+
+row_keeps : (form : Form) (row : Row) (s s' : Seen) → KeepsFor form s s' → KeepsAt (spots_because_of form row) s s'
+row_keeps (Form.Line detail kind) row s s' keeps = if_keeps _ (reading_spots row.id (sdr_view_of row.bytes)) s s' (reading_keeps row.id (sdr_view_of row.bytes) s s')
+row_keeps (Form.Block wording name) row s s' keeps = named_keeps name row.id (sdr_view_of row.bytes) s s'
+row_keeps (Form.Device wording) row s s' keeps = locator_keeps (sdr_view_of row.bytes) s s' keeps
+row_keeps _ row s s' keeps = tt
+
+-- no store was added
+pub keeps_at_same : (spots : List Spot) (s s' : Seen) → KeepsStore s s' → s'.stores_added ≡ s.stores_added → KeepsAt spots s s'
+keeps_at_same [] s s' keeps same = tt
+keeps_at_same (AtRecord n ∷ spots) s s' keeps same = keeps_at_same spots s s' keeps same
+keeps_at_same (AtInventory id ∷ spots) s s' keeps same = (keeps_same (inventory_of id) s s' keeps same, keeps_at_same spots s s' keeps same)
+
+-- ---- the texts of steps
+
+module _ (form : Form) (first last : Seen) (keeps : KeepsFor form first last) where
+  abbrev W : Subject → List ℕ → Type 0
+  W = IsTextWhile first last
+
+  -- the text of one record, over the store after its requests
+  pub text_while : (row : Row) (s s' : Seen) (text : List ℕ) → StaysHonest first s → StaysHonest s s'
+      → StaysHonest s' last → IsTextAfter form row s s' text → W (OfRow form row) text
+  text_while row s s' text before stays after is =
+      let to_here = stays_trans first s s' before stays in
+      let whole = for_first form first s' last to_here.store after.store keeps in
+      while_first first s' last to_here.store after.store (OfRow form row) text
+      (while_last first s' (OfRow form row) text (is (row_keeps form row s s' (for_second form first s s' before.store stays.store whole))))
+
+  of_result : (result : Result (Option Row) Ended) (rows : List Row) (s s' : Seen) (start : Place) (text one rest : List ℕ)
+      → StaysHonest first s → StaysHonest s s' → StaysHonest s' last → IsTextOfResult form result s s' one
+      → ((at : Place) → AreTexts W (row_items form at rows) rest) → text ≡ one ++ rest
+      → AreTexts W (row_items form start (with_handed result rows)) text
+  of_result (Ok (Some row)) rows s s' start text one rest before stays after is more joined =
+      record { first = one; rest = rest; is_first = text_while row s s' one before stays after is; is_rest = more (place_after row.next); joined = joined }
+  of_result (Ok None) rows s s' start text one rest before stays after is more joined =
+      subst (AreTexts W (row_items form start rows)) (sym (joined ∙ ap (λ (l : List ℕ). l ++ rest) is)) (more start)
+  of_result (Err ended) rows s s' start text one rest before stays after is more joined =
+      subst (AreTexts W (row_items form start rows)) (sym (joined ∙ ap (λ (l : List ℕ). l ++ rest) is)) (more start)
+
+  -- from the next step on
+  next_stays : (c : CursorState) (s : Seen) (steps : List Stepped) (seen' : Seen) → IsHonest s → AreSteps c s steps → StaysHonest (seen_after s steps) seen'
+      → StaysHonest s (seen_next steps seen') × StaysHonest (seen_next steps seen') seen'
+  next_stays c s [] seen' honest are after = (after, stays_refl seen' after.honest)
+  next_stays c s (step ∷ steps) seen' honest are after = (
+    are.0,
+    let made = (are.1.honest are.0.honest).stays in
+        stays_trans step.before step.seen seen' made (stays_trans step.seen (seen_after step.seen steps) seen' (steps_stay step.cursor step.seen steps made.honest are.2) after),
+  )
+
+  steps_texts : (c : CursorState) (s : Seen) (steps : List Stepped) (start : Place) (seen' : Seen) (text : List ℕ)
+      → StaysHonest first s → AreSteps c s steps → StaysHonest (seen_after s steps) seen' → StaysHonest seen' last
+      → AreTextsOfSteps form steps seen' text → AreTexts W (row_items form start (handed_out steps)) text
+  steps_texts c s [] start seen' text before are stays after texts = texts
+  steps_texts c s (step ∷ steps) start seen' text before are stays after texts =
+      let made = (are.1.honest are.0.honest).stays in
+      let to_here = stays_trans first s step.seen before (stays_trans s step.before step.seen are.0 made) in
+      let next = next_stays step.cursor step.seen steps seen' made.honest are.2 stays in
+      of_result step.result (handed_out steps) step.seen (seen_next steps seen') start text texts.first texts.rest to_here next.0
+      (stays_trans (seen_next steps seen') seen' last next.1 after) texts.is_first
+      (λ at. steps_texts step.cursor step.seen steps at seen' texts.rest to_here are.2 stays after texts.is_rest) texts.joined
+
+  pub steps_printed : (c : CursorState) (s : Seen) (steps : List Stepped) (start : Place) (seen' : Seen) (old new : List ℕ)
+      → StaysHonest first s → AreSteps c s steps → StaysHonest (seen_after s steps) seen' → StaysHonest seen' last
+      → PrintsSteps form steps seen' old new → Printed W (row_items form start (handed_out steps)) old new
+  steps_printed c s steps start seen' old new before are stays after printed =
+      record { text = printed.text; are = steps_texts c s steps start seen' printed.text before are stays after printed.are; new_is = printed.new_is }

@@ -1,0 +1,222 @@
+-- The steps of a listing's cursor, and what was printed of the records that they returned.
+use Rattle.std.proofs.Common.{◌≡◌, ℕ, ◌+◌, ◌<◌, Bool, true, false, Option, None, Some, Result, Ok, Err, List, [], ◌∷◌, ◌++◌, inl, inr, length, refl, sym, ap, subst, ◌∙◌, arith, append-nil, append_assoc, length-append}
+use Rattle.ipmi_commands.specs.Below.{AreSteps, asked_at, cursor_after, CursorState, Ended, Failure, handed_out, IsHonest, IsStep, Row, Seen, seen_after, StaysHonest, StepLeaves, Stepped, stays_refl, TakesPart, with_handed}
+use Rattle.ipmi_commands.specs.Traced.{AreTextsOfSteps, HasResult, IsListed, IsStopAmong, IsTextAfter, IsTextOfResult, IsTraced, IsWithin, PrintsSteps, ReturnsLast, seen_next, StopsThere, TracesListing}
+use Rattle.ipmi_commands.specs.Prelude.{cause_of_unread, Change, change, end_of, failure_of, Form, spots_because_of, Unread}
+use Rattle.ipmi_commands.proofs.NameLemmas.{Wrote}
+
+-- ---- one more step
+
+steps_more : (c : CursorState) (s : Seen) (steps : List Stepped) (step : Stepped) → AreSteps c s steps
+    → StaysHonest (seen_after s steps) step.before
+    → IsStep (cursor_after c steps) step.cursor step.before step.seen step.result
+    → AreSteps c s (steps ++ step ∷ [])
+steps_more c s [] step are stays made = (stays, made, tt)
+steps_more c s (one ∷ steps) step are stays made = (are.0, are.1, steps_more one.cursor one.seen steps step are.2 stays made)
+
+cursor_more : (c : CursorState) (steps : List Stepped) (step : Stepped)
+    → cursor_after c (steps ++ step ∷ []) ≡ step.cursor
+cursor_more c [] step = refl
+cursor_more c (one ∷ steps) step = cursor_more one.cursor steps step
+
+seen_more : (s : Seen) (steps : List Stepped) (step : Stepped)
+    → seen_after s (steps ++ step ∷ []) ≡ step.seen
+seen_more s [] step = refl
+seen_more s (one ∷ steps) step = seen_more one.seen steps step
+
+with_more : (result : Result (Option Row) Ended) (rows more : List Row)
+    → with_handed result (rows ++ more) ≡ with_handed result rows ++ more
+with_more (Ok (Some row)) rows more = refl
+with_more (Ok None) rows more = refl
+with_more (Err ended) rows more = refl
+
+pub handed_joined : (steps more : List Stepped) → handed_out (steps ++ more) ≡ handed_out steps ++ handed_out more
+handed_joined [] more = refl
+handed_joined (one ∷ steps) more = rw (handed_joined steps more) (with_more one.result (handed_out steps) (handed_out more))
+
+has_last : (steps : List Stepped) (step : Stepped) → HasResult step.result (steps ++ step ∷ [])
+has_last [] step = inl refl
+has_last (one ∷ steps) step = inr (has_last steps step)
+
+-- ---- its text
+
+next_more : (steps : List Stepped) (step : Stepped) (last : Seen)
+    → seen_next (steps ++ step ∷ []) last ≡ seen_next steps step.before
+next_more [] step last = refl
+next_more (one ∷ steps) step last = refl
+
+texts_more : (form : Form) (steps : List Stepped) (step : Stepped) (last : Seen) (a b : List ℕ)
+    → AreTextsOfSteps form steps step.before a → IsTextOfResult form step.result step.seen last b
+    → AreTextsOfSteps form (steps ++ step ∷ []) last (a ++ b)
+texts_more form [] step last a b are is = record { first = b; rest = []; is_first = is; is_rest = refl; joined = rw are (sym (append-nil b)) }
+texts_more form (one ∷ steps) step last a b are is = record {
+  first = are.first;
+  rest = are.rest ++ b;
+  is_first = subst (λ (s : Seen). IsTextOfResult form one.result one.seen s are.first) (sym (next_more steps step last)) are.is_first;
+  is_rest = texts_more form steps step last are.rest b are.is_rest is;
+  joined = ap (λ (l : List ℕ). l ++ b) are.joined ∙ append_assoc are.first are.rest b;
+}
+
+prints_more : (form : Form) (steps : List Stepped) (step : Stepped) (last : Seen) (old mid new text : List ℕ)
+    → PrintsSteps form steps step.before old mid → IsTextOfResult form step.result step.seen last text
+    → new ≡ mid ++ text → PrintsSteps form (steps ++ step ∷ []) last old new
+prints_more form steps step last old mid new text before is written = record {
+  text = before.text ++ text;
+  are = texts_more form steps step last before.text text before.are is;
+  new_is = written ∙ ap (λ (l : List ℕ). l ++ text) before.new_is ∙ append_assoc old before.text text;
+}
+
+-- ---- a listing that goes on
+
+pub record Tracing (form : Form) (count : ℕ) (begun now : CursorState) (c : Change) : Type 0 where
+  pub steps : List Stepped
+  pub traced : IsTraced begun now c.seen c.seen' steps
+  pub printed : PrintsSteps form steps c.seen' c.old c.new
+  pub count_is : count ≡ length (handed_out steps)
+
+pub traced_none : (form : Form) (begun : CursorState) (s : Seen) (text : List ℕ) → IsHonest s
+    → Tracing form 0 begun begun (change s s text text)
+traced_none form begun s text honest = record {
+  steps = [];
+  traced = record { are = tt; cursor = refl; stays = stays_refl s honest };
+  printed = record { text = []; are = refl; new_is = sym (append-nil text) };
+  count_is = refl;
+}
+
+module _ {form : Form} {count : ℕ} {begun now : CursorState} {s s' : Seen} {old new : List ℕ}
+    (t : Tracing form count begun now (change s s' old new)) {next : CursorState} {s'' : Seen}
+    {result : Result (Option Row) Ended} (step : IsStep now next s' s'' result) where
+  abbrev last_step : Stepped
+  last_step = record { before = s'; result = result; cursor = next; seen = s'' }
+
+  abbrev all_steps : List Stepped
+  all_steps = t.steps ++ last_step ∷ []
+
+  all_traced : (last : Seen) → StaysHonest s'' last → IsTraced begun next s last all_steps
+  all_traced last stays = record {
+    are = steps_more begun s t.steps last_step t.traced.are t.traced.stays (subst (λ (c : CursorState). IsStep c next s' s'' result) (sym t.traced.cursor) step);
+    cursor = cursor_more begun t.steps last_step;
+    stays = rw (seen_more s t.steps last_step) stays;
+  }
+
+  handed_more : handed_out all_steps ≡ handed_out t.steps ++ with_handed result []
+  handed_more = handed_joined t.steps (last_step ∷ [])
+
+  -- a step without a record has no text
+  none_more : (last : Seen) → IsTextOfResult form result s'' last [] → PrintsSteps form all_steps last old new
+  none_more last is = prints_more form t.steps last_step last old new new [] t.printed is (sym (append-nil new))
+
+-- ---- a listing that ends
+
+-- after its last record
+pub traced_whole : (form : Form) (wrote : Bool) (count : ℕ) {most : Option ℕ} {begun now : CursorState}
+    {c : Change} (steps : List Stepped) → IsTraced begun now c.seen c.seen' steps
+    → IsListed form most now steps c count → Wrote wrote c.old c.new
+    → TracesListing form most begun now c (end_of form wrote count)
+traced_whole (Form.Block wording name) false count steps traced listed none = record {
+  steps = steps;
+  traced = traced;
+  ends = inr (inr (inr (record { wording = wording; name = name; searched = refl; is = refl; count = count; listed = listed; nothing = none })));
+}
+traced_whole (Form.Block wording name) true count steps traced listed some = record { steps = steps; traced = traced; ends = (listed, some) }
+traced_whole _ wrote count steps traced listed has = record { steps = steps; traced = traced; ends = (listed, tt) }
+
+-- at its limit
+pub traced_full : {form : Form} (wrote : Bool) {count : ℕ} {begun now : CursorState} {s s' : Seen}
+    {old new : List ℕ} (most : Option ℕ) → Tracing form count begun now (change s s' old new)
+    → most ≡ Some count → IsWithin most count → Wrote wrote old new
+    → TracesListing form most begun now (change s s' old new) (end_of form wrote count)
+traced_full {form} wrote {count} most t limit within has =
+    traced_whole form wrote count t.steps t.traced (record { count_is = t.count_is; within = within; done = inl limit; printed = t.printed }) has
+
+stops_there : (now next : CursorState) (ended : Ended) → StepLeaves now next (Err ended) → StopsThere next ended
+stops_there now next (Ended.GaveUp n) leaves = let f = leaves.1 in (f.asked ∙ ap asked_at (sym f.stays.place), λ e. f.not_at_end (sym f.stays.place ∙ e))
+stops_there now next (Ended.Refused n code) leaves = let f = leaves.1 in (f.asked ∙ ap asked_at (sym f.stays.place), λ e. f.not_at_end (sym f.stays.place ∙ e))
+stops_there now next _ leaves = tt
+
+-- the cursor returned no record, for this reason
+pub traced_ended : {form : Form} {count : ℕ} {begun now : CursorState} {s s' : Seen}
+    {old new : List ℕ} (most : Option ℕ) (t : Tracing form count begun now (change s s' old new))
+    {next : CursorState} {s'' : Seen} (ended : Ended) (step : IsStep now next s' s'' (Err ended))
+    → IsHonest s' → IsWithin most (count + 1)
+    → TracesListing form most begun next (change s s'' old new) (Err (Failure.Ended ended))
+traced_ended {form} {count} {begun} {now} {s} {s'} {old} {new} most t {next} {s''} ended step honest within =
+    let rows : handed_out (all_steps t step) ≡ handed_out t.steps = handed_more t step ∙ append-nil (handed_out t.steps) in
+    let here : count + 1 ≡ length (handed_out (all_steps t step)) + 1 = omega (arith, t.count_is, ap (length {A = Row}) rows) in
+    record {
+      steps = all_steps t step;
+      traced = all_traced t step s'' (stays_refl s'' (step.honest honest).stays.honest);
+      ends = inl (record {
+        ended = ended;
+        is = refl;
+        returned = has_last t.steps (last_step t step);
+        there = stops_there now next ended step.leaves;
+        within = subst (IsWithin most) here within;
+        printed = none_more t step s'' refl;
+      });
+    }
+
+-- there are no more records
+pub traced_done : {form : Form} (wrote : Bool) {count : ℕ} {begun now : CursorState} {s s' : Seen}
+    {old new : List ℕ} (most : Option ℕ) (t : Tracing form count begun now (change s s' old new))
+    {next : CursorState} {s'' : Seen} (step : IsStep now next s' s'' (Ok None))
+    → IsHonest s' → IsWithin most count → Wrote wrote old new
+    → TracesListing form most begun next (change s s'' old new) (end_of form wrote count)
+traced_done {form} wrote {count} {begun} {now} {s} {s'} {old} {new} most t {next} {s''} step honest within has =
+    let rows : handed_out (all_steps t step) ≡ handed_out t.steps = handed_more t step ∙ append-nil (handed_out t.steps) in
+    traced_whole form wrote count (all_steps t step) (all_traced t step s'' (stays_refl s'' (step.honest honest).stays.honest))
+    (record { count_is = t.count_is ∙ ap (length {A = Row}) (sym rows); within = within; done = inr step.leaves.1.place; printed = none_more t step s'' refl })
+    has
+
+-- a record was returned
+module _ {form : Form} {count : ℕ} {begun now : CursorState} {s s' : Seen} {old new : List ℕ}
+    (most : Option ℕ) (t : Tracing form count begun now (change s s' old new)) {next : CursorState} {s'' : Seen}
+    {row : Row} (step : IsStep now next s' s'' (Ok (Some row))) (last : Seen)
+    (stays : StaysHonest s'' last) where
+  count_more : count + 1 ≡ length (handed_out (all_steps t step))
+  count_more = ap (λ (n : ℕ). n + 1) t.count_is ∙ sym (ap (length {A = Row}) (handed_more t step) ∙ length-append (handed_out t.steps) (row ∷ []))
+
+  returns_last : IsWithin most (count + 1) → ReturnsLast most (all_steps t step) t.steps (last_step t step) row
+  returns_last within = record { are = refl; returned = refl; within = subst (IsWithin most) count_more within }
+
+  -- its text was not found
+  pub traced_lost : IsWithin most (count + 1) → (unread : Unread)
+      → IsStopAmong (spots_because_of form row) (cause_of_unread unread)
+      → TracesListing form most begun next (change s last old new) (Err (failure_of unread))
+  traced_lost within unread there = record {
+    steps = all_steps t step;
+    traced = all_traced t step last stays;
+    ends = inr (inl (record { done = t.steps; step = last_step t step; row = row; last = returns_last within; there = there; printed = t.printed }));
+  }
+
+  -- a part of its text was written
+  pub traced_cut : IsWithin most (count + 1) → (text piece_text : List ℕ) → IsTextAfter form row s'' last piece_text
+      → 0 < length piece_text → TakesPart new text piece_text
+      → TracesListing form most begun next (change s last old text) (Err Failure.WriteFault)
+  traced_cut within text piece_text is some part = record {
+    steps = all_steps t step;
+    traced = all_traced t step last stays;
+    ends = inr (inr (inl (record {
+      done = t.steps;
+      step = last_step t step;
+      row = row;
+      last = returns_last within;
+      is = refl;
+      before = new;
+      printed = t.printed;
+      text = piece_text;
+      is_text = is;
+      some = some;
+      part = part;
+    })));
+  }
+
+  -- its text was written
+  pub traced_more : (text piece_text : List ℕ) → IsTextAfter form row s'' last piece_text
+      → text ≡ new ++ piece_text → Tracing form (count + 1) begun next (change s last old text)
+  traced_more text piece_text is written = record {
+    steps = all_steps t step;
+    traced = all_traced t step last stays;
+    printed = prints_more form t.steps (last_step t step) last old new text piece_text t.printed is written;
+    count_is = count_more;
+  }

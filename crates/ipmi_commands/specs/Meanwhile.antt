@@ -1,0 +1,33 @@
+-- What may be printed while a controller's store changes: readings at any time, and records that are
+-- appended.
+use Rattle.std.specs.Prelude.{ℕ, List, [], ◌∷◌}
+use Rattle.ipmi_commands.specs.Below.{Done, inventory_of, Keeps, OnGrowing, Seen, Store, WasHeld}
+use Rattle.ipmi_commands.specs.declared.job.Form.{Form}
+use Rattle.ipmi_commands.specs.declared.job.Listing.{Listing}
+use Rattle.ipmi_commands.specs.Job.{shelf_of}
+use Rattle.ipmi_commands.specs.Plan.{listing_plan, Plan, Spot, AtRecord, AtInventory}
+use Rattle.ipmi_commands.specs.Texts.{IsTextOver, Subject}
+
+-- a text of the subject over a store that the controller held meanwhile
+pub record IsTextWhile (s s' : Seen) (subject : Subject) (text : List ℕ) : Type 0 where
+  pub store : Store
+  pub held : WasHeld s s' store
+  pub is : IsTextOver store subject text
+
+-- the inventories at these spots did not change from the first state to the second
+abbrev pub KeepsAt : List Spot → Seen → Seen → Type 0
+KeepsAt [] s s' = Unit {0}
+KeepsAt (AtRecord n ∷ spots) s s' = KeepsAt spots s s'
+KeepsAt (AtInventory id ∷ spots) s s' = Keeps (inventory_of id) s s' × KeepsAt spots s s'
+
+-- if inventories are printed in this form, none changed
+abbrev pub KeepsFor : Form → Seen → Seen → Type 0
+KeepsFor (Form.Device wording) s s' = Keeps (λ store. store.inventories) s s'
+KeepsFor form s s' = Unit {0}
+
+-- ---- records that are appended
+
+-- `Holds` for the plan of a listing over the log as it was meanwhile, if it only grew
+abbrev pub OnGrowingListing : Listing → Seen → Seen → (Plan → Type 0) → Type 0
+OnGrowingListing l s s' Holds = KeepsFor l.form s s'
+    → OnGrowing (shelf_of l.form) l.start s s' (λ log. Holds (listing_plan l log Done))

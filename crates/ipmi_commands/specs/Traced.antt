@@ -1,0 +1,178 @@
+-- What a listing printed, by the steps of its cursor, whatever the store did meanwhile.
+use Rattle.std.specs.Prelude.{◌≡◌, ◌≢◌, ◌⊎◌, ◌+◌, ◌<◌, ◌≤◌, ℕ, Option, None, Some, Result, Ok, Err, List, [], ◌∷◌, ◌++◌, length}
+use Rattle.std.specs.FinSet as set
+use Rattle.ipmi_commands.specs.Below.{AreSteps, asked_at, cursor_after, CursorState, End, Ended, Ending, Failure, handed_out, Id, Place, Row, Seen, seen_after, StaysHonest, Stepped, TakesPart}
+use Rattle.ipmi_commands.specs.declared.job.Form.{Form}
+use Rattle.ipmi_commands.specs.declared.job.Wording.{Wording}
+use Rattle.ipmi_commands.specs.Allowed.{Cause, Change, cause_of, ending_of, GaveUp, IsAmong, NoMemory, Refused, TextsJoined}
+use Rattle.ipmi_commands.specs.Job.{shelf_of}
+use Rattle.ipmi_commands.specs.Meanwhile.{KeepsAt}
+use Rattle.ipmi_commands.specs.Plan.{Spot, spots_because_of}
+use Rattle.ipmi_commands.specs.Texts.{IsRowText}
+
+-- the cursor made these steps; after the last one the controller may have got other requests
+pub record IsTraced (begun now : CursorState) (s s' : Seen) (steps : List Stepped) : Type 0 where
+  pub are : AreSteps begun s steps
+  pub cursor : cursor_after begun steps ≡ now
+  pub stays : StaysHonest (seen_after s steps) s'
+
+-- ---- the texts of the returned records
+
+-- The text of a record in this form, after the requests that it needs. Its reading is the one that
+-- the controller had as these ended, and so is its inventory, unless that changed while it was read.
+abbrev pub IsTextAfter : Form → Row → Seen → Seen → List ℕ → Type 0
+IsTextAfter form row s s' text = KeepsAt (spots_because_of form row) s s' → IsRowText s'.store form row text
+
+-- the text of what a step returned; nothing if that is no record
+abbrev pub IsTextOfResult : Form → Result (Option Row) Ended → Seen → Seen → List ℕ → Type 0
+IsTextOfResult form (Ok (Some row)) s s' text = IsTextAfter form row s s' text
+IsTextOfResult form _ s s' text = text ≡ []
+
+-- the controller before the next step, or at last
+abbrev pub seen_next : List Stepped → Seen → Seen
+seen_next [] last = last
+seen_next (step ∷ steps) last = step.before
+
+-- the texts of what the steps returned, in order
+abbrev pub AreTextsOfSteps : Form → List Stepped → Seen → List ℕ → Type 0
+AreTextsOfSteps form [] last text = text ≡ []
+AreTextsOfSteps form (step ∷ steps) last text = TextsJoined
+    (λ first. IsTextOfResult form step.result step.seen (seen_next steps last) first)
+    (λ rest. AreTextsOfSteps form steps last rest) text
+
+-- they were printed
+pub record PrintsSteps (form : Form) (steps : List Stepped) (last : Seen)
+    (old new : List ℕ) : Type 0 where
+  pub text : List ℕ
+  pub are : AreTextsOfSteps form steps last text
+  pub new_is : new ≡ old ++ text
+
+-- ---- how the listing ended
+
+-- the count is within the limit
+abbrev pub IsWithin : Option ℕ → ℕ → Type 0
+IsWithin None count = Unit {0}
+IsWithin (Some n) count = count ≤ n
+
+-- the limit was reached, or there are no more records; all texts were printed
+pub record IsListed (form : Form) (most : Option ℕ) (now : CursorState) (steps : List Stepped)
+    (c : Change) (count : ℕ) : Type 0 where
+  pub count_is : count ≡ length (handed_out steps)
+  pub within : IsWithin most count
+  pub done : (most ≡ Some count) ⊎ (now.place ≡ End)
+  pub printed : PrintsSteps form steps c.seen' c.old c.new
+
+-- one of the steps had this result
+abbrev pub HasResult : Result (Option Row) Ended → List Stepped → Type 0
+HasResult result [] = ⊥
+HasResult result (step ∷ steps) = (step.result ≡ result) ⊎ HasResult result steps
+
+-- given up or refused at the record that the cursor requests next
+abbrev pub StopsThere : CursorState → Ended → Type 0
+StopsThere now (Ended.GaveUp n) = (n ≡ asked_at now.place) × (now.place ≢ End)
+StopsThere now (Ended.Refused n code) = (n ≡ asked_at now.place) × (now.place ≢ End)
+StopsThere now _ = Unit {0}
+
+-- a step returned no record, for this reason, before the limit; all texts were printed
+pub record StepFails (form : Form) (most : Option ℕ) (now : CursorState) (steps : List Stepped)
+    (c : Change) (failure : Failure) : Type 0 where
+  pub ended : Ended
+  pub is : failure ≡ Failure.Ended ended
+  pub returned : HasResult (Err ended) steps
+  pub there : StopsThere now ended
+  pub within : IsWithin most (length (handed_out steps) + 1)
+  pub printed : PrintsSteps form steps c.seen' c.old c.new
+
+-- the last step returned this record, within the limit
+pub record ReturnsLast (most : Option ℕ) (steps done : List Stepped) (step : Stepped) (row : Row) : Type 0 where
+  pub are : steps ≡ done ++ (step ∷ [])
+  pub returned : step.result ≡ Ok (Some row)
+  pub within : IsWithin most (length (handed_out steps))
+
+-- gives up or is refused at one of the spots, or is out of memory
+abbrev pub IsStopAmong : List Spot → Cause → Type 0
+IsStopAmong spots (GaveUp spot) = IsAmong spots spot
+IsStopAmong spots (Refused spot code) = IsAmong spots spot
+IsStopAmong spots NoMemory = Unit {0}
+IsStopAmong spots _ = ⊥
+
+-- the text of the last record is missing: its reading or inventory was given up or refused, or memory
+-- ran out; the texts before it were printed
+pub record TextFails (form : Form) (most : Option ℕ) (steps : List Stepped) (c : Change)
+    (failure : Failure) : Type 0 where
+  pub done : List Stepped
+  pub step : Stepped
+  pub row : Row
+  pub last : ReturnsLast most steps done step row
+  pub there : IsStopAmong (spots_because_of form row) (cause_of (Err failure))
+  pub printed : PrintsSteps form done step.before c.old c.new
+
+-- the output failed in the text of the last record; the texts before it were printed
+pub record TextIsCut (form : Form) (most : Option ℕ) (steps : List Stepped) (c : Change)
+    (failure : Failure) : Type 0 where
+  pub done : List Stepped
+  pub step : Stepped
+  pub row : Row
+  pub last : ReturnsLast most steps done step row
+  pub is : failure ≡ Failure.WriteFault
+  pub before : List ℕ
+  pub printed : PrintsSteps form done step.before c.old before
+  pub text : List ℕ
+  pub is_text : IsTextAfter form row step.seen c.seen' text
+  pub some : 0 < length text
+  pub part : TakesPart before c.new text
+
+-- no record had the name: nothing was printed
+pub record NoneNamed (form : Form) (most : Option ℕ) (now : CursorState) (steps : List Stepped)
+    (c : Change) (failure : Failure) : Type 0 where
+  pub wording : Wording
+  pub name : List ℕ
+  pub searched : form ≡ Form.Block wording name
+  pub is : failure ≡ Failure.NoName name
+  pub count : ℕ
+  pub listed : IsListed form most now steps c count
+  pub nothing : c.new ≡ c.old
+
+abbrev pub Fails : Form → Option ℕ → CursorState → List Stepped → Change → Failure → Type 0
+Fails form most now steps c failure =
+    StepFails form most now steps c failure ⊎ TextFails form most steps c failure
+    ⊎ TextIsCut form most steps c failure ⊎ NoneNamed form most now steps c failure
+
+-- a search for a name printed something
+abbrev pub IsFound : Form → List ℕ → List ℕ → Type 0
+IsFound (Form.Block wording name) old new = length old < length new
+IsFound form old new = Unit {0}
+
+abbrev pub EndsTrace : Form → Option ℕ → CursorState → List Stepped → Change → Result ℕ Failure → Type 0
+EndsTrace form most now steps c (Ok count) =
+    IsListed form most now steps c count × IsFound form c.old c.new
+EndsTrace form most now steps c (Err failure) = Fails form most now steps c failure
+
+-- a listing over an honest controller, whatever its store does: the steps of its cursor, and the texts
+-- of the records that they returned
+pub record TracesListing (form : Form) (most : Option ℕ) (begun now : CursorState) (c : Change)
+    (result : Result ℕ Failure) : Type 0 where
+  pub steps : List Stepped
+  pub traced : IsTraced begun now c.seen c.seen' steps
+  pub ends : EndsTrace form most now steps c result
+
+-- the same of a listing with a new cursor; without memory for the cursor, nothing was done
+pub record TracesFrom (form : Form) (start : Place) (most : Option ℕ) (c : Change)
+    (ending : Ending) : Type 0 where
+  pub begun : CursorState
+  pub now : CursorState
+  pub result : Result ℕ Failure
+  pub is : ending ≡ ending_of result
+  pub shelf : begun.shelf ≡ shelf_of form
+  pub place : begun.place ≡ start
+  pub ids : begun.ids ≡ set.empty
+  pub traces : TracesListing form most begun now c result
+
+abbrev pub HasNoCursor : Change → Ending → Type 0
+HasNoCursor c ending =
+    (ending ≡ Err Failure.OutOfMemory) × (c.seen' ≡ c.seen) × (c.new ≡ c.old)
+
+-- a listing from id 0000h makes no step
+abbrev pub Traces : Form → Place → Option ℕ → Change → Ending → Type 0
+Traces form start most c ending =
+    start ≢ Id 0 → HasNoCursor c ending ⊎ TracesFrom form start most c ending
