@@ -12,7 +12,8 @@ BeginsWith [] later = Unit {0}
 BeginsWith (row ∷ rows) [] = ⊥
 BeginsWith (row ∷ rows) (now ∷ later) = SameRecord row now × BeginsWith rows later
 
--- a walk that ends with Done still begins with the same records, and still ends with Done
+-- if the first rows have a walk that ends with Done: the later ones have one too, which begins with its
+-- records
 abbrev pub Grows : Place → List Row → List Row → Type 0
 Grows start rows later =
     (walk : List Row) → IsWalk rows start walk → EndsBy rows start walk Done

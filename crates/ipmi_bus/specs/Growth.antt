@@ -34,8 +34,8 @@ pub record IsLog (shelf : Shelf) (start : Place) (store : Store) (walk : List Ro
   pub walks : IsWalk (rows_of shelf store) start walk
   pub ends : EndsBy (rows_of shelf store) start walk Done
 
--- The log of a store that the controller held from the first state to the second. It begins with the
--- records of the first log, in order; others may follow.
+-- The log of a store that the controller held at the first state, at the second or between them. It
+-- begins with the records of the log `first`, in order; others may follow.
 pub record WasLog (shelf : Shelf) (start : Place) (s s' : Seen) (first log : List Row) : Type 0 where
   pub store : Store
   pub held : WasHeld s s' store
@@ -43,8 +43,8 @@ pub record WasLog (shelf : Shelf) (start : Place) (s s' : Seen) (first log : Lis
   pub is_log : IsLog shelf start store log
   pub grown : BeginsWith first log
 
--- if the walk from the start ended with Done at first, and then only grew: `Holds` for a log as it
--- was meanwhile
+-- if the walk from the start ended with Done at first, and then only grew: there is a log, held
+-- meanwhile, for which `Holds`
 abbrev pub OnGrowing : Shelf → Place → Seen → Seen → (List Row → Type 0) → Type 0
 OnGrowing shelf start s s' Holds =
     (first : List Row) → IsLog shelf start s.store first → OnlyGrew shelf start s s'
@@ -52,7 +52,7 @@ OnGrowing shelf start s s' Holds =
 
 -- ---- steps
 
--- of the store at the end of some step
+-- `Holds` for the store at the end of some step
 abbrev pub AtSomeEnd : (Store → Type 0) → List Stepped → Type 0
 AtSomeEnd Holds [] = ⊥
 AtSomeEnd Holds (step ∷ steps) = Holds step.seen.store ⊎ AtSomeEnd Holds steps

@@ -1,4 +1,4 @@
--- The stores that a controller held from one state to another.
+-- The stores that a controller held at one state, at a later one and between them.
 use Rattle.std.specs.Prelude.{◌≡◌, ◌⊎◌, List, [], ◌∷◌}
 use Rattle.ipmi_bus.specs.Store.{Store}
 use Rattle.ipmi_bus.specs.Seen.{Seen, held_over}
@@ -11,7 +11,7 @@ IsOneOf (one ∷ stores) store = (store ≡ one) ⊎ IsOneOf stores store
 abbrev pub WasHeld : Seen → Seen → Store → Type 0
 WasHeld s s' store = IsOneOf (held_over s s') store
 
--- what `of` gives for each of the stores is this value
+-- `of` gives this value for each of the stores
 abbrev pub AllGive : {V : Type 0} → (Store → V) → V → List Store → Type 0
 AllGive of value [] = Unit {0}
 AllGive of value (store ∷ stores) = (of store ≡ value) × AllGive of value stores

@@ -7,11 +7,11 @@ use Rattle.ipmi_bus.specs.Types.{Code, Sdr, Sel, Shelf}
 use Rattle.ipmi_bus.specs.Shelf.{KeepsRows}
 use Rattle.ipmi_bus.specs.Store.{Store, IsStore, rows_of}
 
--- `store` is what the controller holds. A store is added when another one replaces it; `earlier` are
--- the stores that were replaced, the latest first. The counters have no upper limit. `most_asked` is
--- the largest part asked for, in bytes; `last_asked` is that of the last call, 0 if it was not for a
--- part; `last_failure` is its code, if it failed. Fresh troubles are those since something was
--- finished. `last_code` is the code of the last refusal.
+-- `store` is what the controller holds. When its contents change, a store is added: it replaces
+-- `store`, and the one that it replaces becomes the first of `earlier`. The counters have no upper
+-- limit. `most_asked` is the largest part asked for, in bytes; `last_asked` is that of the last call,
+-- 0 if it was not for a part; `last_failure` is its code, if it failed. Fresh troubles are those since
+-- something was finished. `last_code` is the code of the last refusal.
 pub record Seen : Type 0 where
   pub store : Store
   pub earlier : List Store
@@ -95,7 +95,7 @@ pub record IsRefused (code : ℕ) (old new : Seen) : Type 0 where
 abbrev pub held : Seen → List Store
 held seen = seen.store ∷ seen.earlier
 
--- the stores that it held from the first state to the second, the latest first
+-- the stores that it held at the first state, at the second and between them, the latest first
 abbrev pub held_over : Seen → Seen → List Store
 held_over old new = new.store ∷ take (new.stores_added - old.stores_added) new.earlier
 
@@ -146,9 +146,9 @@ pub record IsChange (old new : Seen) : Type 0 where
   pub stays : StaysHonest old new
   pub one : new.stores_added ≤ old.stores_added + 1
 
--- No reservation of the shelf becomes current. If a store is added, one stays current only if the
--- shelf keeps its rows (IPMI v2.0, sections 31.4 and 33.11). An honest controller may cancel a reservation at any call; a plain one
--- cancels none.
+-- No reservation of the shelf becomes current. If a store is added, one stays current only if each id
+-- still requests the same record (reservations: IPMI v2.0, sections 31.4 and 33.11). An honest
+-- controller may cancel a reservation at any call; a plain one cancels none.
 pub record MayLoseReservation (shelf : Shelf) (old new : Seen) : Type 0 where
   pub none_given : (r : ℕ) → current shelf new ≡ Some r → current shelf old ≡ Some r
   pub kept_over_change : old.stores_added < new.stores_added → (r : ℕ)

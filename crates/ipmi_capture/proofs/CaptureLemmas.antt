@@ -1,5 +1,5 @@
 -- All phases of a capture, one after the other.
-use Rattle.std.proofs.Common.{Option, None, Some, ◌≡◌, ℕ, zero, suc, ◌<◌, true, false, IsTrue, List, [], ◌∷◌, length, take, get_or, map, ◌⊎◌, inl, inr, refl, sym, ap, subst, ◌∙◌, arith, All, Bool, slice_index_or}
+use Rattle.std.proofs.Common.{Option, None, Some, ◌≡◌, ℕ, zero, suc, ◌<◌, ◌==◌, ◌||◌, true, false, IsTrue, List, [], ◌∷◌, length, take, get_or, map, ◌⊎◌, inl, inr, refl, sym, ap, subst, ◌∙◌, arith, All, Bool, slice_index_or}
 use Rattle.std.proofs.lemmas.List.{length-map}
 use Rattle.std.proofs.lemmas.List.Folds.{list_all_at}
 use Rattle.std.proofs.lemmas.Bool.Decides.{nat_tests}
@@ -16,39 +16,40 @@ use Rattle.ipmi_capture.proofs.FoundLemmas.{is_marked, no_device}
 use Rattle.ipmi_capture.proofs.ReadLemmas.{adds_weaker, any_of_one, captures_with, Lasts, nothing_left, same_more, walk_more}
 use Rattle.ipmi_capture.proofs.WalkLemmas.{same_walk}
 
+-- each sensor that a record names is marked
+pub named_readings : (P : ℕ × ℕ → Type 0) (sensors : List Bool) (keys : List (ℕ × ℕ)) → All IsSensorKey keys
+    → AreMarks sensors (map sensor_place keys)
+    → ((key : ℕ × ℕ) → IsSensorKey key → slice_index_or sensors (sensor_place key) false ≡ true → P key) → All P keys
+named_readings P sensors keys are marks named = λ k d lt.
+    let len = length-map keys sensor_place in
+    let at = is_marked (map sensor_place keys) k (sensor_place d) (omega (arith, lt, len)) in
+    named (get_or keys k d) (are k d lt) (marks _ ∙ rw (get_or-map sensor_place keys k d) at at)
+
+-- and so is each device
+pub named_inventories : (P : ℕ → Type 0) (devices : List Bool) (ids : List ℕ) → All (λ id. id < 256) ids → AreMarks devices ids
+    → ((id : ℕ) → id < 255 → IsTrue ((id == 0) || slice_index_or devices id false) → P id) → P 255 → All P (0 ∷ ids)
+named_inventories P devices ids are marks named last = λ k d lt. by k d lt
+  where
+    real : (id : ℕ) → (id < 255) ⊎ (id ≡ 255) → slice_index_or devices id false ≡ true → P id
+    real id (inl lt) mark = named id lt (grind (arith, mark))
+    real id (inr is) mark = subst P (sym is) last
+
+    decide : (id : ℕ) → id < 256 → (id < 255) ⊎ (id ≡ 255)
+    decide id lt = grind (arith, nat_tests)
+
+    by : (k d : ℕ) → k < length (0 ∷ ids) → P (get_or (0 ∷ ids) k d)
+    by zero d lt = named 0 (omega arith) refl
+    by (suc k) d lt =
+        let id = get_or ids k d in
+        let below : k < length ids = omega (arith, lt) in
+        real id (decide id (are k d below)) (marks id ∙ is_marked ids k d below)
+
+-- FFh is no device
+pub neither : (image store : Store) → IsStore image → IsStore store → inventory_of 255 image ≡ inventory_of 255 store
+neither image store is_image is_store =
+    rw (no_device image.inventories is_image.inventories, no_device store.inventories is_store.inventories) refl
+
 module _ (left : List Left) (image store : Store) where
-  -- each sensor that a record names is marked
-  pub named_readings : (sensors : List Bool) (keys : List (ℕ × ℕ)) → All IsSensorKey keys
-      → AreMarks sensors (map sensor_place keys) → HasReadings sensors left image store
-      → All (ReadingOrLeft left image store) keys
-  named_readings sensors keys are marks has = λ k d lt.
-      let len = length-map keys sensor_place in
-      let at = is_marked (map sensor_place keys) k (sensor_place d) (omega (arith, lt, len)) in
-      has.named (get_or keys k d) (are k d lt) (marks _ ∙ rw (get_or-map sensor_place keys k d) at at)
-
-  pub named_inventories : IsStore image → IsStore store → (devices : List Bool) (ids : List ℕ)
-      → All (λ id. id < 256) ids → AreMarks devices ids → HasInventories devices left image store
-      → All (InventoryOrLeft left image store) (0 ∷ ids)
-  named_inventories is_image is_store devices ids are marks has = λ k d lt. by k d lt
-    where
-      neither : (id : ℕ) → id ≡ 255 → inventory_of id image ≡ inventory_of id store
-      neither id none = rw (none, no_device image.inventories is_image.inventories, no_device store.inventories is_store.inventories) refl
-
-      real : (id : ℕ) → (id < 255) ⊎ (id ≡ 255) → slice_index_or devices id false ≡ true
-          → InventoryOrLeft left image store id
-      real id (inl lt) mark = has.named id lt (grind (arith, mark))
-      real id (inr none) mark = inl (neither id none)
-
-      decide : (id : ℕ) → id < 256 → (id < 255) ⊎ (id ≡ 255)
-      decide id lt = grind (arith, nat_tests)
-
-      by : (k d : ℕ) → k < length (0 ∷ ids) → InventoryOrLeft left image store (get_or (0 ∷ ids) k d)
-      by zero d lt = has.named 0 (omega arith) refl
-      by (suc k) d lt =
-          let id = get_or ids k d in
-          let below : k < length ids = omega (arith, lt) in
-          real id (decide id (are k d below)) (marks id ∙ is_marked ids k d below)
-
   pub is_capture : IsStore image → IsStore store → AreWalk Sdr left store image.sdr
       → AreWalk Sel left store image.sel
       → SameOrLeft (LacksInfo Sdr) left (info_of Sdr image) (info_of Sdr store)
@@ -149,6 +150,21 @@ module _ (left : List Left) (nothing : IsTrue (list_all leaves_nothing left)) wh
     own_inventories = but.own_inventories;
   }
 
+noted : (shelf : Shelf) (e : Ended) (at end : WalkEnd) → NotesEnd shelf at (Left.Records shelf e) → end ≡ at
+    → EndIsNoted shelf (Left.Records shelf e ∷ []) end
+noted shelf e at end notes is = inr (any_of_one (NotesEnd shelf end) (Left.Records shelf e)
+    (subst (λ (x : WalkEnd). NotesEnd shelf x (Left.Records shelf e)) (sym is) notes))
+
+-- the rows read, and the item that is noted
+pub came_rows : (shelf : Shelf) (rows walk : List Row) (end : WalkEnd) (e : Ended) → CameOf walk end rows (Some e)
+    → AreRowsOf shelf (Left.Records shelf e ∷ []) rows walk end
+came_rows shelf rows walk end (Cycle n) came = inl (came.0, noted shelf (Cycle n) (CycleAt n) end refl came.1)
+came_rows shelf rows walk end (Missing n) came = inl (came.0, noted shelf (Missing n) (MissingAt n) end refl came.1)
+came_rows shelf rows walk end (GaveUp n) came = inr (came, any_of_one (LacksRecords shelf) (Left.Records shelf (GaveUp n)) refl)
+came_rows shelf rows walk end (Refused n code) came = inr (came, any_of_one (LacksRecords shelf) (Left.Records shelf (Refused n code)) refl)
+came_rows shelf rows walk end (Stalled n) came = inr (came, any_of_one (LacksRecords shelf) (Left.Records shelf (Stalled n)) refl)
+came_rows shelf rows walk end (Malformed n) came = inr (came, any_of_one (LacksRecords shelf) (Left.Records shelf (Malformed n)) refl)
+
 -- the records of a shelf whose listing ended for this reason
 pub captures_walk : {S : Seen → Type 0} {tries : ℕ} {s s' : Seen} (shelf : Shelf) (rows : List Row) (ended : Ended)
     → StaysHonest s s' → Walks S shelf tries s s' rows (Some ended)
@@ -158,26 +174,12 @@ captures_walk {s = s} {s' = s'} shelf rows ended stays walks = record {
   more = Left.Records shelf ended ∷ [];
   grows = refl;
   counts = walks.counts;
-  fact = λ same walk end is ends. by walk end ended (walks.along same walk end is ends);
+  fact = λ same walk end is ends. came_rows shelf rows walk end ended (walks.along same walk end is ends);
   told = λ same. All-cons (IsTrueOf s.store) (Left.Records shelf ended) [] (told ended (walks.none_faulty same) (walks.along same)) (All-nil (IsTrueOf s.store));
   plain = λ p all. All-cons (PlainLeaves s.store) (Left.Records shelf ended) []
       (fine ended (walks.plain p) (λ walk end is ends. walks.along (stays.plain_store p) walk end is ends)) (All-nil (PlainLeaves s.store));
 }
   where
-    noted : (e : Ended) (at end : WalkEnd) → NotesEnd shelf at (Left.Records shelf e) → end ≡ at
-        → EndIsNoted shelf (Left.Records shelf e ∷ []) end
-    noted e at end notes is = inr (any_of_one (NotesEnd shelf end) (Left.Records shelf e)
-        (subst (λ (x : WalkEnd). NotesEnd shelf x (Left.Records shelf e)) (sym is) notes))
-
-    by : (walk : List Row) (end : WalkEnd) (e : Ended) → CameOf walk end rows (Some e)
-        → AreRowsOf shelf (Left.Records shelf e ∷ []) rows walk end
-    by walk end (Cycle n) came = inl (came.0, noted (Cycle n) (CycleAt n) end refl came.1)
-    by walk end (Missing n) came = inl (came.0, noted (Missing n) (MissingAt n) end refl came.1)
-    by walk end (GaveUp n) came = inr (came, any_of_one (LacksRecords shelf) (Left.Records shelf (GaveUp n)) refl)
-    by walk end (Refused n code) came = inr (came, any_of_one (LacksRecords shelf) (Left.Records shelf (Refused n code)) refl)
-    by walk end (Stalled n) came = inr (came, any_of_one (LacksRecords shelf) (Left.Records shelf (Stalled n)) refl)
-    by walk end (Malformed n) came = inr (came, any_of_one (LacksRecords shelf) (Left.Records shelf (Malformed n)) refl)
-
     told : (e : Ended) → NoneIsFaulty (Some e) → ((walk : List Row) (end : WalkEnd)
         → IsWalk (rows_of shelf s.store) First walk → EndsBy (rows_of shelf s.store) First walk end
         → CameOf walk end rows (Some e)) → IsTrueOf s.store (Left.Records shelf e)
@@ -316,8 +318,8 @@ assemble left store i0 i1 i2 i3 i4 i5 i6 e1 e2 e3 e4 e5 e6 is_image is_store sen
     is_capture left i6 store is_image is_store (rw sdr_one facts.0.0.0.0.0) (rw sel_two facts.0.0.0.0.1)
     (subst (λ (o : _). SameOrLeft (LacksInfo Sdr) left o (info_of Sdr store)) (sym sdr_info) facts.0.0.0.1)
     (subst (λ (o : _). SameOrLeft (LacksInfo Sel) left o (info_of Sel store)) (sym sel_info) facts.0.0.1)
-    (named_readings left i6 store sensors (sensors_of i6.sdr) named.keys named.sensors_are has)
-    (named_inventories left i6 store is_image is_store devices (devices_of i6.sdr) named.ids named.devices_are facts.1)
+    (named_readings (ReadingOrLeft left i6 store) sensors (sensors_of i6.sdr) named.keys named.sensors_are has.named)
+    (named_inventories (InventoryOrLeft left i6 store) devices (devices_of i6.sdr) named.ids named.devices_are facts.1.named (inl (neither i6 store is_image is_store)))
     has.own facts.1.own
 
 -- ---- an item left out is not in the image

@@ -3,7 +3,10 @@ pub mod CountLemmas
 pub mod FoundLemmas
 pub mod FromLemmas
 pub mod LawLemmas
+pub mod LogLemmas
 pub mod MarkLemmas
+pub mod MeanwhileLemmas
 pub mod ReadLemmas
 pub mod StepLemmas
 pub mod WalkLemmas
+pub mod WhileLemmas

@@ -7,16 +7,18 @@ use Rattle.std.proofs.lemmas.Bool.Decides.{nat_tests}
 use Rattle.std.proofs.lemmas.Option.{none-some}
 use Rattle.std.proofs.lemmas.List.Elements.{All-append, All-cons, All-nil, All-weaker}
 use Rattle.std.proofs.lemmas.List.{append-nil, append_assoc, get_or-append-add, get_or_append_left, length-append}
-use Rattle.ipmi_bus.proofs.HeldLemmas.{keeps_same}
-use Rattle.ipmi_capture.specs.Below.{AsksAtMost, Cycle, Ended, GaveUp, Malformed, Missing, Refused, Stalled, IsHonest, Inventory, inventory_in, inventory_of, Reading, SensorReading, reading_in, reading_of, FruEnded, InventoryCounts, InventoryIs, not_present, ReadsInventory, ReadsValue, Row, Seen, Shelf, stays_refl, stays_trans, StaysHonest, Store, with_inventory, with_reading, WalkEnd, WithinTries}
+use Rattle.ipmi_bus.proofs.HeldLemmas.{held_at_last, keeps_first, keeps_same, keeps_second}
+use Rattle.ipmi_capture.specs.Below.{AsksAtMost, Cycle, Ended, GaveUp, Malformed, Missing, Refused, Stalled, IsHonest, Inventory, inventory_in, inventory_of, Reading, SensorReading, reading_in, reading_of, FruEnded, InventoryCounts, InventoryIs, Keeps, not_present, ReadsInventory, ReadsValue, Row, Seen, Shelf, stays_refl, stays_trans, StaysHonest, Store, with_inventory, with_reading, WalkEnd, WithinTries}
 use Rattle.ipmi_capture.specs.Capture.{InventoryOrLeft, NoneOrSame, OwnInventories, OwnReadings, ReadingOrLeft}
 use Rattle.ipmi_capture.specs.Left.{AreCounted, CountsGrow, EndIsNoted, IsTrueOf, LacksInventory, LacksReading, LacksRecords, NotesEnd, PlainLeaves, SameOrLeft, unread_in, unread_of}
+use Rattle.ipmi_capture.specs.Meanwhile.{OfHeld}
 use Rattle.ipmi_capture.specs.Named.{IsSensorKey, sensor_place}
-use Rattle.ipmi_capture.specs.Phases.{Adds, AreRowsOf, AreWalk, Captures, HasInventories, HasInventory, HasRead, HasReadings, CutOffIsIn, IsLeftBy, IsNotPlain, IsRefusedAgain, IsUnkept, IsUnread, most_for_inventory}
+use Rattle.ipmi_capture.specs.Phases.{Adds, AreRowsOf, AreWalk, Captures, HasInventories, HasInventoriesWhile, HasInventory, HasRead, HasReadings, HasReadingsWhile, CutOffIsIn, IsLeftBy, IsNotPlain, IsRefusedAgain, IsUnkept, IsUnread, most_for_inventory}
 use Rattle.ipmi_capture.specs.declared.left.Left.{Left}
 use Rattle.ipmi_capture.specs.declared.left.Unread.{Unread}
 use Rattle.ipmi_capture.proofs.CountLemmas.{counted_inventory, counted_nothing, counted_size, counted_then, counted_value, grown_none, grown_then, grown_within}
 use Rattle.ipmi_capture.proofs.FoundLemmas.{inventory_in-snoc, kept_more, kept_next, KeptBelow, read_more, read_next, ReadBelow, reading_in-snoc}
+use Rattle.ipmi_capture.proofs.MeanwhileLemmas.{kept_value, of_held_first, of_held_second}
 use Rattle.ipmi_capture.proofs.StepLemmas.{between}
 
 -- ---- items left out
@@ -25,10 +27,10 @@ module _ (P : Left → Type 0) where
   pub any_of_one : (one : Left) → P one → Any P (one ∷ [])
   any_of_one one is = (0, one, omega arith, refl, is)
 
-  any_more : (left more : List Left) → Any P left → Any P (left ++ more)
+  pub any_more : (left more : List Left) → Any P left → Any P (left ++ more)
   any_more left more any = (any.0, any.1, omega (arith, any.2, length-append left more), get_or_append_left left more any.1 any.0 any.2 ∙ any.3, any.4)
 
-  any_after : (left later : List Left) → Any P later → Any P (left ++ later)
+  pub any_after : (left later : List Left) → Any P later → Any P (left ++ later)
   any_after left later any = (
     length left + any.0,
     any.1,
@@ -182,11 +184,55 @@ captures_then {S = S} {tries = tries} {s = s} {s' = s'} {s'' = s''} {left = left
 
 -- ---- readings
 
+-- `P` holds for each marked sensor before this place
+abbrev pub NamedTo : ℕ → List Bool → (ℕ × ℕ → Type 0) → Type 0
+NamedTo place marks P = (key : ℕ × ℕ) → IsSensorKey key → sensor_place key < place
+    → slice_index_or marks (sensor_place key) false ≡ true → P key
+
+before_or_at : (place : ℕ) (key : ℕ × ℕ) → sensor_place key < place + 1
+    → (sensor_place key < place) ⊎ (sensor_place key ≡ place)
+before_or_at place key below = grind (arith, nat_tests)
+
+-- this place is not marked
+named_skipped : {place : ℕ} (marks : List Bool) (P : ℕ × ℕ → Type 0) → slice_index_or marks place false ≡ false
+    → NamedTo place marks P → NamedTo (place + 1) marks P
+named_skipped {place} marks P unmarked named = λ key is below mark. by key is mark (before_or_at place key below)
+  where
+    by : (key : ℕ × ℕ) → IsSensorKey key → slice_index_or marks (sensor_place key) false ≡ true
+        → (sensor_place key < place) ⊎ (sensor_place key ≡ place) → P key
+    by key is mark (inl lt) = named key is lt mark
+    by key is mark (inr here) = absurd (grind (arith, unmarked, rw here at mark))
+
+-- two sensors with the same place are equal
+same_key : (key : ℕ × ℕ) (lun number : ℕ) → IsSensorKey key → number < 256
+    → sensor_place key ≡ sensor_place (lun, number) → (key.0 ≡ lun) × (key.1 ≡ number)
+same_key key lun number is fits at = (omega (arith, is.number, fits, at), omega (arith, is.number, fits, at))
+
+-- it holds for the sensor at this place, and still for those before it
+named_next : {place : ℕ} (marks : List Bool) (lun number : ℕ) (P Q : ℕ × ℕ → Type 0)
+    → sensor_place (lun, number) ≡ place → number < 256 → NamedTo place marks P
+    → ((key : ℕ × ℕ) → sensor_place key < place → P key → Q key) → Q (lun, number)
+    → NamedTo (place + 1) marks Q
+named_next {place} marks lun number P Q at fits named still this =
+    λ key is below mark. by key is mark (before_or_at place key below)
+  where
+    by : (key : ℕ × ℕ) → IsSensorKey key → slice_index_or marks (sensor_place key) false ≡ true
+        → (sensor_place key < place) ⊎ (sensor_place key ≡ place) → Q key
+    by key is mark (inl lt) = still key lt (named key is lt mark)
+    by key is mark (inr here) =
+        let same = same_key key lun number is fits (here ∙ sym at) in
+        rw (same.0, same.1) this
+
 -- the readings of the places before this one
 pub record ReadTo (place : ℕ) (marks : List Bool) (left : List Left) (image store : Store) : Type 0 where
-  pub named : (key : ℕ × ℕ) → IsSensorKey key → sensor_place key < place
-      → slice_index_or marks (sensor_place key) false ≡ true → ReadingOrLeft left image store key
+  pub named : NamedTo place marks (ReadingOrLeft left image store)
   pub own : OwnReadings image store
+
+-- the same, of stores that the controller held meanwhile
+pub record ReadWhile (place : ℕ) (marks : List Bool) (left : List Left) (image : Store) (s s' : Seen) : Type 0 where
+  pub named : NamedTo place marks (λ key. OfHeld s s' (λ store. ReadingOrLeft left image store key))
+  pub own : (lun number : ℕ)
+      → OfHeld s s' (λ store. NoneOrSame (reading_of lun number image) (reading_of lun number store))
 
 -- a reading of a place before this one that the image lacks
 abbrev pub UnreadTo : ℕ → Store → Left → Type 0
@@ -201,6 +247,7 @@ pub record IsReading (S : Seen → Type 0) (place part tries : ℕ) (marks : Lis
   pub stays : IsHonest s → StaysHonest s s'
   pub lacks : Adds (UnreadTo place new) left left'
   pub read : IsHonest s → Captures S tries s s' left left' (ReadTo place marks left' new s.store)
+  pub meanwhile : IsHonest s → ReadWhile place marks left' new s s'
 
 -- none was read yet
 pub reading_begun : {S : Seen → Type 0} (part tries : ℕ) (marks : List Bool) (s : Seen) (left : List Left) (image : Store)
@@ -216,6 +263,10 @@ reading_begun part tries marks s left image none = record {
     named = λ key is below. absurd (omega (arith, below));
     own = λ lun number. inl (ap (λ (l : List SensorReading). reading_in l lun number) none);
   });
+  meanwhile = λ h. record {
+    named = λ key is below. absurd (omega (arith, below));
+    own = λ lun number. (s.store, held_at_last s s, inl (ap (λ (l : List SensorReading). reading_in l lun number) none));
+  };
 }
 
 -- all were read
@@ -235,6 +286,15 @@ reading_done so all h = record {
   plain = (so.read h).plain;
 }
 
+pub readings_while : {S : Seen → Type 0} {place part tries : ℕ} {marks : List Bool} {s s' : Seen}
+    {left left' : List Left} {old new : Store}
+    → IsReading S place part tries marks s s' left left' old new → 1024 ≤ place → IsHonest s
+    → HasReadingsWhile marks left' new s s'
+readings_while so all h = record {
+  named = λ key is mark. (so.meanwhile h).named key is (omega (arith, all, is.lun, is.number)) mark;
+  own = (so.meanwhile h).own;
+}
+
 pub reading_lacks : {S : Seen → Type 0} {place part tries : ℕ} {marks : List Bool} {s s' : Seen}
     {left left' : List Left} {old new : Store}
     → IsReading S place part tries marks s s' left left' old new → Adds (IsUnread new) left left'
@@ -246,7 +306,7 @@ pub reading_skipped : {S : Seen → Type 0} {place part tries : ℕ} {marks : Li
     → IsReading S place part tries marks s s' left left' old new
     → slice_index_or marks place false ≡ false
     → IsReading S (place + 1) part tries marks s s' left left' old new
-reading_skipped {place = place} {marks = marks} {s = s} {left' = left'} {new = new} so unmarked = record {
+reading_skipped {place = place} {marks = marks} {s = s} {s' = s'} {left' = left'} {new = new} so unmarked = record {
   beside = so.beside;
   below = read_more place new.readings so.below;
   calls = omega (arith, so.calls);
@@ -258,24 +318,17 @@ reading_skipped {place = place} {marks = marks} {s = s} {left' = left'} {new = n
     grows = (so.read h).grows;
     counts = (so.read h).counts;
     fact = λ same. record {
-      named = λ key is below mark. by s.store key is mark (decide key below) ((so.read h).fact same);
+      named = named_skipped marks (ReadingOrLeft left' new s.store) unmarked ((so.read h).fact same).named;
       own = ((so.read h).fact same).own;
     };
     told = (so.read h).told;
     plain = (so.read h).plain;
   };
+  meanwhile = λ h. record {
+    named = named_skipped marks (λ key. OfHeld s s' (λ store. ReadingOrLeft left' new store key)) unmarked (so.meanwhile h).named;
+    own = (so.meanwhile h).own;
+  };
 }
-  where
-    decide : (key : ℕ × ℕ) → sensor_place key < place + 1
-        → (sensor_place key < place) ⊎ (sensor_place key ≡ place)
-    decide key below = grind (arith, nat_tests)
-
-    by : (store : Store) (key : ℕ × ℕ) → IsSensorKey key
-        → slice_index_or marks (sensor_place key) false ≡ true
-        → (sensor_place key < place) ⊎ (sensor_place key ≡ place)
-        → ReadTo place marks left' new store → ReadingOrLeft left' new store key
-    by store key is mark (inl lt) to = to.named key is lt mark
-    by store key is mark (inr here) to = absurd (grind (arith, unmarked, rw here at mark))
 
 -- the image after a reading was added
 module _ (lun number : ℕ) where
@@ -304,13 +357,12 @@ module _ (lun number : ℕ) where
           → option_or found (cond (nat_eq lun key.0 && nat_eq number key.1) (Some reading) None) ≡ found
       other found = grind (arith, nat_tests, lt)
 
-  -- each reading is still that of the store
-  own_read : (new more store : Store) (o : Option Reading) → HasRead lun number o new more
-      → OwnReadings new store
-      → NoneOrSame (reading_of lun number more) (reading_of lun number store)
-      → OwnReadings more store
-  own_read new more store None has own this = λ l n. subst (λ (x : Store). NoneOrSame (reading_of l n x) (reading_of l n store)) (sym has) (own l n)
-  own_read new more store (Some reading) has own this = λ l n. by l n (nat_eq lun l && nat_eq number n) refl
+  -- what holds of this reading, and held of each, holds of each
+  own_read : (new more : Store) (o : Option Reading) (P : ℕ → ℕ → Option Reading → Type 0)
+      → HasRead lun number o new more → ((l n : ℕ) → P l n (reading_of l n new))
+      → P lun number (reading_of lun number more) → (l n : ℕ) → P l n (reading_of l n more)
+  own_read new more None P has own this = λ l n. subst (λ (x : Store). P l n (reading_of l n x)) (sym has) (own l n)
+  own_read new more (Some reading) P has own this = λ l n. by l n (nat_eq lun l && nat_eq number n) refl
     where
       found : (l n : ℕ) → reading_of l n more
           ≡ option_or (reading_of l n new) (cond (nat_eq lun l && nat_eq number n) (Some reading) None)
@@ -320,21 +372,15 @@ module _ (lun number : ℕ) where
       nothing None = refl
       nothing (Some r) = refl
 
-      by : (l n : ℕ) (b : Bool) → (nat_eq lun l && nat_eq number n) ≡ b
-          → NoneOrSame (reading_of l n more) (reading_of l n store)
+      by : (l n : ℕ) (b : Bool) → (nat_eq lun l && nat_eq number n) ≡ b → P l n (reading_of l n more)
       by l n true e =
           let lun_is : lun ≡ l = grind (arith, nat_tests, e) in
           let number_is : number ≡ n = grind (arith, nat_tests, e) in
-          subst (λ (x : ℕ). NoneOrSame (reading_of l x more) (reading_of l x store)) number_is
-          (subst (λ (x : ℕ). NoneOrSame (reading_of x number more) (reading_of x number store)) lun_is this)
+          subst (λ (x : ℕ). P l x (reading_of l x more)) number_is
+          (subst (λ (x : ℕ). P x number (reading_of x number more)) lun_is this)
       by l n false e =
           let stays : reading_of l n more ≡ reading_of l n new = found l n ∙ rw e (nothing (reading_of l n new)) in
-          subst (λ (o : Option Reading). NoneOrSame o (reading_of l n store)) (sym stays) (own l n)
-
--- two sensors with the same place are equal
-same_key : (key : ℕ × ℕ) (lun number : ℕ) → IsSensorKey key → number < 256
-    → sensor_place key ≡ sensor_place (lun, number) → (key.0 ≡ lun) × (key.1 ≡ number)
-same_key key lun number is fits at = (omega (arith, is.number, fits, at), omega (arith, is.number, fits, at))
+          subst (P l n) (sym stays) (own l n)
 
 pub reading_read : {S : Seen → Type 0} {place part tries : ℕ} {marks : List Bool} {s s' s'' : Seen}
     {left left' : List Left} {old new more : Store} (lacks : Option Left) (lun number : ℕ)
@@ -346,8 +392,9 @@ pub reading_read : {S : Seen → Type 0} {place part tries : ℕ} {marks : List 
     → (IsHonest s' → StaysHonest s' s'')
     → (IsHonest s' → Captures S tries s' s'' [] (option_to_list lacks)
     (ReadingOrLeft (option_to_list lacks) more s'.store (lun, number)))
+    → (IsHonest s' → OfHeld s' s'' (λ store. ReadingOrLeft (option_to_list lacks) more store (lun, number)))
     → IsReading S (place + 1) part tries marks s s'' left (left' ++ option_to_list lacks) old more
-reading_read {place = place} {marks = marks} {s = s} {s' = s'} {s'' = s''} {left' = left'} {old = old} {new = new} {more = more} lacks lun number so at fits has none calls asked stays read = record {
+reading_read {place = place} {marks = marks} {s = s} {s' = s'} {s'' = s''} {left' = left'} {old = old} {new = new} {more = more} lacks lun number so at fits has none calls asked stays read while_read = record {
   beside = read_beside lun number old new more (reading_of lun number more) has so.beside;
   below = rw at at (read_below lun number new more (reading_of lun number more) has (rw (sym at) at so.below));
   calls = omega (arith, so.calls, calls);
@@ -358,12 +405,28 @@ reading_read {place = place} {marks = marks} {s = s} {s' = s'} {s'' = s''} {left
       let before = so.stays h in
       captures_then before (stays before.honest) (so.read h)
       (captures_after left' (option_to_list lacks) (same_after (LacksReading lun number) left' (option_to_list lacks) _ _) (read before.honest))
-      (λ store grown grows to this. record {
-        named = λ key is below mark. by key is mark (decide key below) to this store;
-        own = own_read lun number new more s.store (reading_of lun number more) has to.own
-            (none_or_same (LacksReading lun number) (left' ++ option_to_list lacks) (reading_of lun number more) (reading_of lun number s.store)
-            (subst (λ (x : Store). ReadingOrLeft (left' ++ option_to_list lacks) more x (lun, number)) store this));
+      (λ store grown grows to this.
+      let now = subst (λ (x : Store). ReadingOrLeft (left' ++ option_to_list lacks) more x (lun, number)) store this in
+      record {
+        named = named_next marks lun number (ReadingOrLeft left' new s.store) (ReadingOrLeft (left' ++ option_to_list lacks) more s.store) at fits to.named
+            (λ key lt. earlier key lt s.store) now;
+        own = own_read lun number new more (reading_of lun number more) (λ l n o. NoneOrSame o (reading_of l n s.store)) has to.own
+            (none_or_same (LacksReading lun number) (left' ++ option_to_list lacks) (reading_of lun number more) (reading_of lun number s.store) now);
       });
+  meanwhile = λ h.
+      let before = so.stays h in
+      let later = stays before.honest in
+      let was = so.meanwhile h in
+      let now : OfHeld s s'' (λ store. ReadingOrLeft (left' ++ option_to_list lacks) more store (lun, number)) =
+      of_held_second s s' s'' before later (λ store. same_after (LacksReading lun number) left' (option_to_list lacks) (reading_of lun number more) (reading_of lun number store)) (while_read before.honest) in
+      record {
+        named = named_next marks lun number (λ key. OfHeld s s' (λ store. ReadingOrLeft left' new store key))
+            (λ key. OfHeld s s'' (λ store. ReadingOrLeft (left' ++ option_to_list lacks) more store key)) at fits was.named
+            (λ key lt. of_held_first s s' s'' before later (earlier key lt)) now;
+        own = own_read lun number new more (reading_of lun number more) (λ l n o. OfHeld s s'' (λ store. NoneOrSame o (reading_of l n store))) has
+            (λ l n. of_held_first s s' s'' before later (λ store same. same) (was.own l n))
+            (now.0, now.1, none_or_same (LacksReading lun number) (left' ++ option_to_list lacks) (reading_of lun number more) (reading_of lun number now.0) now.2);
+      };
 }
   where
     still : (l : Left) → UnreadTo place new l → UnreadTo (place + 1) more l
@@ -382,29 +445,48 @@ reading_read {place = place} {marks = marks} {s = s} {s' = s'} {s'' = s''} {left
     here None is = tt
     here (Some l) is = (record { key = (lun, number); lacks = is.0; none = is.1 }, omega (arith, at))
 
-    decide : (key : ℕ × ℕ) → sensor_place key < place + 1
-        → (sensor_place key < place) ⊎ (sensor_place key ≡ place)
-    decide key below = grind (arith, nat_tests)
-
-    by : (key : ℕ × ℕ) → IsSensorKey key → slice_index_or marks (sensor_place key) false ≡ true
-        → (sensor_place key < place) ⊎ (sensor_place key ≡ place)
-        → ReadTo place marks left' new s.store
-        → ReadingOrLeft (left' ++ option_to_list lacks) more s'.store (lun, number)
-        → s'.store ≡ s.store → ReadingOrLeft (left' ++ option_to_list lacks) more s.store key
-    by key is mark (inl lt) to this store =
+    earlier : (key : ℕ × ℕ) → sensor_place key < place → (store : Store) → ReadingOrLeft left' new store key
+        → ReadingOrLeft (left' ++ option_to_list lacks) more store key
+    earlier key lt store was =
         let stays = others_stay lun number new more (reading_of lun number more) has key (omega (arith, lt, at)) in
         same_more (LacksReading key.0 key.1) left' (option_to_list lacks) _ _
-        (subst (λ (o : Option Reading). SameOrLeft (LacksReading key.0 key.1) left' o (reading_of key.0 key.1 s.store)) (sym stays) (to.named key is lt mark))
-    by key is mark (inr here) to this store =
-        let same = same_key key lun number is fits (here ∙ sym at) in
-        rw (same.0, same.1) (subst (λ (x : Store). ReadingOrLeft (left' ++ option_to_list lacks) more x (lun, number)) store this)
+        (subst (λ (o : Option Reading). SameOrLeft (LacksReading key.0 key.1) left' o (reading_of key.0 key.1 store)) (sym stays) was)
 
 -- ---- inventories
 
+-- `P` holds for device 0, and for each marked device before this one
+abbrev pub DevicesTo : ℕ → List Bool → (ℕ → Type 0) → Type 0
+DevicesTo to marks P = (id : ℕ) → id < to → IsTrue ((id == 0) || slice_index_or marks id false) → P id
+
+below_or_at : (to id : ℕ) → id < to + 1 → (id < to) ⊎ (id ≡ to)
+below_or_at to id below = grind (arith, nat_tests)
+
+-- this device is not marked
+devices_skipped : {to : ℕ} (marks : List Bool) (P : ℕ → Type 0) → ((to == 0) || slice_index_or marks to false) ≡ false
+    → DevicesTo to marks P → DevicesTo (to + 1) marks P
+devices_skipped {to} marks P unmarked named = λ id below mark. by id mark (below_or_at to id below)
+  where
+    by : (id : ℕ) → IsTrue ((id == 0) || slice_index_or marks id false) → (id < to) ⊎ (id ≡ to) → P id
+    by id mark (inl lt) = named id lt mark
+    by id mark (inr here) = absurd (grind (arith, unmarked, rw here at mark))
+
+-- it holds for this device, and still for those before it
+devices_next : {id : ℕ} (marks : List Bool) (P Q : ℕ → Type 0) → DevicesTo id marks P
+    → ((other : ℕ) → other < id → P other → Q other) → Q id → DevicesTo (id + 1) marks Q
+devices_next {id} marks P Q named still this = λ other below mark. by other mark (below_or_at id other below)
+  where
+    by : (other : ℕ) → IsTrue ((other == 0) || slice_index_or marks other false) → (other < id) ⊎ (other ≡ id) → Q other
+    by other mark (inl lt) = still other lt (named other lt mark)
+    by other mark (inr here) = rw here this
+
 pub record KeptTo (to : ℕ) (marks : List Bool) (left : List Left) (image store : Store) : Type 0 where
-  pub named : (id : ℕ) → id < to → IsTrue ((id == 0) || slice_index_or marks id false)
-      → InventoryOrLeft left image store id
+  pub named : DevicesTo to marks (InventoryOrLeft left image store)
   pub own : OwnInventories image store
+
+-- the same, of inventories that did not change
+pub record KeptWhile (to : ℕ) (marks : List Bool) (left : List Left) (image : Store) (s s' : Seen) : Type 0 where
+  pub named : DevicesTo to marks (λ id. Keeps (inventory_of id) s s' → InventoryOrLeft left image s.store id)
+  pub own : (id : ℕ) → Keeps (inventory_of id) s s' → NoneOrSame (inventory_of id image) (inventory_of id s.store)
 
 -- an inventory of a device before this one that the image lacks
 abbrev pub UnkeptTo : ℕ → Store → Left → Type 0
@@ -419,6 +501,7 @@ pub record IsKeeping (S : Seen → Type 0) (to part tries : ℕ) (marks : List B
   pub stays : IsHonest s → StaysHonest s s'
   pub lacks : Adds (UnkeptTo to new) left left'
   pub read : IsHonest s → Captures S tries s s' left left' (KeptTo to marks left' new s.store)
+  pub meanwhile : IsHonest s → KeptWhile to marks left' new s s'
 
 -- none was read yet
 pub keeping_begun : {S : Seen → Type 0} (part tries : ℕ) (marks : List Bool) (s : Seen) (left : List Left) (image : Store)
@@ -434,6 +517,10 @@ keeping_begun part tries marks s left image none = record {
     named = λ id below. absurd (omega (arith, below));
     own = λ id. inl (ap (λ (l : List Inventory). inventory_in l id) none);
   });
+  meanwhile = λ h. record {
+    named = λ id below. absurd (omega (arith, below));
+    own = λ id keeps. inl (ap (λ (l : List Inventory). inventory_in l id) none);
+  };
 }
 
 -- all were read
@@ -453,6 +540,15 @@ keeping_done so all h = record {
   plain = (so.read h).plain;
 }
 
+pub inventories_while : {S : Seen → Type 0} {to part tries : ℕ} {marks : List Bool} {s s' : Seen}
+    {left left' : List Left} {old new : Store}
+    → IsKeeping S to part tries marks s s' left left' old new → 255 ≤ to → IsHonest s
+    → HasInventoriesWhile marks left' new s s'
+inventories_while so all h = record {
+  named = λ id below mark. (so.meanwhile h).named id (omega (arith, all, below)) mark;
+  own = (so.meanwhile h).own;
+}
+
 pub keeping_lacks : {S : Seen → Type 0} {to part tries : ℕ} {marks : List Bool} {s s' : Seen}
     {left left' : List Left} {old new : Store}
     → IsKeeping S to part tries marks s s' left left' old new → Adds (IsUnkept new) left left'
@@ -464,7 +560,7 @@ pub keeping_skipped : {S : Seen → Type 0} {to part tries : ℕ} {marks : List 
     → IsKeeping S to part tries marks s s' left left' old new
     → ((to == 0) || slice_index_or marks to false) ≡ false
     → IsKeeping S (to + 1) part tries marks s s' left left' old new
-keeping_skipped {to = to} {tries = tries} {marks = marks} {s = s} {left' = left'} {new = new} so unmarked = record {
+keeping_skipped {to = to} {tries = tries} {marks = marks} {s = s} {s' = s'} {left' = left'} {new = new} so unmarked = record {
   beside = so.beside;
   below = kept_more to new.inventories so.below;
   calls = omega (arith, so.calls);
@@ -476,22 +572,17 @@ keeping_skipped {to = to} {tries = tries} {marks = marks} {s = s} {left' = left'
     grows = (so.read h).grows;
     counts = (so.read h).counts;
     fact = λ same. record {
-      named = λ id below mark. by s.store id mark (decide id below) ((so.read h).fact same);
+      named = devices_skipped marks (InventoryOrLeft left' new s.store) unmarked ((so.read h).fact same).named;
       own = ((so.read h).fact same).own;
     };
     told = (so.read h).told;
     plain = (so.read h).plain;
   };
+  meanwhile = λ h. record {
+    named = devices_skipped marks (λ id. Keeps (inventory_of id) s s' → InventoryOrLeft left' new s.store id) unmarked (so.meanwhile h).named;
+    own = (so.meanwhile h).own;
+  };
 }
-  where
-    decide : (id : ℕ) → id < to + 1 → (id < to) ⊎ (id ≡ to)
-    decide id below = grind (arith, nat_tests)
-
-    by : (store : Store) (id : ℕ) → IsTrue ((id == 0) || slice_index_or marks id false)
-        → (id < to) ⊎ (id ≡ to) → KeptTo to marks left' new store
-        → InventoryOrLeft left' new store id
-    by store id mark (inl lt) done = done.named id lt mark
-    by store id mark (inr here) done = absurd (grind (arith, unmarked, rw here at mark))
 
 module _ (id : ℕ) where
   kept_beside : (old new more : Store) (o : Option (List ℕ)) → HasInventory id o new more
@@ -517,11 +608,12 @@ module _ (id : ℕ) where
       stays : (found : Option (List ℕ)) → option_or found (cond (nat_eq id other) (Some bytes) None) ≡ found
       stays found = grind (arith, nat_tests, lt)
 
-  own_kept : (new more store : Store) (o : Option (List ℕ)) → HasInventory id o new more
-      → OwnInventories new store → NoneOrSame (inventory_of id more) (inventory_of id store)
-      → OwnInventories more store
-  own_kept new more store None has own this = λ other. subst (λ (x : Store). NoneOrSame (inventory_of other x) (inventory_of other store)) (sym has) (own other)
-  own_kept new more store (Some bytes) has own this = λ other. by other (nat_eq id other) refl
+  -- what holds of this inventory, and held of each, holds of each
+  own_kept : (new more : Store) (o : Option (List ℕ)) (P : ℕ → Option (List ℕ) → Type 0) → HasInventory id o new more
+      → ((other : ℕ) → P other (inventory_of other new)) → P id (inventory_of id more)
+      → (other : ℕ) → P other (inventory_of other more)
+  own_kept new more None P has own this = λ other. subst (λ (x : Store). P other (inventory_of other x)) (sym has) (own other)
+  own_kept new more (Some bytes) P has own this = λ other. by other (nat_eq id other) refl
     where
       found : (other : ℕ) → inventory_of other more
           ≡ option_or (inventory_of other new) (cond (nat_eq id other) (Some bytes) None)
@@ -531,14 +623,13 @@ module _ (id : ℕ) where
       nothing None = refl
       nothing (Some b) = refl
 
-      by : (other : ℕ) (b : Bool) → nat_eq id other ≡ b
-          → NoneOrSame (inventory_of other more) (inventory_of other store)
+      by : (other : ℕ) (b : Bool) → nat_eq id other ≡ b → P other (inventory_of other more)
       by other true e =
           let is : id ≡ other = grind (arith, nat_tests, e) in
-          subst (λ (x : ℕ). NoneOrSame (inventory_of x more) (inventory_of x store)) is this
+          subst (λ (x : ℕ). P x (inventory_of x more)) is this
       by other false e =
           let stays : inventory_of other more ≡ inventory_of other new = found other ∙ rw e (nothing (inventory_of other new)) in
-          subst (λ (o : Option (List ℕ)). NoneOrSame o (inventory_of other store)) (sym stays) (own other)
+          subst (P other) (sym stays) (own other)
 
 pub keeping_read : {S : Seen → Type 0} {part tries : ℕ} {marks : List Bool} {s s' s'' : Seen}
     {left left' : List Left} {old new more : Store} (lacks : Option Left) (id : ℕ)
@@ -549,8 +640,9 @@ pub keeping_read : {S : Seen → Type 0} {part tries : ℕ} {marks : List Bool} 
     → (IsHonest s' → StaysHonest s' s'')
     → (IsHonest s' → Captures S tries s' s'' [] (option_to_list lacks)
     (InventoryOrLeft (option_to_list lacks) more s'.store id))
+    → (IsHonest s' → Keeps (inventory_of id) s' s'' → InventoryOrLeft (option_to_list lacks) more s'.store id)
     → IsKeeping S (id + 1) part tries marks s s'' left (left' ++ option_to_list lacks) old more
-keeping_read {tries = tries} {marks = marks} {s = s} {s' = s'} {s'' = s''} {left' = left'} {old = old} {new = new} {more = more} lacks id so has none calls asked stays read = record {
+keeping_read {tries = tries} {marks = marks} {s = s} {s' = s'} {s'' = s''} {left' = left'} {old = old} {new = new} {more = more} lacks id so has none calls asked stays read while_read = record {
   beside = kept_beside id old new more (inventory_of id more) has so.beside;
   below = kept_below id new more (inventory_of id more) has so.below;
   calls = let next : (id + 1) * most_for_inventory tries ≡ id * most_for_inventory tries + most_for_inventory tries = omega arith in omega (arith, so.calls, calls, next);
@@ -561,12 +653,30 @@ keeping_read {tries = tries} {marks = marks} {s = s} {s' = s'} {s'' = s''} {left
       let before = so.stays h in
       captures_then before (stays before.honest) (so.read h)
       (captures_after left' (option_to_list lacks) (same_after (LacksInventory id) left' (option_to_list lacks) _ _) (read before.honest))
-      (λ store grown grows done this. record {
-        named = λ other below mark. by other mark (decide other below) done this store;
-        own = own_kept id new more s.store (inventory_of id more) has done.own
-            (none_or_same (LacksInventory id) (left' ++ option_to_list lacks) (inventory_of id more) (inventory_of id s.store)
-            (subst (λ (x : Store). InventoryOrLeft (left' ++ option_to_list lacks) more x id) store this));
+      (λ store grown grows done this.
+      let now = subst (λ (x : Store). InventoryOrLeft (left' ++ option_to_list lacks) more x id) store this in
+      record {
+        named = devices_next marks (InventoryOrLeft left' new s.store) (InventoryOrLeft (left' ++ option_to_list lacks) more s.store) done.named
+            (λ other lt. earlier other lt s.store) now;
+        own = own_kept id new more (inventory_of id more) (λ other o. NoneOrSame o (inventory_of other s.store)) has done.own
+            (none_or_same (LacksInventory id) (left' ++ option_to_list lacks) (inventory_of id more) (inventory_of id s.store) now);
       });
+  meanwhile = λ h.
+      let before = so.stays h in
+      let later = stays before.honest in
+      let was = so.meanwhile h in
+      let now : Keeps (inventory_of id) s s'' → InventoryOrLeft (left' ++ option_to_list lacks) more s.store id =
+      λ keeps. subst (λ (o : Option (List ℕ)). SameOrLeft (LacksInventory id) (left' ++ option_to_list lacks) (inventory_of id more) o) (kept_value s s' s'' before later (inventory_of id) keeps)
+      (same_after (LacksInventory id) left' (option_to_list lacks) (inventory_of id more) (inventory_of id s'.store)
+      (while_read before.honest (keeps_second (inventory_of id) s s' s'' before.store later.store keeps))) in
+      record {
+        named = devices_next marks (λ other. Keeps (inventory_of other) s s' → InventoryOrLeft left' new s.store other)
+            (λ other. Keeps (inventory_of other) s s'' → InventoryOrLeft (left' ++ option_to_list lacks) more s.store other) was.named
+            (λ other lt old_is keeps. earlier other lt s.store (old_is (keeps_first (inventory_of other) s s' s'' before.store later.store keeps))) now;
+        own = own_kept id new more (inventory_of id more) (λ other o. Keeps (inventory_of other) s s'' → NoneOrSame o (inventory_of other s.store)) has
+            (λ other keeps. was.own other (keeps_first (inventory_of other) s s' s'' before.store later.store keeps))
+            (λ keeps. none_or_same (LacksInventory id) (left' ++ option_to_list lacks) (inventory_of id more) (inventory_of id s.store) (now keeps));
+      };
 }
   where
     still : (l : Left) → UnkeptTo id new l → UnkeptTo (id + 1) more l
@@ -585,18 +695,12 @@ keeping_read {tries = tries} {marks = marks} {s = s} {s' = s'} {s'' = s''} {left
     here None is = tt
     here (Some l) is = (record { id = id; lacks = is.0; none = is.1 }, omega arith)
 
-    decide : (other : ℕ) → other < id + 1 → (other < id) ⊎ (other ≡ id)
-    decide other below = grind (arith, nat_tests)
-
-    by : (other : ℕ) → IsTrue ((other == 0) || slice_index_or marks other false)
-        → (other < id) ⊎ (other ≡ id) → KeptTo id marks left' new s.store
-        → InventoryOrLeft (left' ++ option_to_list lacks) more s'.store id → s'.store ≡ s.store
-        → InventoryOrLeft (left' ++ option_to_list lacks) more s.store other
-    by other mark (inl lt) done this store =
+    earlier : (other : ℕ) → other < id → (store : Store) → InventoryOrLeft left' new store other
+        → InventoryOrLeft (left' ++ option_to_list lacks) more store other
+    earlier other lt store was =
         let stays = others_kept id new more (inventory_of id more) has other lt in
         same_more (LacksInventory other) left' (option_to_list lacks) _ _
-        (subst (λ (o : Option (List ℕ)). SameOrLeft (LacksInventory other) left' o (inventory_of other s.store)) (sym stays) (done.named other lt mark))
-    by other mark (inr here) done this store = rw here (subst (λ (x : Store). InventoryOrLeft (left' ++ option_to_list lacks) more x id) store this)
+        (subst (λ (o : Option (List ℕ)). SameOrLeft (LacksInventory other) left' o (inventory_of other store)) (sym stays) was)
 
 -- a fact about Ok results implies another
 pub on_ok : {T E A B : Type 0} (result : Result T E) → OnOk result A → (A → B) → OnOk result B
@@ -629,6 +733,16 @@ module _ {V : Type 0} {S : Seen → Type 0} {tries : ℕ} {s s' : Seen} (value :
     plain = λ p all. let never : Err ended ≡ Ok (value s.store) = (reads.plain p).0 in cc;
   }
 
+-- the same, over any change
+module _ {V : Type 0} (s s' : Seen) (value : Store → Option V) (Lacks : Left → Type 0) where
+  pub value_while : {tries : ℕ} (o in_image : Option V) → in_image ≡ o → ReadsValue value tries s s' (Ok o)
+      → OfHeld s s' (λ store. SameOrLeft Lacks [] in_image (value store))
+  value_while o in_image has reads = (s'.store, held_at_last s s', inl (has ∙ reads.is.1))
+
+  pub left_while : (lacks : Left) (in_image : Option V) → in_image ≡ None → Lacks lacks
+      → OfHeld s s' (λ store. SameOrLeft Lacks (lacks ∷ []) in_image (value store))
+  left_while lacks in_image none lacks_it = (s'.store, held_at_last s s', inr (none, any_of_one Lacks lacks lacks_it))
+
 read_again : (lun number : ℕ) (reading : Reading) (old new : Store)
     → reading_of lun number old ≡ None → new ≡ with_reading lun number reading old
     → reading_of lun number new ≡ Some reading
@@ -649,6 +763,13 @@ pub came_reading : {S : Seen → Type 0} {tries : ℕ} {s s' : Seen} (lun number
     → Captures S tries s s' [] [] (ReadingOrLeft [] new s.store (lun, number))
 came_reading lun number reading old new none is reads =
     came_value (reading_of lun number) (LacksReading lun number) reading (reading_of lun number new) (read_again lun number reading old new none is) reads
+
+pub reading_while : {tries : ℕ} {s s' : Seen} (lun number : ℕ) (reading : Reading) (old new : Store)
+    → reading_of lun number old ≡ None → new ≡ with_reading lun number reading old
+    → ReadsValue (reading_of lun number) tries s s' (Ok (Some reading))
+    → OfHeld s s' (λ store. ReadingOrLeft [] new store (lun, number))
+reading_while lun number reading old new none is reads =
+    value_while _ _ (reading_of lun number) (LacksReading lun number) (Some reading) (reading_of lun number new) (read_again lun number reading old new none is) reads
 
 kept_again : (id : ℕ) (bytes : List ℕ) (old new : Store) → inventory_of id old ≡ None
     → new ≡ with_inventory id bytes old → inventory_of id new ≡ Some bytes
@@ -673,7 +794,18 @@ pub came_inventory : {S : Seen → Type 0} {tries : ℕ} {s s' : Seen} (id : ℕ
 came_inventory id bytes old new none is reads =
     nothing_left [] (grown_within reads.counts.0) (λ same. inl (kept_again id bytes old new none is ∙ sym (read_same id reads same).1))
 
+-- the inventory did not change while it was read
+pub inventory_while : {tries : ℕ} {s s' : Seen} (id : ℕ) (bytes : List ℕ) (old new : Store)
+    → inventory_of id old ≡ None → new ≡ with_inventory id bytes old
+    → ReadsInventory id tries s s' (Ok bytes)
+    → Keeps (inventory_of id) s s' → InventoryOrLeft [] new s.store id
+inventory_while id bytes old new none is reads keeps = inl (kept_again id bytes old new none is ∙ sym (reads.is keeps).1)
+
 -- an inventory without bytes is not put into the image
+pub empty_while : (s s' : Seen) (id : ℕ) (image : Store) → inventory_of id image ≡ None
+    → Keeps (inventory_of id) s s' → InventoryOrLeft (Left.Empty id ∷ []) image s.store id
+empty_while s s' id image none keeps = inr (none, any_of_one (LacksInventory id) (Left.Empty id) refl)
+
 pub came_empty : {S : Seen → Type 0} {tries : ℕ} {s s' : Seen} (id : ℕ) (bytes : List ℕ) (image : Store)
     → inventory_of id image ≡ None → bytes ≡ [] → ReadsInventory id tries s s' (Ok bytes)
     → Captures S tries s s' [] (Left.Empty id ∷ []) (InventoryOrLeft (Left.Empty id ∷ []) image s.store id)
@@ -792,6 +924,21 @@ lacks_by id ended failure (Left.Size i code) left = left.0
 lacks_by id ended failure (Left.Empty i) left = absurd left
 lacks_by id ended failure (Left.CutOff i) left = left.0
 lacks_by id ended failure (Left.Inventory i e) left = left.0
+
+-- it is left out, or there is none
+pub left_inventory_while : {tries : ℕ} {s s' s'' : Seen} (id : ℕ) (ended : FruEnded) (failure : Option ℕ)
+    (result : Result (Option Left) AllocError) (image : Store) → inventory_of id image ≡ None
+    → ReadsInventory id tries s s' (Err ended) → StaysHonest s' s''
+    → IfOk result (λ o. MatchOption o (ended ≡ FruEnded.Refused not_present) (IsLeftBy id ended failure))
+    → IfOk result (λ o. Keeps (inventory_of id) s s'' → InventoryOrLeft (option_to_list o) image s.store id)
+left_inventory_while id ended failure (Err e) image none reads later left = tt
+left_inventory_while {tries} {s} {s'} {s''} id ended failure (Ok None) image none reads later left = λ keeps.
+    inl (none ∙ sym (lacks (rw left at (reads.is (keeps_first (inventory_of id) s s' s'' reads.stays.store later.store keeps)))))
+  where
+    lacks : InventoryIs id tries s s' (Err (FruEnded.Refused not_present)) → inventory_of id s.store ≡ None
+    lacks is = is.1
+left_inventory_while id ended failure (Ok (Some l)) image none reads later left = λ keeps.
+    inr (none, any_of_one (LacksInventory id) l (lacks_by id ended failure l left))
 
 -- the item left out is of this device, and is not in the image
 pub lacks_left : (id : ℕ) (ended : FruEnded) (failure : Option ℕ) (result : Result (Option Left) AllocError)

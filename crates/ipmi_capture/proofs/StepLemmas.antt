@@ -9,14 +9,17 @@ use Rattle.std.proofs.lemmas.Bool.Decides.{nat_tests}
 use Rattle.std.proofs.lemmas.Option.{none-some}
 use Rattle.std.proofs.lemmas.Nat.{mul-le}
 use Rattle.ipmi_bus.proofs.DigitLemmas.{digits_most}
+use Rattle.ipmi_bus.proofs.HeldLemmas.{keeps_first, keeps_same}
 use Rattle.ipmi_bus.proofs.ShelfLemmas.{look_row}
 use Rattle.ipmi_bus.proofs.WalkLaws.{has_walk}
-use Rattle.ipmi_capture.specs.Below.{asked_at, AsksAtMost, Cycle, cycle_at, CursorHoldsCurrent, CursorState, digits, End, Id, id_in, has_id, handed_id, may_follow, NotGivenUpOrRefused, Place, place_after, place_after_rows, StepAnswers, StepIsHonest, StepIsPlain, store_shelf, whole_len, Ended, EndsBy, First, first_row, GaveUp, HandsOut, IsHonest, IsStep, IsWalk, largest_len, Malformed, Missing, Refused, Row, rows_of, Sdr, Seen, Sel, Shelf, StandsAt, Stalled, stays_refl, stays_trans, StaysHonest, step_call_bound, Store, WalkEnd, WalkStep, with_rows, WithinTries}
+use Rattle.ipmi_bus.proofs.WalkLemmas.{walk_law}
+use Rattle.ipmi_capture.specs.Below.{asked_at, AsksAtMost, Cycle, cycle_at, CursorHoldsCurrent, CursorState, digits, End, Id, id_in, has_id, handed_id, may_follow, NotGivenUpOrRefused, Place, place_after, place_after_rows, StepAnswers, StepIsHonest, StepIsPlain, store_shelf, whole_len, Ended, EndsBy, First, first_row, GaveUp, HandsOut, IsHonest, IsStep, IsWalk, Keeps, largest_len, Malformed, Missing, Refused, Row, rows_of, Sdr, Seen, Sel, Shelf, StandsAt, Stalled, stays_refl, stays_trans, StaysHonest, step_call_bound, Store, WalkEnd, WalkStep, with_rows, WithinTries}
 use Rattle.ipmi_capture.specs.Left.{CountsGrow}
-use Rattle.ipmi_capture.specs.Phases.{CameOf, most_on_walk, NoneIsFaulty, PlainEnds, Walks}
+use Rattle.ipmi_capture.specs.Phases.{CameKept, CameOf, most_on_walk, NoneIsFaulty, PlainEnds, Walks, WalksWhile}
 use Rattle.ipmi_capture.specs.declared.left.Left.{Left}
 use Rattle.std.specs.Option.{option_to_list}
 use Rattle.ipmi_capture.proofs.CountLemmas.{counted_after, counted_nothing, counted_record, grown_by, grown_none, grown_then, grown_within}
+use Rattle.ipmi_capture.proofs.LogLemmas.{WalkedWhile, while_again, while_done, while_ended, while_malformed, while_more, while_none}
 
 -- ---- the rows of a shelf
 
@@ -95,9 +98,9 @@ between s s' s'' before later same = omega (arith, before.store.grows, later.sto
 
 -- ---- the state so far
 
--- the first rows of each walk were read, and the cursor is after them
+-- if the rows of the shelf did not change: the first rows of each walk were read, and the cursor is after them
 abbrev Along : Shelf → Seen → Seen → CursorState → List Row → Type 0
-Along shelf s s' cursor rows = s'.stores_added ≡ s.stores_added → (walk : List Row) (end : WalkEnd)
+Along shelf s s' cursor rows = Keeps (rows_of shelf) s s' → (walk : List Row) (end : WalkEnd)
     → IsWalk (rows_of shelf s.store) First walk → EndsBy (rows_of shelf s.store) First walk end
     → (rows ≡ take (length rows) walk) × StandsAt (rows_of shelf s.store) First walk (length rows) cursor
 
@@ -115,6 +118,7 @@ pub record Walked (shelf : Shelf) (part tries : ℕ) (s s' : Seen) (cursor : Cur
   pub stays : IsHonest s → StaysHonest s s'
   pub counts : IsHonest s → CountsGrow s s'
   pub along : IsHonest s → Along shelf s s' cursor (rows_of shelf new)
+  pub meanwhile : IsHonest s → WalkedWhile shelf s s' cursor (rows_of shelf new)
   pub holds : IsHonest s → IsTrue s.plain → CursorHoldsCurrent cursor s'
 
 -- at the start: nothing was read
@@ -143,7 +147,8 @@ walked_none shelf part tries s cursor old some none fresh stands =
       asked = omega arith;
       stays = λ h. stays_refl s h;
       counts = λ h. grown_none s;
-      along = λ h same walk end is ends. rw none (refl, stands (rows_of shelf s.store) walk);
+      along = λ h kept walk end is ends. rw none (refl, stands (rows_of shelf s.store) walk);
+      meanwhile = λ h. rw none (while_none shelf s cursor h (ap (λ (x : CursorState). x.shelf) fresh) stands);
       holds = λ h p. record { held = λ n is. absurd (none-some n (sym (ap (λ (x : CursorState). x.reservation) fresh) ∙ is)) };
     }
 
@@ -173,28 +178,58 @@ module _ {shelf : Shelf} {part tries : ℕ} {s s' s'' : Seen} {now next : Cursor
   step_plain : IsHonest s → IsTrue s.plain → StepIsPlain now next s'' result
   step_plain h p = (step_honest h).plain ((walked.stays h).plain p) (walked.holds h p)
 
+  kept_first : IsHonest s → Keeps (rows_of shelf) s s'' → Keeps (rows_of shelf) s s'
+  kept_first h kept = keeps_first (rows_of shelf) s s' s'' (walked.stays h).store (step_honest h).stays.store kept
+
+  -- no store was added
+  kept_same : IsHonest s → s''.stores_added ≡ s.stores_added → Keeps (rows_of shelf) s s''
+  kept_same h same = keeps_same (rows_of shelf) s s'' (stays_on h).store same
+
   -- the step along a walk
-  pub stepped : IsHonest s → s''.stores_added ≡ s.stores_added → (walk : List Row) (end : WalkEnd)
+  pub stepped : IsHonest s → Keeps (rows_of shelf) s s'' → (walk : List Row) (end : WalkEnd)
       → IsWalk (rows_of shelf s.store) First walk → EndsBy (rows_of shelf s.store) First walk end
       → (rows_of shelf new ≡ take (length (rows_of shelf new)) walk)
       × WalkStep (rows_of shelf s.store) First walk end (length (rows_of shelf new)) now next result
-  stepped h same walk end is ends =
-      let honest = (walked.stays h).honest in
-      let parts = between s s' s'' (walked.stays h) (step.honest honest).stays same in
-      let there = walked.along h parts.0 walk end is ends in
-      let rows : rows_of now.shelf s'.store ≡ rows_of shelf s.store = rw walked.shelf_is (ap (rows_of shelf) ((walked.stays h).store.stays parts.0)) in
-      (there.0, (rw rows at ((step.walks honest).follows parts.1 First walk end (length (rows_of shelf new)))) is ends there.1)
+  stepped h kept walk end is ends =
+      let later = step_honest h in
+      let there = walked.along h (kept_first h kept) walk end is ends in
+      let rows : rows_of now.shelf s''.store ≡ rows_of shelf s.store = rw walked.shelf_is kept.0 in
+      let law = walk_law now next s'' First walk (length (rows_of shelf new)) (store_shelf now.shelf s''.store later.stays.honest.store) (rw rows is) (rw rows there.1) s' end (rw rows ends) result step.leaves later.answers in
+      (there.0, rw rows at law)
 
   -- first rows that are as many as the walk's rows are the whole walk
   all_rows : (walk : List Row) (rows : List Row) → rows ≡ take (length rows) walk
       → length rows ≡ length walk → rows ≡ walk
   all_rows walk rows is all = is ∙ take_all (length rows) walk (omega (arith, all))
 
+  -- the rows read of a shelf whose rows did not change
+  ended_kept : (ended : Ended) → result ≡ Err ended → IsHonest s → CameKept shelf s s'' (rows_of shelf new) (Some ended)
+  ended_kept ended is h = λ kept walk end walks ends.
+      let at = stepped h kept walk end walks ends in
+      by walk end ended at.0 (rw is at at.1)
+    where
+      by : (walk : List Row) (end : WalkEnd) (e : Ended)
+          → rows_of shelf new ≡ take (length (rows_of shelf new)) walk
+          → WalkStep (rows_of shelf s.store) First walk end (length (rows_of shelf new)) now next (Err e)
+          → CameOf walk end (rows_of shelf new) (Some e)
+      by walk end (Cycle n) rows step = (all_rows _ _ rows step.0, step.1)
+      by walk end (Missing n) rows step = (all_rows _ _ rows step.0, step.1)
+      by walk end (GaveUp n) rows step = rows
+      by walk end (Refused n code) rows step = rows
+      by walk end (Stalled n) rows step = rows
+      by walk end (Malformed n) rows step = rows
+
+  done_kept : result ≡ Ok None → IsHonest s → CameKept shelf s s'' (rows_of shelf new) None
+  done_kept is h = λ kept walk end walks ends.
+      let at = stepped h kept walk end walks ends in
+      let step = rw is at at.1 in
+      (all_rows walk (rows_of shelf new) at.0 step.0, step.1)
+
   -- the step ended the listing
   pub came_ended : {S : Seen → Type 0} → S s' → S s'' → (ended : Ended) → result ≡ Err ended → IsHonest s
       → Walks S shelf tries s s'' (rows_of shelf new) (Some ended)
   came_ended {S = S} from to ended is h = record {
-    along = λ same walk end walks ends. by walk end ended (stepped h same walk end walks ends).0 (rw is at (stepped h same walk end walks ends).1);
+    along = λ same. ended_kept ended is h (kept_same h same);
     none_faulty = λ same. well ended (rw is at (step_honest h).answers);
     plain = λ p. fine ended (rw is at (step_honest h).answers) (rw is at (step_plain h p).fine);
     counts = counted_after S tries (Left.Records shelf ended ∷ []) s'' (walked.counts h) (counted_record S tries shelf now ended walked.tries_are from to (rw is at (step_honest h).answers));
@@ -216,23 +251,9 @@ module _ {shelf : Shelf} {part tries : ℕ} {s s' s'' : Seen} {now next : Cursor
       fine (Stalled n) answers given = answers
       fine (Malformed n) answers given = answers
 
-      by : (walk : List Row) (end : WalkEnd) (e : Ended)
-          → rows_of shelf new ≡ take (length (rows_of shelf new)) walk
-          → WalkStep (rows_of shelf s.store) First walk end (length (rows_of shelf new)) now next (Err e)
-          → CameOf walk end (rows_of shelf new) (Some e)
-      by walk end (Cycle n) rows step = (all_rows _ _ rows step.0, step.1)
-      by walk end (Missing n) rows step = (all_rows _ _ rows step.0, step.1)
-      by walk end (GaveUp n) rows step = rows
-      by walk end (Refused n code) rows step = rows
-      by walk end (Stalled n) rows step = rows
-      by walk end (Malformed n) rows step = rows
-
   pub came_done : {S : Seen → Type 0} → result ≡ Ok None → IsHonest s → Walks S shelf tries s s'' (rows_of shelf new) None
   came_done is h = record {
-    along = λ same walk end walks ends.
-        let at = stepped h same walk end walks ends in
-        let step = rw is at at.1 in
-        (all_rows walk (rows_of shelf new) at.0 step.0, step.1);
+    along = λ same. done_kept is h (kept_same h same);
     none_faulty = λ same. tt;
     plain = λ p. tt;
     counts = grown_then (walked.counts h) (grown_within (none (rw is at (step_honest h).answers)));
@@ -241,6 +262,16 @@ module _ {shelf : Shelf} {part tries : ℕ} {s s' s'' : Seen} {now next : Cursor
       none : StepAnswers now s' s'' (Ok None) → WithinTries now.tries s' s''
       none answers = answers.0
 
+  -- the same, over any change
+  pub ended_while : (ended : Ended) → result ≡ Err ended → IsHonest s → WalksWhile shelf s s'' (rows_of shelf new) (Some ended)
+  ended_while ended is h = while_ended h (walked.stays h) (walked.meanwhile h) step ended is (ended_kept ended is h)
+
+  pub done_while : result ≡ Ok None → IsHonest s → WalksWhile shelf s s'' (rows_of shelf new) None
+  done_while is h = while_done h (walked.stays h) (walked.meanwhile h) step is (done_kept is h)
+
+  pub malformed_while : (n : ℕ) → IsHonest s → WalksWhile shelf s s'' (rows_of shelf new) (Some (Malformed n))
+  malformed_while n h = while_malformed h (walked.stays h) (walked.meanwhile h) step n (λ kept walk end walks ends. (stepped h kept walk end walks ends).0)
+
   -- the step returned a record
   came_record : {row : Row} → result ≡ Ok (Some row) → IsHonest s → CountsGrow s s''
   came_record {row = row} is h = grown_then (walked.counts h) (grown_within (one (rw is at (step_honest h).answers)))
@@ -248,14 +279,13 @@ module _ {shelf : Shelf} {part tries : ℕ} {s s' s'' : Seen} {now next : Cursor
       one : StepAnswers now s' s'' (Ok (Some row)) → WithinTries now.tries s' s''
       one answers = answers.0
 
-  -- from a store that stays, the record may follow the earlier ones
-  may_put : IsHonest s → s''.stores_added ≡ s.stores_added → (row : Row) → result ≡ Ok (Some row)
+  -- if the rows of the shelf did not change, the record may follow the earlier ones
+  may_put : IsHonest s → Keeps (rows_of shelf) s s'' → (row : Row) → result ≡ Ok (Some row)
       → may_follow shelf (rows_of shelf new) row ≡ true
-  may_put h same row is =
-      let before = walked.stays h in
+  may_put h kept row is =
       let later = step_honest h in
       let there = has_walk shelf (rows_of shelf s.store) First (store_shelf shelf s.store h.store) in
-      let at = walked.along h (between s s' s'' before later.stays same).0 there.0 there.1 there.2 there.3 in
+      let at = walked.along h (kept_first h kept) there.0 there.1 there.2 there.3 in
       let hands = (rw is at step.leaves).1 in
       let none = (rw is at step.leaves).0 in
       let looked = rw is at later.answers in
@@ -270,12 +300,12 @@ module _ {shelf : Shelf} {part tries : ℕ} {s s' s'' : Seen} {now next : Cursor
       → may_follow shelf (rows_of shelf new) row ≡ false
       → IsHonest s → Walks S shelf tries s s'' (rows_of shelf new) (Some (Malformed n))
   came_malformed {S = S} n {row = row} is left h = record {
-    along = λ same walk end walks ends. (stepped h same walk end walks ends).0;
-    none_faulty = λ same. absurd (true≢false (sym (may_put h same row is) ∙ left));
+    along = λ same walk end walks ends. (stepped h (kept_same h same) walk end walks ends).0;
+    none_faulty = λ same. absurd (true≢false (sym (may_put h (kept_same h same) row is) ∙ left));
     plain = λ p.
         let before = walked.stays h in
         let same = (step_honest h).stays.plain_store (before.plain p) ∙ before.plain_store p in
-        absurd (true≢false (sym (may_put h same row is) ∙ left));
+        absurd (true≢false (sym (may_put h (kept_same h same) row is) ∙ left));
     counts = counted_nothing S tries (Left.Records shelf (Malformed n)) refl (came_record is h);
   }
 
@@ -302,8 +332,8 @@ module _ {shelf : Shelf} {part tries : ℕ} {s s' s'' : Seen} {now next : Cursor
     ids_more = (ids_next is).0
 
     along_more : IsHonest s → Along shelf s s'' next (rows_of shelf more)
-    along_more h = λ same walk end walks ends.
-        let at = stepped h same walk end walks ends in
+    along_more h = λ kept walk end walks ends.
+        let at = stepped h kept walk end walks ends in
         let there = rw is at at.1 in
         let count = length (rows_of shelf new) in
         let long : length (rows_of shelf more) ≡ count + 1 = ap length rows_are ∙ length-append (rows_of shelf new) (row ∷ []) in
@@ -333,6 +363,7 @@ module _ {shelf : Shelf} {part tries : ℕ} {s s' s'' : Seen} {now next : Cursor
           stays = stays_on;
           counts = came_record is;
           along = along_more;
+          meanwhile = λ h. rw rows_are (while_more h (walked.stays h) (walked.meanwhile h) step walked.shelf_is is);
           holds = λ h p. (step_plain h p).holds;
         }
 
@@ -384,6 +415,12 @@ module _ {shelf : Shelf} {part tries times : ℕ} {s s' s'' : Seen} {old now new
       → IsHonest s → IfOk result (λ ended. Walks S shelf tries s s'' (rows_of shelf new) ended)
   walks_all_ok S (Ok ended) walks h = walks_all walks h
   walks_all_ok S (Err e) walks h = tt
+
+  pub while_all_ok : (result : Result (Option Ended) AllocError)
+      → (IsHonest s' → IfOk result (λ ended. WalksWhile shelf s' s'' (rows_of shelf new) ended))
+      → IsHonest s → IfOk result (λ ended. WalksWhile shelf s s'' (rows_of shelf new) ended)
+  while_all_ok (Ok ended) walks h = let before = again.stays h in while_again s s' s'' before (stays before.honest) (walks before.honest)
+  while_all_ok (Err e) walks h = tt
 
   -- with its rows cleared
   pub again_cleared : {S : Seen → Type 0} {cleared : Store} {ended : Option Ended} → cleared ≡ with_rows shelf [] new

@@ -2,9 +2,10 @@
 use Rattle.std.specs.Prelude.{◌≡◌, ◌≢◌, ℕ, ◌+◌, ◌*◌, ◌<◌, ◌==◌, ◌||◌, IsSome, IsTrue, Bool, false, true, Option, Some, None, Err, List, ◌++◌, All, map, take, length, slice_index_or, ◌⊎◌}
 use Rattle.std.specs.List.{Any}
 use Rattle.std.specs.Option.{option_to_list}
-use Rattle.ipmi_capture.specs.Below.{Code, Cycle, CycleAt, Done, Ended, EndsBy, First, FruEnded, fru_call_bound, inventory_of, IsRefused, IsWalk, largest_len, Malformed, Missing, MissingAt, not_present, PlainMayAnswer, Reading, reading_of, Row, rows_of, Sdr, Seen, Sel, Shelf, Stalled, step_call_bound, Store, WalkEnd, with_inventory, with_reading}
-use Rattle.ipmi_capture.specs.Capture.{InventoryOrLeft, OwnInventories, OwnReadings, ReadingOrLeft}
+use Rattle.ipmi_capture.specs.Below.{Code, Cycle, CycleAt, Done, Ended, EndsBy, First, FruEnded, fru_call_bound, inventory_of, IsRefused, IsWalk, Keeps, largest_len, Malformed, Missing, MissingAt, not_present, OnGrowing, PlainMayAnswer, Reading, reading_of, Row, rows_of, Sdr, Seen, Sel, Shelf, Stalled, step_call_bound, Store, WalkEnd, with_inventory, with_reading}
+use Rattle.ipmi_capture.specs.Capture.{InventoryOrLeft, NoneOrSame, OwnInventories, OwnReadings, ReadingOrLeft}
 use Rattle.ipmi_capture.specs.Left.{AreCounted, EndIsNoted, IsTrueOf, LacksInventory, LacksReading, LacksRecords, PlainLeaves}
+use Rattle.ipmi_capture.specs.Meanwhile.{OfHeld, OwnRows}
 use Rattle.ipmi_capture.specs.Named.{IsSensorKey, sensor_place}
 use Rattle.ipmi_capture.specs.declared.left.Left.{Left}
 
@@ -102,6 +103,50 @@ pub record HasInventories (marks : List Bool) (left : List Left) (image store : 
   pub named : (id : ℕ) → id < 255 → IsTrue ((id == 0) || slice_index_or marks id false)
       → InventoryOrLeft left image store id
   pub own : OwnInventories image store
+
+-- ---- over an honest controller whose store may change
+
+-- the reading of each marked sensor is that of a store that the controller held meanwhile, or was left out; each reading is that
+-- of such a store
+pub record HasReadingsWhile (marks : List Bool) (left : List Left) (image : Store) (s s' : Seen) : Type 0 where
+  pub named : (key : ℕ × ℕ) → IsSensorKey key → slice_index_or marks (sensor_place key) false ≡ true
+      → OfHeld s s' (λ store. ReadingOrLeft left image store key)
+  pub own : (lun number : ℕ)
+      → OfHeld s s' (λ store. NoneOrSame (reading_of lun number image) (reading_of lun number store))
+
+-- the same for the inventory of device 0, and of each marked device but FFh, if that inventory did not change
+pub record HasInventoriesWhile (marks : List Bool) (left : List Left) (image : Store) (s s' : Seen) : Type 0 where
+  pub named : (id : ℕ) → id < 255 → IsTrue ((id == 0) || slice_index_or marks id false)
+      → Keeps (inventory_of id) s s' → InventoryOrLeft left image s.store id
+  pub own : (id : ℕ) → Keeps (inventory_of id) s s' → NoneOrSame (inventory_of id image) (inventory_of id s.store)
+
+-- the rows read of a walk that only grew, by why reading stopped: the whole walk, or its first rows
+abbrev pub CameOfLog : Shelf → List Row → List Row → Option Ended → Type 0
+CameOfLog shelf log rows None = rows ≡ log
+CameOfLog shelf log rows (Some ended) =
+    (rows ≡ take (length rows) log) × LacksRecords shelf (Left.Records shelf ended)
+
+-- the rows read of a shelf whose rows did not change, whatever else of the store did
+abbrev pub CameKept : Shelf → Seen → Seen → List Row → Option Ended → Type 0
+CameKept shelf s s' rows ended = Keeps (rows_of shelf) s s' → (walk : List Row) (end : WalkEnd)
+    → IsWalk (rows_of shelf s.store) First walk → EndsBy (rows_of shelf s.store) First walk end
+    → CameOf walk end rows ended
+
+-- a shelf was read; if its rows did not change, or if its walk only grew, along its walk
+pub record WalksWhile (shelf : Shelf) (s s' : Seen) (rows : List Row) (ended : Option Ended) : Type 0 where
+  pub kept : CameKept shelf s s' rows ended
+  pub along : OnGrowing shelf First s s' (λ log. CameOfLog shelf log rows ended)
+  pub own : OwnRows shelf rows s s'
+
+-- if the rows of the shelf did not change, or if its walk only grew: the rows read are the whole walk, or its first rows, and the
+-- others were left out
+pub record HasLog (shelf : Shelf) (left : List Left) (s s' : Seen) (rows : List Row) : Type 0 where
+  pub kept : Keeps (rows_of shelf) s s' → AreWalk shelf left s.store rows
+  pub along : OnGrowing shelf First s s' (λ log. (rows ≡ log)
+      ⊎ ((rows ≡ take (length rows) log) × Any (LacksRecords shelf) left))
+  pub own : OwnRows shelf rows s s'
+
+-- ---- inventories that are left out
 
 -- over a plain controller, reading an inventory does not end this way
 abbrev pub IsNotPlain : FruEnded → Type 0

@@ -4,7 +4,8 @@ ghost use Rattle.std.specs.List.{list_all};
 ghost use Rattle.ipmi_capture.specs.Below.{AsksAtMost, empty_store, info_of, IsHonest, IsPlain, IsStore, rows_of, StaysHonest, Store, with_info, with_rows};
 ghost use Rattle.ipmi_capture.specs.Capture.{IsCaptureBut, IsCaptureOf};
 ghost use Rattle.ipmi_capture.specs.Left.{AreCounted, IsLeftOut, IsStateOf, IsTrueOf, LacksInfo, leaves_nothing, leaves_whole, PlainLeaves, SameOrLeft};
-ghost use Rattle.ipmi_capture.specs.Phases.{Adds, AreWalk, Captures, most_calls, most_on_shelf};
+ghost use Rattle.ipmi_capture.specs.Meanwhile.{IsCaptureWhile, OfHeld};
+ghost use Rattle.ipmi_capture.specs.Phases.{Adds, AreWalk, Captures, HasLog, most_calls, most_on_shelf};
 
 use crate::inventories::capture_inventories;
 use crate::left::{Left, is_whole, note};
@@ -55,6 +56,8 @@ fn note_shelf<C: Controller, P: Progress>(
     ensures stays { IsHonest (C.seen ctl.old) → StaysHonest (C.seen ctl.old) (C.seen ctl.new) }
     ensures honest { IsHonest (C.seen ctl.old) → OnOk result (Captures (IsStateOf C.seen) asking.tries (C.seen ctl.old) (C.seen ctl.new)
         left.old.items left.new.items (AreWalk shelf left.new.items (C.seen ctl.old).store (rows_of shelf image.new))) }
+    ensures meanwhile { IsHonest (C.seen ctl.old) → OnOk result
+        (HasLog shelf left.new.items (C.seen ctl.old) (C.seen ctl.new) (rows_of shelf image.new)) }
 {
     match capture_shelf(asking, ctl, shelf, image, progress) {
         Ok(Some(ended)) => note(left, Some(Left::Records(shelf, ended))),
@@ -80,6 +83,8 @@ fn note_info<C: Controller>(
     ensures stays { IsHonest (C.seen ctl.old) → StaysHonest (C.seen ctl.old) (C.seen ctl.new) }
     ensures honest { IsHonest (C.seen ctl.old) → OnOk result (Captures (IsStateOf C.seen) asking.tries (C.seen ctl.old) (C.seen ctl.new)
         left.old.items left.new.items (SameOrLeft (LacksInfo shelf) left.new.items (info_of shelf image.new) (info_of shelf (C.seen ctl.old).store))) }
+    ensures meanwhile { IsHonest (C.seen ctl.old) → OnOk result (OfHeld (C.seen ctl.old) (C.seen ctl.new) (λ store.
+        SameOrLeft (LacksInfo shelf) left.new.items (info_of shelf image.new) (info_of shelf store))) }
 {
     let lacks = capture_info(asking, ctl, shelf, image);
     note(left, lacks)
@@ -106,6 +111,8 @@ fn capture_into<C: Controller, P: Progress>(
     ensures honest { IsHonest (C.seen ctl.old) →
         (C.seen ctl.new).stores_added ≡ (C.seen ctl.old).stores_added →
         OnOk result (IsStore image.new → IsCaptureBut left.new.items image.new (C.seen ctl.old).store) }
+    ensures meanwhile { IsHonest (C.seen ctl.old) →
+        OnOk result (IsStore image.new → IsCaptureWhile left.new.items image.new (C.seen ctl.old) (C.seen ctl.new)) }
     ensures told { IsHonest (C.seen ctl.old) →
         (C.seen ctl.new).stores_added ≡ (C.seen ctl.old).stores_added →
         OnOk result (All (IsTrueOf (C.seen ctl.old).store) left.new.items) }
@@ -131,9 +138,12 @@ fn capture_into<C: Controller, P: Progress>(
 /// troubles and one refusal, with the item's code. A size has two. If it adds no store meanwhile, the image has exactly the
 /// controller's items, except those left out. A walk that does not end with FFFFh is noted with its end. Such an end is true of the
 /// store, and so is an inventory noted as empty; nothing stalls, is malformed, cut off, or uses words. If nothing was left out, the
-/// image is a capture. Over a plain controller only inventories without bytes are left out. If stores are added, the contract of
-/// `Cursor::step` says that the controller had each record when it was returned; that the image has exactly these records is only
-/// tested.
+/// image is a capture. Over a plain controller only inventories without bytes are left out.
+///
+/// Whatever stores it adds meanwhile, each record, info and reading of the image is that of a store that the controller held during
+/// the capture. A walk and an inventory are the controller's, except those left out, if the rows of the shelf, or that inventory, did
+/// not change. If the walk of a shelf ended with FFFFh at first and then only grew, the image has the whole walk of one such store,
+/// which begins with all records of the first walk; or it has the first records of it, and the others were left out.
 pub fn capture<C: Controller, P: Progress>(
     alloc: Global,
     ctl: &mut C,
@@ -153,6 +163,8 @@ pub fn capture<C: Controller, P: Progress>(
     ensures honest { IsHonest (C.seen ctl.old) →
         (C.seen ctl.new).stores_added ≡ (C.seen ctl.old).stores_added →
         IfOk result (λ c. IsCaptureBut c.left.items c.image (C.seen ctl.old).store) }
+    ensures meanwhile { IsHonest (C.seen ctl.old) →
+        IfOk result (λ c. IsCaptureWhile c.left.items c.image (C.seen ctl.old) (C.seen ctl.new)) }
     ensures all { IsHonest (C.seen ctl.old) →
         (C.seen ctl.new).stores_added ≡ (C.seen ctl.old).stores_added →
         IfOk result (λ c. IsTrue (list_all leaves_nothing c.left.items) →

@@ -1,10 +1,10 @@
 //! Reads inventories of FRU devices into an image.
 ghost use Rattle.std.specs.Prelude.{◌≡◌, ◌≢◌, ◌+◌, ◌*◌, ◌<◌, ◌≤◌, IfOk, IfSome, MatchOption, OnErr, OnOk, [], None, Some, false};
 ghost use Rattle.std.specs.Option.{option_to_list};
-ghost use Rattle.ipmi_capture.specs.Below.{AsksAtMost, FruEnded, inventory_of, IsHonest, LastFruCallSays, not_present, StaysHonest};
+ghost use Rattle.ipmi_capture.specs.Below.{AsksAtMost, FruEnded, inventory_of, IsHonest, Keeps, LastFruCallSays, not_present, StaysHonest};
 ghost use Rattle.ipmi_capture.specs.Capture.{InventoryOrLeft};
 ghost use Rattle.ipmi_capture.specs.Left.{CountsGrow, IsStateOf, LacksInventory};
-ghost use Rattle.ipmi_capture.specs.Phases.{Adds, Captures, CutOffIsIn, IsLeftBy, IsNotSize, IsRefusedAgain, IsUnkept, HasInventories, HasInventory, most_for_inventory};
+ghost use Rattle.ipmi_capture.specs.Phases.{Adds, Captures, CutOffIsIn, IsLeftBy, IsNotSize, IsRefusedAgain, IsUnkept, HasInventories, HasInventoriesWhile, HasInventory, most_for_inventory};
 
 use crate::capturing::Asking;
 use crate::left::{Left, note};
@@ -84,6 +84,8 @@ fn capture_inventory<C: Controller, P: Progress>(
     ensures stays { IsHonest (C.seen ctl.old) → StaysHonest (C.seen ctl.old) (C.seen ctl.new) }
     ensures honest { IsHonest (C.seen ctl.old) → IfOk result (λ left. Captures (IsStateOf C.seen) asking.tries (C.seen ctl.old) (C.seen ctl.new) []
         (option_to_list left) (InventoryOrLeft (option_to_list left) image.new (C.seen ctl.old).store id)) }
+    ensures meanwhile { IsHonest (C.seen ctl.old) → IfOk result (λ left. Keeps (inventory_of id) (C.seen ctl.old) (C.seen ctl.new) →
+        InventoryOrLeft (option_to_list left) image.new (C.seen ctl.old).store id) }
 {
     match read_fru(asking.alloc, ctl, id, asking.part, asking.tries) {
         Ok(bytes) => {
@@ -117,6 +119,8 @@ pub(crate) fn capture_inventories<C: Controller, P: Progress>(
     ensures stays { IsHonest (C.seen ctl.old) → StaysHonest (C.seen ctl.old) (C.seen ctl.new) }
     ensures honest { IsHonest (C.seen ctl.old) → OnOk result (Captures (IsStateOf C.seen) asking.tries (C.seen ctl.old) (C.seen ctl.new)
         left.old.items left.new.items (HasInventories named.now.devices.items left.new.items image.new (C.seen ctl.old).store)) }
+    ensures meanwhile { IsHonest (C.seen ctl.old) → OnOk result
+        (HasInventoriesWhile named.now.devices.items left.new.items image.new (C.seen ctl.old) (C.seen ctl.new)) }
 {
     'devices: for id in 0..NO_DEVICE {
         if !named.has_device(id) {

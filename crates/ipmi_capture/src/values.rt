@@ -4,7 +4,8 @@ ghost use Rattle.std.specs.Option.{option_to_list};
 ghost use Rattle.ipmi_capture.specs.Below.{AsksAtMost, info_of, IsHonest, StaysHonest, reading_of, with_info};
 ghost use Rattle.ipmi_capture.specs.Capture.{ReadingOrLeft};
 ghost use Rattle.ipmi_capture.specs.Left.{IsStateOf, LacksInfo, LacksReading, SameOrLeft};
-ghost use Rattle.ipmi_capture.specs.Phases.{Adds, Captures, HasRead, HasReadings, IsUnread};
+ghost use Rattle.ipmi_capture.specs.Meanwhile.{OfHeld};
+ghost use Rattle.ipmi_capture.specs.Phases.{Adds, Captures, HasRead, HasReadings, HasReadingsWhile, IsUnread};
 
 use crate::capturing::Asking;
 use crate::left::{Left, Unread, note};
@@ -30,6 +31,8 @@ pub(crate) fn capture_info<C: Controller>(
     ensures honest { IsHonest (C.seen ctl.old) → Captures (IsStateOf C.seen) asking.tries (C.seen ctl.old) (C.seen ctl.new) []
         (option_to_list result) (SameOrLeft (LacksInfo shelf) (option_to_list result)
         (info_of shelf image.new) (info_of shelf (C.seen ctl.old).store)) }
+    ensures meanwhile { IsHonest (C.seen ctl.old) → OfHeld (C.seen ctl.old) (C.seen ctl.new) (λ store.
+        SameOrLeft (LacksInfo shelf) (option_to_list result) (info_of shelf image.new) (info_of shelf store)) }
 {
     match read_info(ctl, shelf, asking.tries) {
         Ok(Some(info)) => {
@@ -61,6 +64,8 @@ fn capture_reading<C: Controller, P: Progress>(
     ensures stays { IsHonest (C.seen ctl.old) → StaysHonest (C.seen ctl.old) (C.seen ctl.new) }
     ensures honest { IsHonest (C.seen ctl.old) → IfOk result (λ left. Captures (IsStateOf C.seen) asking.tries (C.seen ctl.old) (C.seen ctl.new) []
         (option_to_list left) (ReadingOrLeft (option_to_list left) image.new (C.seen ctl.old).store (lun, number))) }
+    ensures meanwhile { IsHonest (C.seen ctl.old) → IfOk result (λ left. OfHeld (C.seen ctl.old) (C.seen ctl.new) (λ store.
+        ReadingOrLeft (option_to_list left) image.new store (lun, number))) }
 {
     match read_reading(ctl, 0, lun, number, asking.tries) {
         Ok(Some(reading)) => {
@@ -97,6 +102,8 @@ pub(crate) fn capture_readings<C: Controller, P: Progress>(
     ensures stays { IsHonest (C.seen ctl.old) → StaysHonest (C.seen ctl.old) (C.seen ctl.new) }
     ensures honest { IsHonest (C.seen ctl.old) → OnOk result (Captures (IsStateOf C.seen) asking.tries (C.seen ctl.old) (C.seen ctl.new)
         left.old.items left.new.items (HasReadings named.now.sensors.items left.new.items image.new (C.seen ctl.old).store)) }
+    ensures meanwhile { IsHonest (C.seen ctl.old) → OnOk result
+        (HasReadingsWhile named.now.sensors.items left.new.items image.new (C.seen ctl.old) (C.seen ctl.new)) }
 {
     'places: for place in 0..SENSOR_PLACES {
         if !named.has_sensor(place) {

@@ -2,7 +2,7 @@
 ghost use Rattle.std.specs.Prelude.{◌≡◌, ◌+◌, ◌<◌, ◌≤◌, IfOk, [], Some};
 ghost use Rattle.ipmi_capture.specs.Below.{AsksAtMost, IsHonest, StaysHonest, rows_of, with_rows};
 ghost use Rattle.ipmi_capture.specs.Left.{IsStateOf};
-ghost use Rattle.ipmi_capture.specs.Phases.{most_on_shelf, most_on_walk, Walks};
+ghost use Rattle.ipmi_capture.specs.Phases.{most_on_shelf, most_on_walk, Walks, WalksWhile};
 
 use crate::capturing::Asking;
 use crate::progress::Progress;
@@ -32,6 +32,8 @@ fn walk_shelf<C: Controller, P: Progress>(
     ensures stays { IsHonest (C.seen ctl.old) → StaysHonest (C.seen ctl.old) (C.seen ctl.new) }
     ensures honest { IsHonest (C.seen ctl.old) → IfOk result (λ ended.
         Walks (IsStateOf C.seen) shelf asking.tries (C.seen ctl.old) (C.seen ctl.new) (rows_of shelf image.new) ended) }
+    ensures meanwhile { IsHonest (C.seen ctl.old) → IfOk result (λ ended.
+        WalksWhile shelf (C.seen ctl.old) (C.seen ctl.new) (rows_of shelf image.new) ended) }
 {
     let mut cursor = Cursor::start(asking.alloc, shelf, None, asking.part, asking.tries)?;
     'records: loop {
@@ -67,6 +69,8 @@ pub(crate) fn capture_shelf<C: Controller, P: Progress>(
     ensures stays { IsHonest (C.seen ctl.old) → StaysHonest (C.seen ctl.old) (C.seen ctl.new) }
     ensures honest { IsHonest (C.seen ctl.old) → IfOk result (λ ended.
         Walks (IsStateOf C.seen) shelf asking.tries (C.seen ctl.old) (C.seen ctl.new) (rows_of shelf image.new) ended) }
+    ensures meanwhile { IsHonest (C.seen ctl.old) → IfOk result (λ ended.
+        WalksWhile shelf (C.seen ctl.old) (C.seen ctl.new) (rows_of shelf image.new) ended) }
 {
     'walks: for _ in 0..TIMES_AGAIN {
         match walk_shelf(asking, ctl, shelf, image, progress) {

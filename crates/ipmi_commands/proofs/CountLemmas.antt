@@ -1,6 +1,7 @@
 -- The counts of an honest controller over several sequences of calls.
 use Rattle.std.proofs.Common.{◌≡◌, ℕ, ◌≤◌, arith}
-use Rattle.ipmi_commands.specs.Below.{Seen, IsHonest, StaysHonest, stays_refl, stays_trans}
+use Rattle.ipmi_bus.proofs.HeldLemmas.{keeps_second}
+use Rattle.ipmi_commands.specs.Below.{inventory_of, Keeps, Seen, IsHonest, StaysHonest, stays_refl, stays_trans}
 use Rattle.ipmi_commands.specs.Prelude.{AtEnd, Cause, CountsSo, EndsFor, IsFine}
 
 -- over no calls
@@ -21,7 +22,7 @@ pub between : (s s' s'' : Seen) → StaysHonest s s' → StaysHonest s' s''
 between s s' s'' before later same = omega (arith, before.store.grows, later.store.grows, same)
 
 counts_since : (tries : ℕ) (s s' s'' : Seen)
-    → (s''.stores_added ≡ s.stores_added → s''.stores_added ≡ s'.stores_added) → (cause : Cause)
+    → ((id : ℕ) → Keeps (inventory_of id) s s'' → Keeps (inventory_of id) s' s'') → (cause : Cause)
     → s'.refusals ≡ s.refusals → s.troubles ≤ s'.troubles → CountsSo tries s' s'' cause
     → CountsSo tries s s'' cause
 counts_since tries s s' s'' later cause refusals troubles counts = grind arith
@@ -33,6 +34,6 @@ pub ends_since : {tries : ℕ} {IsPlain IsPlainLater : Type 0} {s s' s'' : Seen}
 ends_since {tries = tries} {s = s} {s' = s'} {s'' = s''} {cause = cause} before plain later = record {
   stays = stays_trans s s' s'' before.stays later.stays;
   grows = omega (arith, before.grows, later.grows);
-  counts = counts_since tries s s' s'' (λ same. (between s s' s'' before.stays later.stays same).1) cause before.counts before.grows later.counts;
+  counts = counts_since tries s s' s'' (λ id keeps. keeps_second (inventory_of id) s s' s'' before.stays.store later.stays.store keeps) cause before.counts before.grows later.counts;
   plain = λ p. later.plain (plain p);
 }

@@ -1,10 +1,10 @@
 -- What a listing prints of a walk that only grew.
-use Rattle.std.proofs.Common.{◌≡◌, ◌≢◌, ℕ, ◌+◌, ◌≤◌, Option, None, Some, Result, Ok, Err, List, [], ◌∷◌, ◌++◌, inl, inr, length, take, drop, refl, sym, ap, subst, ◌∙◌, arith, take_all, take-add, append_assoc, length-append, length-take-le, take-append-drop}
+use Rattle.std.proofs.Common.{◌≡◌, ◌≢◌, ℕ, ◌+◌, ◌≤◌, Option, None, Some, IfOk, Result, Ok, Err, List, [], ◌∷◌, ◌++◌, inl, inr, length, take, drop, refl, sym, ap, subst, ◌∙◌, arith, take_all, take-add, append_assoc, length-append, length-take-le, take-append-drop}
 use Rattle.std.proofs.Math.Seq.{drop-append_seam, take-append_seam}
 use Rattle.ipmi_bus.proofs.GrowthLaws.{growth, Moment, moment, steps_stay}
-use Rattle.ipmi_commands.specs.Below.{AllFollowOrStop, WasLog, AreSteps, asked_at, CommandState, cursor_after, CursorState, Done, End, Ended, EndsBy, Ending, Failure, First, FollowsOrStops, handed_out, Id, IsHonest, IsLog, IsStep, last_next, OnlyGrew, place_after, Place, place_after_rows, Row, rows_of, Seen, seen_after, Shelf, StandsAt, start_of, StaysHonest, Stepped, stays_refl, stays_trans, WalkEnd, with_handed}
+use Rattle.ipmi_commands.specs.Below.{AllFollowOrStop, WasLog, AreSteps, asked_at, CommandState, cursor_after, CursorState, Done, End, Ended, EndsBy, Ending, FailsAt, Failure, First, FollowsOrStops, handed_out, Id, IsHonest, IsLog, IsStep, last_next, OnlyGrew, place_after, Place, place_after_rows, Row, rows_of, Seen, seen_after, Shelf, StandsAt, start_of, StepLeaves, StaysHonest, Stepped, stays_refl, stays_trans, WalkEnd, with_handed}
 use Rattle.ipmi_commands.specs.Meanwhile.{IsTextWhile, KeepsFor, OnGrowingListing}
-use Rattle.ipmi_commands.specs.Traced.{EndsTrace, HasResult, IsListed, IsWithin, PrintsSteps, ReturnsLast, StopsThere, Traces, TracesListing}
+use Rattle.ipmi_commands.specs.Traced.{EndsTrace, IsListed, IsWithin, PrintsSteps, ReturnsLast, Traces, TracesListing}
 use Rattle.ipmi_commands.specs.Prelude.{AtEnd, AtRecord, cause_of, Change, ending_of, first_end, first_rows, Form, HasFirstItems, IsAllowed, IsAmong, IsFresh, Item, listing, listing_plan, next_spots, Plan, Printed, row_items, rows_end, shelf_of, Spot, spots_at_walk_end, StopsAt, Subject}
 use Rattle.ipmi_commands.proofs.CallLemmas.{none_left, place_after_rows-append}
 use Rattle.ipmi_commands.proofs.ItemLemmas.{cut_after, row_item, row_items-append, row_items-split, stops_after}
@@ -33,11 +33,6 @@ seen_joined s s' last [] [] stays later = stays_trans s s' last stays later
 seen_joined s s' last [] (step ∷ more) stays later = later
 seen_joined s s' last (one ∷ steps) more stays later = seen_joined one.seen s' last steps more stays later
 
-has_joined : (result : Result (Option Row) Ended) (steps more : List Stepped) → HasResult result more
-    → HasResult result (steps ++ more)
-has_joined result [] more has = has
-has_joined result (one ∷ steps) more has = inr (has_joined result steps more has)
-
 -- all steps but the last, and the last
 split_last : (c : CursorState) (s : Seen) (done : List Stepped) (step : Stepped) → AreSteps c s (done ++ step ∷ [])
     → AreSteps c s done × StaysHonest (seen_after s done) step.before
@@ -50,11 +45,13 @@ seen_last s [] step = refl
 seen_last s (one ∷ done) step = seen_last one.seen done step
 
 -- a step that follows or stops has no other result
-follows : (result : Result (Option Row) Ended) (steps : List Stepped) → AllFollowOrStop steps
-    → HasResult result steps → FollowsOrStops result
-follows result [] all has = absurd has
-follows result (step ∷ steps) all (inl is) = subst FollowsOrStops is all.0
-follows result (step ∷ steps) all (inr later) = follows result steps all.1 later
+follows : (steps : List Stepped) (step : Stepped) → AllFollowOrStop (steps ++ step ∷ []) → FollowsOrStops step.result
+follows [] step all = all.0
+follows (one ∷ steps) step all = follows steps step all.1
+
+-- given up or refused at the record that the cursor requests next
+stops_there : (now next : CursorState) (n : ℕ) → FailsAt n now next → (n ≡ asked_at next.place) × (next.place ≢ End)
+stops_there now next n f = (f.asked ∙ ap asked_at (sym f.stays.place), λ e. f.not_at_end (sym f.stays.place ∙ e))
 
 -- ---- the end of a log
 
@@ -246,17 +243,31 @@ module _ (begun : CursorState) (s : Seen) (start : Place) (first : List Row) (ho
         (asked_first form (place_after_rows place hs) rest p.end_spots (at_last within at.1));
   }
 
-  never : (ended : Ended) → HasResult (Err ended) trace.steps → FollowsOrStops (Err ended)
-  never ended has = follows (Err ended) all all_follow (has_joined (Err ended) pre trace.steps has)
+  never : (done : List Stepped) (step : Stepped) (ended : Ended) → trace.steps ≡ done ++ step ∷ [] → step.result ≡ Err ended
+      → FollowsOrStops (Err ended)
+  never done step ended are is =
+      let last : all ≡ (pre ++ done) ++ step ∷ [] = ap (λ (l : List Stepped). pre ++ l) are ∙ sym (append_assoc pre done (step ∷ [])) in
+      subst FollowsOrStops is (follows (pre ++ done) step (subst AllFollowOrStop last all_follow))
 
-  step_fails : (ended : Ended) → IsWithin most (length hs + 1) → PrintsSteps form trace.steps c.seen' c.old c.new
-      → HasResult (Err ended) trace.steps → StopsThere now ended → IsAllowed W p c.old c.new (Err (Failure.Ended ended))
-  step_fails (Ended.GaveUp n) within printed has there = stops within printed n there
-  step_fails (Ended.Refused n code) within printed has there = stops within printed n there
-  step_fails (Ended.Cycle n) within printed has there = absurd (never (Ended.Cycle n) has)
-  step_fails (Ended.Missing n) within printed has there = absurd (never (Ended.Missing n) has)
-  step_fails (Ended.Stalled n) within printed has there = absurd (never (Ended.Stalled n) has)
-  step_fails (Ended.Malformed n) within printed has there = absurd (never (Ended.Malformed n) has)
+  -- the last step, which left the cursor as it is now
+  failed_there : (done : List Stepped) (step : Stepped) (n : ℕ) (ended : Ended) → trace.steps ≡ done ++ step ∷ [] → step.result ≡ Err ended
+      → ((old : CursorState) → StepLeaves old step.cursor (Err ended) → FailsAt n old step.cursor)
+      → (n ≡ asked_at now.place) × (now.place ≢ End)
+  failed_there done step n ended are is fails =
+      let begun_here = cursor_after begun pre in
+      let made = split_last begun_here c.seen done step (subst (AreSteps begun_here c.seen) are trace.traced.are) in
+      let at : step.cursor ≡ now = sym (cursor_joined begun_here done (step ∷ [])) ∙ ap (cursor_after begun_here) (sym are) ∙ trace.traced.cursor in
+      let leaves = subst (λ (r : Result (Option Row) Ended). StepLeaves (cursor_after begun_here done) step.cursor r) is made.2.leaves in
+      subst (λ (x : CursorState). (n ≡ asked_at x.place) × (x.place ≢ End)) at (stops_there (cursor_after begun_here done) step.cursor n (fails (cursor_after begun_here done) leaves))
+
+  step_fails : (done : List Stepped) (step : Stepped) (ended : Ended) → IsWithin most (length hs + 1) → PrintsSteps form trace.steps c.seen' c.old c.new
+      → trace.steps ≡ done ++ step ∷ [] → step.result ≡ Err ended → IsAllowed W p c.old c.new (Err (Failure.Ended ended))
+  step_fails done step (Ended.GaveUp n) within printed are is = stops within printed n (failed_there done step n (Ended.GaveUp n) are is (λ old leaves. leaves.1))
+  step_fails done step (Ended.Refused n code) within printed are is = stops within printed n (failed_there done step n (Ended.Refused n code) are is (λ old leaves. leaves.1))
+  step_fails done step (Ended.Cycle n) within printed are is = absurd (never done step (Ended.Cycle n) are is)
+  step_fails done step (Ended.Missing n) within printed are is = absurd (never done step (Ended.Missing n) are is)
+  step_fails done step (Ended.Stalled n) within printed are is = absurd (never done step (Ended.Stalled n) are is)
+  step_fails done step (Ended.Malformed n) within printed are is = absurd (never done step (Ended.Malformed n) are is)
 
   -- ---- the text of the last record failed
 
@@ -301,7 +312,7 @@ module _ (begun : CursorState) (s : Seen) (start : Place) (first : List Row) (ho
   prints : (r : Result ℕ Failure) → EndsTrace form most now trace.steps c r → IsAllowed W p c.old c.new (ending_of r)
   prints (Ok count) ends = whole_allowed count ends.0 (Ok tt) refl (while_found form c.seen c.seen' place hs c.old c.new (printed_hs ends.0.printed) ends.1)
   prints (Err failure) (inl fails) =
-      subst (λ (f : Failure). IsAllowed W p c.old c.new (Err f)) (sym fails.is) (step_fails fails.ended fails.within fails.printed fails.returned fails.there)
+      subst (λ (f : Failure). IsAllowed W p c.old c.new (Err f)) (sym fails.is) (step_fails fails.done fails.step fails.ended fails.within fails.printed fails.are fails.returned)
   prints (Err failure) (inr (inl lost)) =
       stops_after W p c.old c.new (Err failure) (cause_of (Err failure)) (before_it lost.done lost.step lost.row lost.last c.new lost.printed)
       (may_later _ _ (cause_of (Err failure)) lost.there)
@@ -358,12 +369,14 @@ module _ {command : CommandState} {form : Form} {from : Option ℕ} {most : Opti
       (λ plan. IsAllowed (IsTextWhile c.seen c.seen') plan c.old c.new (ending_of result))
   fresh_grows = λ keeps first log grew. let g = fresh_grown first log grew keeps in (g.log, g.was, g.allowed)
 
-  pub fresh_traces : Traces form (start_of from) most c (ending_of result)
-  fresh_traces = λ not_zero. inr (record {
+  pub fresh_traces : (paged : Result Place Failure) → ending_of paged ≡ ending_of result → IfOk paged (λ place. place ≡ now.place)
+      → Traces form (start_of from) most c paged
+  fresh_traces paged ending next = inr (record {
     begun = begun;
     now = now;
-    result = result;
-    is = refl;
+    listed = result;
+    ending = ending;
+    next = next;
     shelf = shelf_is;
     place = ap (λ (x : CursorState). x.place) fresh.is;
     ids = ap (λ (x : CursorState). x.ids) fresh.is;

@@ -126,8 +126,8 @@ with_end wording records Named.Devices c = tt
 
 with_traces : (wording : Wording) (records : List (List ℕ)) (named : Named) (s : Seen) (text : List ℕ)
     → TracesJob (job_with wording records named) (change s s text text) (Err Failure.OutOfMemory)
-with_traces wording records (Named.Events Count.All from) s text = λ not_zero. inl (refl, refl, refl)
-with_traces wording records (Named.Events (Count.First n) from) s text = λ not_zero. inl (refl, refl, refl)
+with_traces wording records (Named.Events Count.All from) s text = (Err Failure.OutOfMemory, refl, inl (inl refl, refl, refl))
+with_traces wording records (Named.Events (Count.First n) from) s text = (Err Failure.OutOfMemory, refl, inl (inl refl, refl, refl))
 with_traces wording records (Named.Events (Count.Last n) from) s text = tt
 with_traces wording records Named.Devices s text = tt
 

@@ -10,7 +10,7 @@ use Rattle.ipmi_commands.proofs.CallLemmas.{first_end-none}
 use Rattle.ipmi_commands.proofs.CountLemmas.{ends_here}
 use Rattle.ipmi_commands.proofs.GrownListing.{fresh_grows, fresh_traces}
 use Rattle.ipmi_commands.proofs.ItemLemmas.{no_items, none_printed}
-use Rattle.ipmi_commands.proofs.ListingLemmas.{fresh_along, fresh_ends}
+use Rattle.ipmi_commands.proofs.ListingLemmas.{fresh_along, fresh_ends, ok_end}
 use Rattle.ipmi_commands.proofs.MeanwhileLemmas.{log_now}
 use Rattle.ipmi_commands.proofs.TraceLemmas.{traced_whole}
 
@@ -24,16 +24,17 @@ end_same : {A B : Type 0} (form : Form) (wrote : Bool) (a : A) (b : B) → endin
 end_same form wrote a b = grind arith
 
 -- a listing that is at its end before the first step
-no_steps : {A : Type 0} (form : Form) (start : Place) (most : Option ℕ) (s : Seen) (text : List ℕ) (value : A) → IsHonest s
+no_steps : (form : Form) (start : Place) (most : Option ℕ) (s : Seen) (text : List ℕ) → IsHonest s
     → IsWithin most 0 → (most ≡ Some 0) ⊎ (start ≡ End)
-    → Traces form start most (change s s text text) (ending_of (end_of form false value))
-no_steps form start most s text value honest within done = λ not_zero.
+    → Traces form start most (change s s text text) (end_of form false start)
+no_steps form start most s text honest within done =
     let here : CursorState = record { shelf = shelf_of form; place = start; part = 0; tries = 0; ids = set.empty; reservation = None } in
     inr (record {
       begun = here;
       now = here;
-      result = end_of form false 0;
-      is = end_same form false value 0;
+      listed = end_of form false 0;
+      ending = end_same form false start 0;
+      next = ok_end (λ place. place ≡ start) form false start refl;
       shelf = refl;
       place = refl;
       ids = refl;
@@ -56,7 +57,7 @@ page_of_none form place tries s text honest =
       };
       grows = λ keeps first log grew.
           (first, log_now s s (stays_refl s honest).store honest first log, rw cause (none_printed (IsTextWhile s s) text text refl, grind (arith, first_end-none 0 first Done (omega arith))));
-      traces = no_steps form place (Some 0) s text place honest (omega arith) (inl refl);
+      traces = no_steps form place (Some 0) s text honest (omega arith) (inl refl);
     }
 
 -- from a place without a row the walk is empty
@@ -76,7 +77,7 @@ page_at_end form tries most s text honest =
       grows = λ keeps first log grew.
           let empty = no_walk _ End first refl log.walks in
           (first, log_now s s (stays_refl s honest).store honest first log, rw empty (grind (arith, common_steps)));
-      traces = no_steps form End most s text End honest (within_none most) (inr refl);
+      traces = no_steps form End most s text honest (within_none most) (inr refl);
     }
   where
     along : (walk : List Row) (end : WalkEnd) → walk ≡ []
@@ -97,7 +98,7 @@ page_without_memory form place tries most s text honest = record {
   along = λ same walk end w ends. record { leaves = no_items (IsTextOver s.store) (listing_plan (listing form place most) walk end) text text refl; calls = omega arith; goes_on = tt };
   grows = λ keeps first log grew.
       (first, log_now s s (stays_refl s honest).store honest first log, no_items (IsTextWhile s s) (listing_plan (listing form place most) first Done) text text refl);
-  traces = λ not_zero. inl (refl, refl, refl);
+  traces = inl (inl refl, refl, refl);
 }
 
 -- from id 0000h no walk ends with Done
@@ -113,7 +114,7 @@ page_of_cycle form tries most s text honest some = record {
   none = λ zero_. refl;
   along = λ same walk end w ends. grind (arith, common_steps);
   grows = λ keeps first log grew. absurd (no_log (shelf_of form) s.store first log);
-  traces = λ not_zero. absurd (not_zero refl);
+  traces = inl (inr (refl, refl), refl, refl);
 }
 
 -- ---- a page with a cursor
@@ -141,14 +142,14 @@ page_by_cursor {from = from} {most = most} {now = now} (Ok count) fresh some hon
         goes_on = elim along.0.all.stands.place [ inl there ↦ inl (there ∙ ap (place_after_rows (start_of from)) (ap (λ (n : ℕ). take n walk) here ∙ first)) | inr empty ↦ inr empty ];
       };
   grows = fresh_grows fresh lists.traces honest;
-  traces = fresh_traces fresh lists.traces honest;
+  traces = fresh_traces fresh lists.traces honest (Ok now.place) refl refl;
 }
 page_by_cursor (Err failure) fresh some honest lists = record {
   ends = fresh_ends fresh lists;
   none = λ zero_. absurd (some zero_);
   along = λ same walk end w ends. let along = fresh_along fresh lists same walk end w ends in record { leaves = along.0.leaves; calls = along.1; goes_on = tt };
   grows = fresh_grows fresh lists.traces honest;
-  traces = fresh_traces fresh lists.traces honest;
+  traces = fresh_traces fresh lists.traces honest (Err failure) refl tt;
 }
 
 -- ---- pages, one after another

@@ -22,7 +22,7 @@ page_runs l tries c result ends calls page = record {
   why = λ h. (page h).ends;
   prints = λ h same walk end w done. let along = (page h).along same walk end w done in (along.leaves, along.calls);
   grows = λ h. (page h).grows;
-  traces = λ h. (page h).traces;
+  traces = λ h. (result, refl, (page h).traces);
 }
 
 -- ---- writing a text

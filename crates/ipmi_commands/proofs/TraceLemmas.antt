@@ -1,7 +1,7 @@
 -- The steps of a listing's cursor, and what was printed of the records that they returned.
 use Rattle.std.proofs.Common.{◌≡◌, ℕ, ◌+◌, ◌<◌, Bool, true, false, Option, None, Some, Result, Ok, Err, List, [], ◌∷◌, ◌++◌, inl, inr, length, refl, sym, ap, subst, ◌∙◌, arith, append-nil, append_assoc, length-append}
-use Rattle.ipmi_commands.specs.Below.{AreSteps, asked_at, cursor_after, CursorState, Ended, Failure, handed_out, IsHonest, IsStep, Row, Seen, seen_after, StaysHonest, StepLeaves, Stepped, stays_refl, TakesPart, with_handed}
-use Rattle.ipmi_commands.specs.Traced.{AreTextsOfSteps, HasResult, IsListed, IsStopAmong, IsTextAfter, IsTextOfResult, IsTraced, IsWithin, PrintsSteps, ReturnsLast, seen_next, StopsThere, TracesListing}
+use Rattle.ipmi_commands.specs.Below.{AreSteps, cursor_after, CursorState, Ended, Failure, handed_out, IsHonest, IsStep, Row, Seen, seen_after, StaysHonest, Stepped, stays_refl, TakesPart, with_handed}
+use Rattle.ipmi_commands.specs.Traced.{AreTextsOfSteps, IsListed, IsStopAmong, IsTextAfter, IsTextOfResult, IsTraced, IsWithin, PrintsSteps, ReturnsLast, seen_next, TracesListing}
 use Rattle.ipmi_commands.specs.Prelude.{cause_of_unread, Change, change, end_of, failure_of, Form, spots_because_of, Unread}
 use Rattle.ipmi_commands.proofs.NameLemmas.{Wrote}
 
@@ -33,10 +33,6 @@ with_more (Err ended) rows more = refl
 pub handed_joined : (steps more : List Stepped) → handed_out (steps ++ more) ≡ handed_out steps ++ handed_out more
 handed_joined [] more = refl
 handed_joined (one ∷ steps) more = rw (handed_joined steps more) (with_more one.result (handed_out steps) (handed_out more))
-
-has_last : (steps : List Stepped) (step : Stepped) → HasResult step.result (steps ++ step ∷ [])
-has_last [] step = inl refl
-has_last (one ∷ steps) step = inr (has_last steps step)
 
 -- ---- its text
 
@@ -129,11 +125,6 @@ pub traced_full : {form : Form} (wrote : Bool) {count : ℕ} {begun now : Cursor
 traced_full {form} wrote {count} most t limit within has =
     traced_whole form wrote count t.steps t.traced (record { count_is = t.count_is; within = within; done = inl limit; printed = t.printed }) has
 
-stops_there : (now next : CursorState) (ended : Ended) → StepLeaves now next (Err ended) → StopsThere next ended
-stops_there now next (Ended.GaveUp n) leaves = let f = leaves.1 in (f.asked ∙ ap asked_at (sym f.stays.place), λ e. f.not_at_end (sym f.stays.place ∙ e))
-stops_there now next (Ended.Refused n code) leaves = let f = leaves.1 in (f.asked ∙ ap asked_at (sym f.stays.place), λ e. f.not_at_end (sym f.stays.place ∙ e))
-stops_there now next _ leaves = tt
-
 -- the cursor returned no record, for this reason
 pub traced_ended : {form : Form} {count : ℕ} {begun now : CursorState} {s s' : Seen}
     {old new : List ℕ} (most : Option ℕ) (t : Tracing form count begun now (change s s' old new))
@@ -149,8 +140,10 @@ traced_ended {form} {count} {begun} {now} {s} {s'} {old} {new} most t {next} {s'
       ends = inl (record {
         ended = ended;
         is = refl;
-        returned = has_last t.steps (last_step t step);
-        there = stops_there now next ended step.leaves;
+        done = t.steps;
+        step = last_step t step;
+        are = refl;
+        returned = refl;
         within = subst (IsWithin most) here within;
         printed = none_more t step s'' refl;
       });

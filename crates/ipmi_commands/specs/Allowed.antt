@@ -2,7 +2,7 @@
 -- and `new` are the contents of the output before and after, and `s` and `s'`, or `seen` and
 -- `seen'`, are the states of the controller that contracts see before and after.
 use Rattle.std.specs.Prelude.{◌≡◌, ℕ, ◌+◌, ◌<◌, ◌≤◌, Result, Ok, Err, List, [], ◌∷◌, ◌++◌, length, ◌⊎◌}
-use Rattle.ipmi_commands.specs.Below.{Ended, FruEnded, ImageFault, Seen, StaysHonest, TakesPart, Ending, Failure}
+use Rattle.ipmi_commands.specs.Below.{Ended, FruEnded, ImageFault, inventory_of, Keeps, Seen, StaysHonest, TakesPart, Ending, Failure}
 use Rattle.ipmi_commands.specs.Texts.{Subject}
 use Rattle.ipmi_commands.specs.Plan.{Spot, AtRecord, AtInventory, Item, Plan, next_spots}
 
@@ -116,12 +116,12 @@ IsAllowed IsText plan old new ending = Leaves IsText plan old new ending (cause_
 
 -- ---- what the controller counted
 
--- giving up takes more than `tries` troubles since something was last finished; at an inventory, if
--- a store was added, at least one: a shorter inventory may have been finished in between
+-- giving up takes more than `tries` troubles since something was last finished; at an inventory that
+-- changed, at least one: a shorter inventory may have been finished in between
 abbrev pub HasFreshTroubles : ℕ → Seen → Seen → Spot → Type 0
 HasFreshTroubles tries s s' (AtRecord n) = tries < s'.fresh_troubles
 HasFreshTroubles tries s s' (AtInventory id) =
-    (0 < s'.fresh_troubles) × (s'.stores_added ≡ s.stores_added → tries < s'.fresh_troubles)
+    (0 < s'.fresh_troubles) × (Keeps (inventory_of id) s s' → tries < s'.fresh_troubles)
 
 -- `GaveUp`: no refusal, and more than `tries` troubles, both in this run and since something was
 -- last finished. `Refused`: one refusal, with this code. `Dishonest`: impossible. Otherwise no

@@ -8,7 +8,8 @@ use Rattle.ipmi_commands.specs.Job.{shelf_of}
 use Rattle.ipmi_commands.specs.Plan.{listing_plan, Plan, Spot, AtRecord, AtInventory}
 use Rattle.ipmi_commands.specs.Texts.{IsTextOver, Subject}
 
--- a text of the subject over a store that the controller held meanwhile
+-- a text of the subject over a store that the controller held meanwhile; each text may be over another
+-- one
 pub record IsTextWhile (s s' : Seen) (subject : Subject) (text : List ℕ) : Type 0 where
   pub store : Store
   pub held : WasHeld s s' store
@@ -27,7 +28,7 @@ KeepsFor form s s' = Unit {0}
 
 -- ---- records that are appended
 
--- `Holds` for the plan of a listing over the log as it was meanwhile, if it only grew
+-- if records were only appended: `Holds` for the plan of a listing over the records as they were meanwhile
 abbrev pub OnGrowingListing : Listing → Seen → Seen → (Plan → Type 0) → Type 0
 OnGrowingListing l s s' Holds = KeepsFor l.form s s'
     → OnGrowing (shelf_of l.form) l.start s s' (λ log. Holds (listing_plan l log Done))

@@ -61,7 +61,7 @@ pub record IsPage (form : Form) (start : Place) (tries : ℕ) (most : Option ℕ
       (λ walk end. PageAlong form start tries most c result walk end)
   pub grows : OnGrowingListing (listing form start most) c.seen c.seen'
       (λ plan. IsAllowed (IsTextWhile c.seen c.seen') plan c.old c.new (ending_of result))
-  pub traces : Traces form start most c (ending_of result)
+  pub traces : Traces form start most c result
 
 -- ---- pages
 

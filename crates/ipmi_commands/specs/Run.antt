@@ -8,7 +8,7 @@ use Rattle.ipmi_commands.specs.declared.job.Listing.{Listing}
 use Rattle.ipmi_commands.specs.declared.job.Named.{Named}
 use Rattle.ipmi_commands.specs.declared.job.Wording.{Wording}
 use Rattle.ipmi_commands.specs.declared.unread.Unread.{Unread}
-use Rattle.ipmi_commands.specs.Allowed.{NoMemory, cause_of, EndsFor, IsAllowed, IsFine, Change}
+use Rattle.ipmi_commands.specs.Allowed.{NoMemory, cause_of, ending_of, EndsFor, IsAllowed, IsFine, Change}
 use Rattle.ipmi_commands.specs.Calls.{calls_for_spot, walk_call_bound, most_on_walk}
 use Rattle.ipmi_commands.specs.Job.{entries_in, shelf_of, is_rewrite, job_in, job_of, listing}
 use Rattle.ipmi_commands.specs.Meanwhile.{IsTextWhile, OnGrowingListing}
@@ -175,7 +175,7 @@ Prints job tries c ending =
     IsAllowed (IsTextOver c.seen.store) plan c.old c.new ending
     × (c.seen'.calls ≤ c.seen.calls + calls))
 
--- ---- over an honest controller whose records only grow
+-- ---- over an honest controller, where records are only appended
 
 -- the last n entries of the log as it was when they were counted, and those appended since
 abbrev pub OnGrowingLast : Entries → ℕ → Option ℕ → Seen → Seen → (Plan → Type 0) → Type 0
@@ -190,7 +190,7 @@ OnGrowingEntries entries (Count.First n) from s s' Holds =
     OnGrowingListing (listing (Form.EntryLine entries) (start_of from) (Some n)) s s' Holds
 OnGrowingEntries entries (Count.Last n) from s s' Holds = OnGrowingLast entries n from s s' Holds
 
--- no inventory changes
+-- if no inventory changes
 abbrev pub OnGrowingInventories : Wording → Option (List ℕ) → Seen → Seen → (Plan → Type 0) → Type 0
 OnGrowingInventories wording name s s' Holds = Keeps (λ store. store.inventories) s s'
     → OnGrowing Sdr First s s' (λ log. Holds (inventories_plan wording name log Done))
@@ -202,8 +202,8 @@ OnGrowingNamed wording records Named.Devices s s' Holds =
     OnGrowingInventories wording (device_name 0 records) s s' Holds
 
 -- `Holds` for the job's plan over the records as they were meanwhile: all that were there when the
--- run began, in order, and perhaps some that were appended. An info is as it was at last; an
--- inventory must not change.
+-- run began, in order, and perhaps some that were appended. An info is as it was when the run ended;
+-- an inventory must not change.
 abbrev pub OnGrowingPlan : Job → Seen → Seen → (Plan → Type 0) → Type 0
 OnGrowingPlan (Job.Records l) s s' Holds = OnGrowingListing l s s' Holds
 OnGrowingPlan (Job.Last entries n from) s s' Holds = OnGrowingLast entries n from s s' Holds
@@ -219,20 +219,21 @@ OnGrowingPlan (Job.AllInventories wording name) s s' Holds =
 OnGrowingPlan Job.Rewrite s s' Holds = Holds no_plan
 
 -- the output agrees with that plan and with how the run ended; each text is over a store that the
--- controller held meanwhile
+-- controller held meanwhile, each perhaps over another one
 abbrev pub PrintsWhile : Job → Change → Ending → Type 0
 PrintsWhile job c ending = OnGrowingPlan job c.seen c.seen'
     (λ plan. IsAllowed (IsTextWhile c.seen c.seen') plan c.old c.new ending)
 
--- a job that is one listing
+-- a job that is one listing; nothing is promised of other jobs
 abbrev pub TracesJob : Job → Change → Ending → Type 0
-TracesJob (Job.Records l) c ending = Traces l.form l.start l.most c ending
+TracesJob (Job.Records l) c ending = (result : Result Place Failure) × (ending ≡ ending_of result)
+    × Traces l.form l.start l.most c result
 TracesJob job c ending = Unit {0}
 
 -- ---- a run
 
 -- A run. Over any controller: the largest number of calls, and the possible ends. Over an honest
--- one: why it ended; its output, if its records stay or grow (`grows`), and exactly, with the number
+-- one: why it ended; its output, if records are only appended (`grows`), and exactly, with the number
 -- of calls, if no store was added (`prints`); whatever its store does, the records that a listing's
 -- cursor returned and their texts (`traces`). If the controller is not honest, this says nothing about
 -- the output.

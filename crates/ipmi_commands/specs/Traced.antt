@@ -1,7 +1,7 @@
 -- What a listing printed, by the steps of its cursor, whatever the store did meanwhile.
-use Rattle.std.specs.Prelude.{◌≡◌, ◌≢◌, ◌⊎◌, ◌+◌, ◌<◌, ◌≤◌, ℕ, Option, None, Some, Result, Ok, Err, List, [], ◌∷◌, ◌++◌, length}
+use Rattle.std.specs.Prelude.{◌≡◌, ◌⊎◌, ◌+◌, ◌<◌, ◌≤◌, ℕ, Option, None, Some, IfOk, Result, Ok, Err, List, [], ◌∷◌, ◌++◌, length}
 use Rattle.std.specs.FinSet as set
-use Rattle.ipmi_commands.specs.Below.{AreSteps, asked_at, cursor_after, CursorState, End, Ended, Ending, Failure, handed_out, Id, Place, Row, Seen, seen_after, StaysHonest, Stepped, TakesPart}
+use Rattle.ipmi_commands.specs.Below.{AreSteps, cursor_after, CursorState, End, Ended, Ending, Failure, handed_out, Id, Place, Row, Seen, seen_after, StaysHonest, Stepped, TakesPart}
 use Rattle.ipmi_commands.specs.declared.job.Form.{Form}
 use Rattle.ipmi_commands.specs.declared.job.Wording.{Wording}
 use Rattle.ipmi_commands.specs.Allowed.{Cause, Change, cause_of, ending_of, GaveUp, IsAmong, NoMemory, Refused, TextsJoined}
@@ -18,8 +18,8 @@ pub record IsTraced (begun now : CursorState) (s s' : Seen) (steps : List Steppe
 
 -- ---- the texts of the returned records
 
--- The text of a record in this form, after the requests that it needs. Its reading is the one that
--- the controller had as these ended, and so is its inventory, unless that changed while it was read.
+-- The text of a record in this form, over the store that the controller held after the requests for it,
+-- `s'`; any text if an inventory changed between `s` and `s'`
 abbrev pub IsTextAfter : Form → Row → Seen → Seen → List ℕ → Type 0
 IsTextAfter form row s s' text = KeepsAt (spots_because_of form row) s s' → IsRowText s'.store form row text
 
@@ -40,7 +40,7 @@ AreTextsOfSteps form (step ∷ steps) last text = TextsJoined
     (λ first. IsTextOfResult form step.result step.seen (seen_next steps last) first)
     (λ rest. AreTextsOfSteps form steps last rest) text
 
--- they were printed
+-- these texts were printed, and nothing else
 pub record PrintsSteps (form : Form) (steps : List Stepped) (last : Seen)
     (old new : List ℕ) : Type 0 where
   pub text : List ℕ
@@ -62,24 +62,15 @@ pub record IsListed (form : Form) (most : Option ℕ) (now : CursorState) (steps
   pub done : (most ≡ Some count) ⊎ (now.place ≡ End)
   pub printed : PrintsSteps form steps c.seen' c.old c.new
 
--- one of the steps had this result
-abbrev pub HasResult : Result (Option Row) Ended → List Stepped → Type 0
-HasResult result [] = ⊥
-HasResult result (step ∷ steps) = (step.result ≡ result) ⊎ HasResult result steps
-
--- given up or refused at the record that the cursor requests next
-abbrev pub StopsThere : CursorState → Ended → Type 0
-StopsThere now (Ended.GaveUp n) = (n ≡ asked_at now.place) × (now.place ≢ End)
-StopsThere now (Ended.Refused n code) = (n ≡ asked_at now.place) × (now.place ≢ End)
-StopsThere now _ = Unit {0}
-
--- a step returned no record, for this reason, before the limit; all texts were printed
-pub record StepFails (form : Form) (most : Option ℕ) (now : CursorState) (steps : List Stepped)
-    (c : Change) (failure : Failure) : Type 0 where
+-- the last step returned no record, for this reason, before the limit; all texts were printed
+pub record StepFails (form : Form) (most : Option ℕ) (steps : List Stepped) (c : Change)
+    (failure : Failure) : Type 0 where
   pub ended : Ended
   pub is : failure ≡ Failure.Ended ended
-  pub returned : HasResult (Err ended) steps
-  pub there : StopsThere now ended
+  pub done : List Stepped
+  pub step : Stepped
+  pub are : steps ≡ done ++ (step ∷ [])
+  pub returned : step.result ≡ Err ended
   pub within : IsWithin most (length (handed_out steps) + 1)
   pub printed : PrintsSteps form steps c.seen' c.old c.new
 
@@ -135,7 +126,7 @@ pub record NoneNamed (form : Form) (most : Option ℕ) (now : CursorState) (step
 
 abbrev pub Fails : Form → Option ℕ → CursorState → List Stepped → Change → Failure → Type 0
 Fails form most now steps c failure =
-    StepFails form most now steps c failure ⊎ TextFails form most steps c failure
+    StepFails form most steps c failure ⊎ TextFails form most steps c failure
     ⊎ TextIsCut form most steps c failure ⊎ NoneNamed form most now steps c failure
 
 -- a search for a name printed something
@@ -156,23 +147,26 @@ pub record TracesListing (form : Form) (most : Option ℕ) (begun now : CursorSt
   pub traced : IsTraced begun now c.seen c.seen' steps
   pub ends : EndsTrace form most now steps c result
 
--- the same of a listing with a new cursor; without memory for the cursor, nothing was done
+-- A listing from this place with a new cursor, which has returned nothing. Ok is the place where it
+-- stopped.
 pub record TracesFrom (form : Form) (start : Place) (most : Option ℕ) (c : Change)
-    (ending : Ending) : Type 0 where
+    (result : Result Place Failure) : Type 0 where
   pub begun : CursorState
   pub now : CursorState
-  pub result : Result ℕ Failure
-  pub is : ending ≡ ending_of result
+  pub listed : Result ℕ Failure
+  pub ending : ending_of result ≡ ending_of listed
+  pub next : IfOk result (λ place. place ≡ now.place)
   pub shelf : begun.shelf ≡ shelf_of form
   pub place : begun.place ≡ start
   pub ids : begun.ids ≡ set.empty
-  pub traces : TracesListing form most begun now c result
+  pub traces : TracesListing form most begun now c listed
 
-abbrev pub HasNoCursor : Change → Ending → Type 0
-HasNoCursor c ending =
-    (ending ≡ Err Failure.OutOfMemory) × (c.seen' ≡ c.seen) × (c.new ≡ c.old)
+-- without memory for the cursor, or from id 0000h, nothing was requested and nothing printed
+abbrev pub HasNoCursor : Place → Change → Result Place Failure → Type 0
+HasNoCursor start c result =
+    ((result ≡ Err Failure.OutOfMemory)
+    ⊎ ((start ≡ Id 0) × (result ≡ Err (Failure.Ended (Ended.Cycle 0)))))
+    × (c.seen' ≡ c.seen) × (c.new ≡ c.old)
 
--- a listing from id 0000h makes no step
-abbrev pub Traces : Form → Place → Option ℕ → Change → Ending → Type 0
-Traces form start most c ending =
-    start ≢ Id 0 → HasNoCursor c ending ⊎ TracesFrom form start most c ending
+abbrev pub Traces : Form → Place → Option ℕ → Change → Result Place Failure → Type 0
+Traces form start most c result = HasNoCursor start c result ⊎ TracesFrom form start most c result

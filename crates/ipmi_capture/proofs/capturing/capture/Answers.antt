@@ -7,6 +7,11 @@ returns-clause-all g c = λ h same nothing.
     let is_image = c.finish.ensures.store in
     rw c.finish.ensures.is (whole_capture _ nothing _ _ (c.in_ok-capture_into.ensures.honest h same (rw c.finish.ensures.is at is_image)))
 
+pub returns-clause-meanwhile : goal.returns-clause-meanwhile
+returns-clause-meanwhile g c = λ h.
+    let is_image = c.finish.ensures.store in
+    rw c.finish.ensures.is (c.in_ok-capture_into.ensures.meanwhile h (rw c.finish.ensures.is at is_image))
+
 pub returns-clause-whole : goal.returns-clause-whole
 returns-clause-whole g c = search rules
 

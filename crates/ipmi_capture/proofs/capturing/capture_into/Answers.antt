@@ -3,6 +3,7 @@ use Rattle.std.proofs.lemmas.List.Elements.{All-nil}
 use Rattle.ipmi_capture.specs.Left.{PlainLeaves}
 use Rattle.ipmi_capture.specs.declared.left.Left.{Left}
 use Rattle.ipmi_capture.proofs.CaptureLemmas.{assemble, captures_parts, left_out, stays_on}
+use Rattle.ipmi_capture.proofs.WhileLemmas.{assemble_while, begins_adds, parts_while}
 use Rattle.ipmi_bus.specs.Seen.{stays_trans}
 use Rattle.ipmi_capture.proofs.capturing.capture_into.Goals as goal
 
@@ -32,6 +33,19 @@ returns-clause-honest g c = λ h same.
     λ is_image. assemble _ _ c.args.image.now c.note_shelf.new.image c.note_shelf-2.new.image c.note_info.new.image c.note_info-2.new.image c.capture_readings.new.image
     c.capture_inventories.new.image c.note_shelf.ensures.beside c.note_shelf-2.ensures.beside c.note_info.ensures.beside c.note_info-2.ensures.beside c.capture_readings.ensures.beside
     c.capture_inventories.ensures.beside is_image h.store c.in_ok-named.named.sensors.items c.in_ok-named.named.devices.items c.in_ok-named.ensures (all.fact same)
+
+pub returns-clause-meanwhile : goal.returns-clause-meanwhile
+returns-clause-meanwhile g c = λ h.
+    let parts = parts_while c.note_shelf.new.image c.note_shelf-2.new.image c.note_info.new.image c.note_info-2.new.image c.capture_readings.new.image c.capture_inventories.new.image
+    c.in_ok-named.named.sensors.items c.in_ok-named.named.devices.items
+    c.note_shelf.ensures.stays c.note_shelf-2.ensures.stays c.note_info.ensures.stays c.note_info-2.ensures.stays c.capture_readings.ensures.stays c.capture_inventories.ensures.stays
+    (begins_adds c.in_ok-note_shelf-2.ensures.lacks) (begins_adds c.in_ok-note_info.ensures.lacks) (begins_adds c.in_ok-note_info-2.ensures.lacks)
+    (begins_adds c.in_ok-capture_readings.ensures.lacks) (begins_adds c.in_ok-capture_inventories.ensures.lacks)
+    c.in_ok-note_shelf.ensures.meanwhile c.in_ok-note_shelf-2.ensures.meanwhile c.in_ok-note_info.ensures.meanwhile c.in_ok-note_info-2.ensures.meanwhile c.in_ok-capture_readings.ensures.meanwhile
+    c.in_ok-capture_inventories.ensures.meanwhile h in
+    λ is_image. assemble_while _ _ _ c.args.image.now c.note_shelf.new.image c.note_shelf-2.new.image c.note_info.new.image c.note_info-2.new.image c.capture_readings.new.image
+    c.capture_inventories.new.image c.note_shelf.ensures.beside c.note_shelf-2.ensures.beside c.note_info.ensures.beside c.note_info-2.ensures.beside c.capture_readings.ensures.beside
+    c.capture_inventories.ensures.beside is_image h c.in_ok-named.named.sensors.items c.in_ok-named.named.devices.items c.in_ok-named.ensures parts
 
 pub returns-clause-counts : goal.returns-clause-counts
 returns-clause-counts g c = λ h.

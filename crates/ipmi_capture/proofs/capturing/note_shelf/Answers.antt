@@ -1,6 +1,7 @@
 use Rattle.std.proofs.Common.{Some, ◌∷◌, []}
 use Rattle.ipmi_capture.proofs.ReadLemmas.{adds_none, adds_some, captures_after, on_ok, walk_after}
 use Rattle.ipmi_capture.proofs.CaptureLemmas.{captures_walk, captures_whole_walk}
+use Rattle.ipmi_capture.proofs.WhileLemmas.{first_records, whole_log}
 use Rattle.ipmi_capture.specs.declared.left.Left.{Left}
 use Rattle.ipmi_capture.proofs.capturing.note_shelf.Goals as goal
 
@@ -13,6 +14,14 @@ returns-in-Ok-Some-clause-honest g c = λ h.
 pub returns-in-Ok-None-clause-honest : goal.returns-in-Ok-None-clause-honest
 returns-in-Ok-None-clause-honest g c = λ h.
     captures_whole_walk c.args.shelf _ c.args.left.now.items (rw c.in-Ok-None.field-0-is at (c.in-Ok-None.ensures.honest h))
+
+pub returns-in-Ok-Some-clause-meanwhile : goal.returns-in-Ok-Some-clause-meanwhile
+returns-in-Ok-Some-clause-meanwhile g c = λ h.
+    on_ok c.note.result c.note.ensures (λ added. rw added (first_records c.args.left.now.items c.in-Ok-Some.ended (rw c.in-Ok-Some.field-0-is at (c.in-Ok-Some.ensures.meanwhile h))))
+
+pub returns-in-Ok-None-clause-meanwhile : goal.returns-in-Ok-None-clause-meanwhile
+returns-in-Ok-None-clause-meanwhile g c = λ h.
+    whole_log c.args.left.now.items (rw c.in-Ok-None.field-0-is at (c.in-Ok-None.ensures.meanwhile h))
 
 pub returns-in-Ok-Some-clause-lacks : goal.returns-in-Ok-Some-clause-lacks
 returns-in-Ok-Some-clause-lacks g c =

@@ -1,6 +1,6 @@
 use Rattle.std.proofs.Common.{◌≡◌, ◌==◌, ◌||◌, false, arith, slice_index_or}
 use Rattle.ipmi_capture.proofs.FoundLemmas.{not_kept}
-use Rattle.ipmi_capture.proofs.ReadLemmas.{keeping_begun, keeping_done, keeping_lacks, keeping_read, keeping_skipped}
+use Rattle.ipmi_capture.proofs.ReadLemmas.{inventories_while, keeping_begun, keeping_done, keeping_lacks, keeping_read, keeping_skipped}
 use Rattle.ipmi_bus.specs.Seen.{stays_trans}
 use Rattle.ipmi_capture.proofs.inventories.capture_inventories.Goals as goal
 
@@ -9,6 +9,9 @@ devices-init g c = keeping_begun c.args.asking.part c.args.asking.tries c.args.n
 
 pub returns-clause-honest : goal.returns-clause-honest
 returns-clause-honest g c = keeping_done c.devices.invariant (omega (arith, c.devices-test.false))
+
+pub returns-clause-meanwhile : goal.returns-clause-meanwhile
+returns-clause-meanwhile g c = inventories_while c.devices.invariant (omega (arith, c.devices-test.false))
 
 pub devices-preserved-then-not-has_device : goal.devices-preserved-then-not-has_device
 devices-preserved-then-not-has_device g c =
@@ -21,7 +24,7 @@ capture_inventory-requires-clause-none g c = not_kept c.devices.id c.devices.ima
 pub devices-preserved : goal.devices-preserved
 devices-preserved g c =
     rw c.in-Ok-note.ensures (keeping_read c.in-Ok.lacks c.devices.id c.devices.invariant c.in-Ok.ensures.image c.in-Ok.ensures.lacks
-    c.in-Ok.ensures.calls c.in-Ok.ensures.asked c.in-Ok.ensures.stays c.in-Ok.ensures.honest)
+    c.in-Ok.ensures.calls c.in-Ok.ensures.asked c.in-Ok.ensures.stays c.in-Ok.ensures.honest c.in-Ok.ensures.meanwhile)
 
 pub returns-clause-lacks : goal.returns-clause-lacks
 returns-clause-lacks g c = keeping_lacks c.devices.invariant

@@ -1,6 +1,6 @@
 use Rattle.std.proofs.Common.{◌≡◌, ◌+◌, ◌*◌, ◌/◌, ◌%◌, ◌<◌, false, arith, slice_index_or}
 use Rattle.ipmi_capture.proofs.FoundLemmas.{not_read}
-use Rattle.ipmi_capture.proofs.ReadLemmas.{reading_begun, reading_done, reading_lacks, reading_read, reading_skipped}
+use Rattle.ipmi_capture.proofs.ReadLemmas.{reading_begun, reading_done, reading_lacks, reading_read, reading_skipped, readings_while}
 use Rattle.ipmi_bus.specs.Seen.{stays_trans}
 use Rattle.ipmi_capture.proofs.values.capture_readings.Goals as goal
 
@@ -9,6 +9,9 @@ places-init g c = reading_begun c.args.asking.part c.args.asking.tries c.args.na
 
 pub returns-clause-honest : goal.returns-clause-honest
 returns-clause-honest g c = reading_done c.places.invariant (omega (arith, c.places-test.false))
+
+pub returns-clause-meanwhile : goal.returns-clause-meanwhile
+returns-clause-meanwhile g c = readings_while c.places.invariant (omega (arith, c.places-test.false))
 
 pub places-preserved-then-not-has_sensor : goal.places-preserved-then-not-has_sensor
 places-preserved-then-not-has_sensor g c =
@@ -24,7 +27,7 @@ places-preserved g c =
     let at : c.places.place / 256 * 256 + c.places.place % 256 ≡ c.places.place = omega arith in
     let small : c.places.place % 256 < 256 = omega arith in
     rw c.in-Ok-note.ensures (reading_read c.in-Ok.lacks (c.places.place / 256) (c.places.place % 256) c.places.invariant at small c.in-Ok.ensures.image c.in-Ok.ensures.lacks
-    c.in-Ok.ensures.calls c.in-Ok.ensures.asked c.in-Ok.ensures.stays c.in-Ok.ensures.honest)
+    c.in-Ok.ensures.calls c.in-Ok.ensures.asked c.in-Ok.ensures.stays c.in-Ok.ensures.honest c.in-Ok.ensures.meanwhile)
 
 pub returns-clause-lacks : goal.returns-clause-lacks
 returns-clause-lacks g c = reading_lacks c.places.invariant

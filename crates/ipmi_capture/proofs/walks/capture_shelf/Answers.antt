@@ -1,6 +1,7 @@
 use Rattle.std.proofs.Common.{rules}
 use Rattle.ipmi_capture.specs.Left.{IsStateOf}
-use Rattle.ipmi_capture.proofs.StepLemmas.{again_cleared, walks_all_ok}
+use Rattle.ipmi_capture.proofs.LogLemmas.{while_again}
+use Rattle.ipmi_capture.proofs.StepLemmas.{again_cleared, walks_all_ok, while_all_ok}
 use Rattle.ipmi_bus.specs.Seen.{stays_trans}
 use Rattle.ipmi_capture.proofs.walks.capture_shelf.Goals as goal
 
@@ -20,6 +21,16 @@ returns-in-Ok-clause-honest g c = search (
   walks_all_ok c.walks.invariant c.walk_shelf.ensures.beside c.walk_shelf.ensures.calls c.walk_shelf.ensures.asked c.walk_shelf.ensures.stays
       (IsStateOf g.C.Controller.seen) c.walk_shelf.result c.walk_shelf.ensures.honest,
 )
+
+pub returns-clause-meanwhile : goal.returns-clause-meanwhile
+returns-clause-meanwhile g c =
+    while_all_ok c.walks.invariant c.walk_shelf-2.ensures.beside c.walk_shelf-2.ensures.calls c.walk_shelf-2.ensures.asked c.walk_shelf-2.ensures.stays
+    c.walk_shelf-2.result c.walk_shelf-2.ensures.meanwhile
+
+pub returns-in-Ok-clause-meanwhile : goal.returns-in-Ok-clause-meanwhile
+returns-in-Ok-clause-meanwhile g c = λ h.
+    let before = c.walks.invariant.stays h in
+    search (rules, while_again (g.C.Controller.seen c.args.ctl.now) (g.C.Controller.seen c.walks.ctl) (g.C.Controller.seen c.walk_shelf.new.ctl) before (c.walk_shelf.ensures.stays before.honest) (c.in-Ok.ensures.meanwhile before.honest))
 
 pub returns-clause-calls : goal.returns-clause-calls
 returns-clause-calls g c = search rules

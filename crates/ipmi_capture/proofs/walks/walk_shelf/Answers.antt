@@ -1,7 +1,7 @@
 use Rattle.std.proofs.Common.{◌≡◌, Ok, arith, ap, refl, sym, ◌∙◌}
 use Rattle.ipmi_capture.specs.Below.{rows_of}
 use Rattle.ipmi_capture.proofs.CountLemmas.{is_state}
-use Rattle.ipmi_capture.proofs.StepLemmas.{calls_on, came_done, came_ended, came_malformed, ids_next, rows_of-with_rows, walked_more, walked_none}
+use Rattle.ipmi_capture.proofs.StepLemmas.{calls_on, came_done, came_ended, came_malformed, done_while, ended_while, ids_next, malformed_while, rows_of-with_rows, walked_more, walked_none}
 use Rattle.ipmi_bus.specs.Seen.{stays_trans}
 use Rattle.ipmi_capture.proofs.walks.walk_shelf.Goals as goal
 
@@ -24,6 +24,22 @@ pub returns-in-Err-clause-honest : goal.returns-in-Err-clause-honest
 returns-in-Err-clause-honest g c =
     let step = rw c.in-Err.is at c.step.follows.holds-at-none in
     λ h. came_ended c.records.invariant step (is_state g.C.Controller.seen c.records.ctl) (is_state g.C.Controller.seen c.step.new.ctl) c.in-Err.ended refl h
+
+pub returns-in-Ok-None-clause-meanwhile : goal.returns-in-Ok-None-clause-meanwhile
+returns-in-Ok-None-clause-meanwhile g c =
+    let step = rw (c.in-Ok-None.is ∙ ap Ok c.in-Ok-None.field-0-is) at c.step.follows.holds-at-none in
+    λ h. done_while c.records.invariant step refl h
+
+pub returns-in-Err-clause-meanwhile : goal.returns-in-Err-clause-meanwhile
+returns-in-Err-clause-meanwhile g c =
+    let step = rw c.in-Err.is at c.step.follows.holds-at-none in
+    λ h. ended_while c.records.invariant step c.in-Err.ended refl h
+
+pub returns-in-Ok-false-clause-meanwhile : goal.returns-in-Ok-false-clause-meanwhile
+returns-in-Ok-false-clause-meanwhile g c =
+    let same : rows_of c.args.shelf c.put_record.new.self ≡ rows_of c.args.shelf c.records.image =
+    ap (rows_of c.args.shelf) (rw c.in-Ok-false.field-0-test at c.in-Ok-false.ensures.put.1) ∙ rows_of-with_rows c.args.shelf _ _ in
+    λ h. rw same (malformed_while c.records.invariant c.step.follows.holds-at-none c.in-Ok-Some.record.id h)
 
 pub records-smaller : goal.records-smaller
 records-smaller g c =

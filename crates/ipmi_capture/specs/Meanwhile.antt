@@ -1,0 +1,42 @@
+-- What an image has of a controller whose store may change during the capture.
+use Rattle.std.specs.Prelude.{◌≡◌, ℕ, Some, List, ◌∷◌, All, length, take, ◌⊎◌}
+use Rattle.std.specs.List.{Any}
+use Rattle.ipmi_capture.specs.Below.{Done, First, info_of, inventory_of, Keeps, OnGrowing, reading_of, Row, row_with_id, rows_of, Sdr, Seen, Sel, Shelf, Store, WasHeld}
+use Rattle.ipmi_capture.specs.Capture.{devices_of, HasWalk, InventoryOrLeft, NoneOrSame, ReadingOrLeft, sensors_of, WalkOrLeft}
+use Rattle.ipmi_capture.specs.Left.{LacksInfo, LacksRecords, SameOrLeft}
+use Rattle.ipmi_capture.specs.declared.left.Left.{Left}
+
+-- `Holds` for a store that the controller held meanwhile: at the first state, at the second, or between them
+abbrev pub OfHeld : Seen → Seen → (Store → Type 0) → Type 0
+OfHeld s s' Holds = (store : Store) × WasHeld s s' store × Holds store
+
+-- If the walk of the shelf was empty or ended with FFFFh at first, and only grew until the end: the image has the whole walk of a
+-- store that the controller held meanwhile, which begins with all records of the first walk. Or it has the first records of such
+-- a walk, perhaps none, and the others were left out.
+abbrev pub LogOrLeft : Shelf → List Left → Store → Seen → Seen → Type 0
+LogOrLeft shelf left image s s' = OnGrowing shelf First s s' (λ log. HasWalk shelf image log Done
+    ⊎ ((rows_of shelf image ≡ take (length (rows_of shelf image)) log) × Any (LacksRecords shelf) left))
+
+-- each row was on this shelf, with this id, next id and bytes, in a store held meanwhile, perhaps each in another one
+abbrev pub OwnRows : Shelf → List Row → Seen → Seen → Type 0
+OwnRows shelf rows s s' =
+    All (λ row. OfHeld s s' (λ store. row_with_id row.id (rows_of shelf store) ≡ Some row)) rows
+
+-- Each record is that of a store held meanwhile, and so is each info and reading, unless it was left out. A shelf or an inventory
+-- that did not change is exact, unless it was left out, whatever else changed. Of a shelf that changed otherwise than by growing
+-- only single records are known, and of an inventory that changed nothing.
+pub record IsCaptureWhile (left : List Left) (image : Store) (s s' : Seen) : Type 0 where
+  pub sdr : Keeps (rows_of Sdr) s s' → WalkOrLeft Sdr left image s.store
+  pub sel : Keeps (rows_of Sel) s s' → WalkOrLeft Sel left image s.store
+  pub grown_sdr : LogOrLeft Sdr left image s s'
+  pub grown_sel : LogOrLeft Sel left image s s'
+  pub sdr_info : OfHeld s s' (λ store. SameOrLeft (LacksInfo Sdr) left (info_of Sdr image) (info_of Sdr store))
+  pub sel_info : OfHeld s s' (λ store. SameOrLeft (LacksInfo Sel) left (info_of Sel image) (info_of Sel store))
+  pub readings : All (λ key. OfHeld s s' (λ store. ReadingOrLeft left image store key)) (sensors_of image.sdr)
+  pub inventories : All (λ id. Keeps (inventory_of id) s s' → InventoryOrLeft left image s.store id) (0 ∷ devices_of image.sdr)
+  pub own_sdr : OwnRows Sdr image.sdr s s'
+  pub own_sel : OwnRows Sel image.sel s s'
+  pub own_readings : (lun number : ℕ)
+      → OfHeld s s' (λ store. NoneOrSame (reading_of lun number image) (reading_of lun number store))
+  pub own_inventories : (id : ℕ) → Keeps (inventory_of id) s s'
+      → NoneOrSame (inventory_of id image) (inventory_of id s.store)
