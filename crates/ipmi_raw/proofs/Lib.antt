@@ -1,6 +1,7 @@
 pub mod WordLemmas
 mod FreeIpmiLemmas
 mod IpmitoolLemmas
+mod CommandLemmas
 mod LawLemmas
 mod PlaceLemmas
 mod ThroughLemmas

@@ -1,5 +1,6 @@
 pub mod Words
 pub mod Request
+pub mod Commands
 pub mod Reply
 pub mod Ipmitool
 pub mod FreeIpmi

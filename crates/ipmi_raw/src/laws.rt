@@ -1,4 +1,5 @@
-//! Laws of reply texts. Each law is the contract of an empty function.
+//! Laws of requests and of reply texts. Each law is the contract of an empty function.
+ghost use Rattle.ipmi_raw.specs.Commands.{inventory_changes, log_changes, NoneHas, OnlyReadingCommands, record_changes, resets, sensor_changes};
 ghost use Rattle.ipmi_raw.specs.FreeIpmi as freeipmi_text;
 ghost use Rattle.ipmi_raw.specs.Ipmitool as ipmitool_text;
 ghost use Rattle.ipmi_raw.specs.Laws.{BytesAreAll, BytesStandAtPlaces, OneReply};
@@ -15,4 +16,16 @@ pub fn one_reply_of_a_text()
 pub fn bytes_stand_at_their_places()
     ensures places { BytesStandAtPlaces }
     ensures all { BytesAreAll }
+{}
+
+/// Each request has one of nine commands, which read or take a reservation. No request has a command that changes what a
+/// controller stores, or how its sensors work, or that resets something (IPMI v2.0, appendix G).
+#[tactic(auto, using(crate::proofs::CommandLemmas::only_reading_commands, crate::proofs::CommandLemmas::no_inventory_changes, crate::proofs::CommandLemmas::no_record_changes, crate::proofs::CommandLemmas::no_log_changes, crate::proofs::CommandLemmas::no_sensor_changes, crate::proofs::CommandLemmas::no_resets))]
+pub fn only_reading_commands()
+    ensures reading { OnlyReadingCommands }
+    ensures inventories { NoneHas inventory_changes }
+    ensures records { NoneHas record_changes }
+    ensures log { NoneHas log_changes }
+    ensures sensors { NoneHas sensor_changes }
+    ensures resets { NoneHas resets }
 {}
