@@ -7,8 +7,9 @@ use Rattle.std.proofs.Math.ListN.{get_or-map}
 use Rattle.ipmi_capture.specs.Below.{Cycle, CycleAt, MissingAt, Ended, EndsBy, First, GaveUp, IsWalk, Malformed, Missing, Refused, Row, Seen, Shelf, Stalled, StaysHonest, WalkEnd, info_of, inventory_of, IsHonest, IsStore, reading_of, reading_in, rows_of, Sdr, Sel, SensorReading, stays_trans, Store, with_info, with_rows}
 use Rattle.ipmi_capture.specs.Capture.{devices_of, HasWalk, InventoryOrLeft, IsCaptureBut, IsCaptureOf, NoneOrSame, OwnInventories, OwnReadings, ReadingOrLeft, SameWalk, sensors_of, WalkOrLeft}
 use Rattle.ipmi_capture.specs.Named.{AreMarks, IsSensorKey, Names, sensor_place}
-use Rattle.ipmi_capture.specs.Phases.{Adds, AreRowsOf, AreWalk, CameOf, Captures, HasInventories, HasReadings, IsUnkept, IsUnread, NoneIsFaulty, PlainEnds, Walks}
-use Rattle.ipmi_capture.specs.Left.{EndIsNoted, IsLeftOut, IsTrueOf, NotesEnd, LacksInfo, LacksInventory, LacksReading, LacksRecords, leaves_nothing, PlainLeaves, SameOrLeft}
+use Rattle.ipmi_capture.specs.Meanwhile.{IsTrueWhile}
+use Rattle.ipmi_capture.specs.Phases.{Adds, AreRowsOf, AreWalk, CameOf, Captures, HasInventories, HasReadings, IsUnkept, IsUnread, NoneIsFaulty, PlainEnds, Walks, WalksWhile}
+use Rattle.ipmi_capture.specs.Left.{EndIsNoted, IsLeftOut, NotesEnd, LacksInfo, LacksInventory, LacksReading, LacksRecords, leaves_nothing, PlainLeaves, SameOrLeft}
 use Rattle.ipmi_capture.specs.declared.left.Left.{Left}
 use Rattle.std.specs.List.{Any, list_all}
 use Rattle.std.proofs.lemmas.List.Elements.{All-append, All-cons, All-nil}
@@ -167,24 +168,28 @@ came_rows shelf rows walk end (Malformed n) came = inr (came, any_of_one (LacksR
 
 -- the records of a shelf whose listing ended for this reason
 pub captures_walk : {S : Seen → Type 0} {tries : ℕ} {s s' : Seen} (shelf : Shelf) (rows : List Row) (ended : Ended)
-    → StaysHonest s s' → Walks S shelf tries s s' rows (Some ended)
+    → StaysHonest s s' → Walks S shelf tries s s' rows (Some ended) → WalksWhile shelf s s' rows (Some ended)
     → Captures S tries s s' [] (Left.Records shelf ended ∷ [])
     (AreWalk shelf (Left.Records shelf ended ∷ []) s.store rows)
-captures_walk {s = s} {s' = s'} shelf rows ended stays walks = record {
+captures_walk {s = s} {s' = s'} shelf rows ended stays walks meanwhile = record {
   more = Left.Records shelf ended ∷ [];
   grows = refl;
   counts = walks.counts;
   fact = λ same walk end is ends. came_rows shelf rows walk end ended (walks.along same walk end is ends);
-  told = λ same. All-cons (IsTrueOf s.store) (Left.Records shelf ended) [] (told ended (walks.none_faulty same) (walks.along same)) (All-nil (IsTrueOf s.store));
+  told = All-cons (IsTrueWhile s s') (Left.Records shelf ended) [] (told ended walks.none_faulty meanwhile) (All-nil (IsTrueWhile s s'));
   plain = λ p all. All-cons (PlainLeaves s.store) (Left.Records shelf ended) []
       (fine ended (walks.plain p) (λ walk end is ends. walks.along (stays.plain_store p) walk end is ends)) (All-nil (PlainLeaves s.store));
 }
   where
-    told : (e : Ended) → NoneIsFaulty (Some e) → ((walk : List Row) (end : WalkEnd)
-        → IsWalk (rows_of shelf s.store) First walk → EndsBy (rows_of shelf s.store) First walk end
-        → CameOf walk end rows (Some e)) → IsTrueOf s.store (Left.Records shelf e)
-    told (Cycle n) none came = λ walk end is ends. (came walk end is ends).1
-    told (Missing n) none came = λ walk end is ends. (came walk end is ends).1
+    told : (e : Ended) → NoneIsFaulty shelf s s' (Some e) → WalksWhile shelf s s' rows (Some e) → IsTrueWhile s s' (Left.Records shelf e)
+    told (Cycle n) none came = record {
+      kept = λ keeps walk end is ends. (came.kept keeps walk end is ends).1;
+      not_grown = λ grown. (came.along grown.0 grown.1 grown.2).2.1;
+    }
+    told (Missing n) none came = record {
+      kept = λ keeps walk end is ends. (came.kept keeps walk end is ends).1;
+      not_grown = λ grown. (came.along grown.0 grown.1 grown.2).2.1;
+    }
     told (GaveUp n) none came = tt
     told (Refused n code) none came = tt
     told (Stalled n) none came = none

@@ -1,24 +1,23 @@
 -- Putting the readings of marked sensors and the inventories of marked devices into an image, one by one.
-use Rattle.std.proofs.Common.{◌≡◌, ℕ, ◌+◌, ◌*◌, ◌<◌, ◌≤◌, Bool, true, false, cond, IsTrue, ◌&&◌, ◌||◌, ◌==◌, nat_eq, Option, None, Some, Result, Ok, Err, IfOk, IfSome, IsSome, OnOk, MatchOption, List, [], ◌∷◌, ◌++◌, length, slice_index_or, ◌⊎◌, inl, inr, All, refl, sym, ap, subst, ◌∙◌, arith, true≢false}
+use Rattle.std.proofs.Common.{◌≡◌, ℕ, ◌+◌, ◌*◌, ◌<◌, ◌≤◌, Bool, true, false, cond, IsTrue, ◌&&◌, ◌||◌, ◌==◌, nat_eq, Option, None, Some, Result, Ok, Err, IfOk, IfSome, IsSome, OnOk, MatchOption, List, [], ◌∷◌, ◌++◌, length, slice_index_or, ◌⊎◌, inl, inr, All, refl, sym, ap, subst, ◌∙◌, arith}
 use Rattle.std.specs.declared.alloc.AllocError.{AllocError}
 use Rattle.std.specs.List.{Any}
 use Rattle.std.specs.Option.{option_or, option_to_list}
 use Rattle.std.proofs.lemmas.Bool.Decides.{nat_tests}
-use Rattle.std.proofs.lemmas.Option.{none-some}
 use Rattle.std.proofs.lemmas.List.Elements.{All-append, All-cons, All-nil, All-weaker}
 use Rattle.std.proofs.lemmas.List.{append-nil, append_assoc, get_or-append-add, get_or_append_left, length-append}
-use Rattle.ipmi_bus.proofs.HeldLemmas.{held_at_last, keeps_first, keeps_same, keeps_second}
+use Rattle.ipmi_bus.proofs.HeldLemmas.{held_at_last, held_in_first, keeps_first, keeps_same, keeps_second}
 use Rattle.ipmi_capture.specs.Below.{AsksAtMost, Cycle, Ended, GaveUp, Malformed, Missing, Refused, Stalled, IsHonest, Inventory, inventory_in, inventory_of, Reading, SensorReading, reading_in, reading_of, FruEnded, InventoryCounts, InventoryIs, Keeps, not_present, ReadsInventory, ReadsValue, Row, Seen, Shelf, stays_refl, stays_trans, StaysHonest, Store, with_inventory, with_reading, WalkEnd, WithinTries}
 use Rattle.ipmi_capture.specs.Capture.{InventoryOrLeft, NoneOrSame, OwnInventories, OwnReadings, ReadingOrLeft}
-use Rattle.ipmi_capture.specs.Left.{AreCounted, CountsGrow, EndIsNoted, IsTrueOf, LacksInventory, LacksReading, LacksRecords, NotesEnd, PlainLeaves, SameOrLeft, unread_in, unread_of}
-use Rattle.ipmi_capture.specs.Meanwhile.{OfHeld}
+use Rattle.ipmi_capture.specs.Left.{AreCounted, CountsGrow, EndIsNoted, LacksInventory, LacksReading, LacksRecords, NotesEnd, PlainLeaves, SameOrLeft, unread_in, unread_of}
+use Rattle.ipmi_capture.specs.Meanwhile.{IsTrueWhile, OfHeld}
 use Rattle.ipmi_capture.specs.Named.{IsSensorKey, sensor_place}
 use Rattle.ipmi_capture.specs.Phases.{Adds, AreRowsOf, AreWalk, Captures, HasInventories, HasInventoriesWhile, HasInventory, HasRead, HasReadings, HasReadingsWhile, CutOffIsIn, IsLeftBy, IsNotPlain, IsRefusedAgain, IsUnkept, IsUnread, most_for_inventory}
 use Rattle.ipmi_capture.specs.declared.left.Left.{Left}
 use Rattle.ipmi_capture.specs.declared.left.Unread.{Unread}
 use Rattle.ipmi_capture.proofs.CountLemmas.{counted_inventory, counted_nothing, counted_size, counted_then, counted_value, grown_none, grown_then, grown_within}
 use Rattle.ipmi_capture.proofs.FoundLemmas.{inventory_in-snoc, kept_more, kept_next, KeptBelow, read_more, read_next, ReadBelow, reading_in-snoc}
-use Rattle.ipmi_capture.proofs.MeanwhileLemmas.{kept_value, of_held_first, of_held_second}
+use Rattle.ipmi_capture.proofs.MeanwhileLemmas.{kept_value, no_some, of_held_first, of_held_second, told_first, told_second}
 use Rattle.ipmi_capture.proofs.StepLemmas.{between}
 
 -- ---- items left out
@@ -77,27 +76,27 @@ module _ (shelf : Shelf) (left other : List Left) where
     walk_after store are = λ walk end is ends. rows_after walk end (are walk end is ends)
 
 -- an item that was refused or given up says nothing about the store
-told_unread : (store : Store) (l : Left) (unread : Unread) → unread_in l ≡ unread ∷ []
-    → IsTrueOf store l
-told_unread store (Left.Records shelf (Cycle n)) unread is = cc
-told_unread store (Left.Records shelf (Missing n)) unread is = cc
-told_unread store (Left.Records shelf (GaveUp n)) unread is = tt
-told_unread store (Left.Records shelf (Refused n code)) unread is = tt
-told_unread store (Left.Records shelf (Stalled n)) unread is = cc
-told_unread store (Left.Records shelf (Malformed n)) unread is = cc
-told_unread store (Left.Info shelf u) unread is = tt
-told_unread store (Left.Reading lun number u) unread is = tt
-told_unread store (Left.Size id code) unread is = tt
-told_unread store (Left.Empty id) unread is = cc
-told_unread store (Left.CutOff id) unread is = cc
-told_unread store (Left.Inventory id FruEnded.Memory) unread is = cc
-told_unread store (Left.Inventory id (FruEnded.Refused code)) unread is = tt
-told_unread store (Left.Inventory id FruEnded.GaveUp) unread is = tt
-told_unread store (Left.Inventory id FruEnded.Stalled) unread is = cc
-told_unread store (Left.Inventory id FruEnded.Words) unread is = cc
+told_unread : (s s' : Seen) (l : Left) (unread : Unread) → unread_in l ≡ unread ∷ []
+    → IsTrueWhile s s' l
+told_unread s s' (Left.Records shelf (Cycle n)) unread is = cc
+told_unread s s' (Left.Records shelf (Missing n)) unread is = cc
+told_unread s s' (Left.Records shelf (GaveUp n)) unread is = tt
+told_unread s s' (Left.Records shelf (Refused n code)) unread is = tt
+told_unread s s' (Left.Records shelf (Stalled n)) unread is = cc
+told_unread s s' (Left.Records shelf (Malformed n)) unread is = cc
+told_unread s s' (Left.Info shelf u) unread is = tt
+told_unread s s' (Left.Reading lun number u) unread is = tt
+told_unread s s' (Left.Size id code) unread is = tt
+told_unread s s' (Left.Empty id) unread is = cc
+told_unread s s' (Left.CutOff id) unread is = cc
+told_unread s s' (Left.Inventory id FruEnded.Memory) unread is = cc
+told_unread s s' (Left.Inventory id (FruEnded.Refused code)) unread is = tt
+told_unread s s' (Left.Inventory id FruEnded.GaveUp) unread is = tt
+told_unread s s' (Left.Inventory id FruEnded.Stalled) unread is = cc
+told_unread s s' (Left.Inventory id FruEnded.Words) unread is = cc
 
-one_told : (store : Store) (l : Left) → IsTrueOf store l → All (IsTrueOf store) (l ∷ [])
-one_told store l is = All-cons (IsTrueOf store) l [] is (All-nil (IsTrueOf store))
+one_told : (s s' : Seen) (l : Left) → IsTrueWhile s s' l → All (IsTrueWhile s s') (l ∷ [])
+one_told s s' l is = All-cons (IsTrueWhile s s') l [] is (All-nil (IsTrueWhile s s'))
 
 none_or_same : {V : Type 0} (P : Left → Type 0) (left : List Left) (a b : Option V)
     → SameOrLeft P left a b → NoneOrSame a b
@@ -137,12 +136,12 @@ adds_then {left = left} P Q o weaker adds is = record {
 -- ---- a phase of a capture that leaves nothing out
 pub nothing_left : {S : Seen → Type 0} {tries : ℕ} {s s' : Seen} {Fact : Type 0} (left : List Left) → CountsGrow s s'
     → (s'.stores_added ≡ s.stores_added → Fact) → Captures S tries s s' left left Fact
-nothing_left {s = s} left counts fact = record {
+nothing_left {s = s} {s' = s'} left counts fact = record {
   more = [];
   grows = sym (append-nil left);
   counts = counts;
   fact = fact;
-  told = λ same. All-nil (IsTrueOf s.store);
+  told = All-nil (IsTrueWhile s s');
   plain = λ p all. all;
 }
 
@@ -156,7 +155,7 @@ captures_after {s = s} left later to captures = record {
   grows = refl;
   counts = rw (sym captures.grows) at captures.counts;
   fact = λ same. to (captures.fact same);
-  told = λ same. rw (sym captures.grows) at (captures.told same);
+  told = rw (sym captures.grows) at captures.told;
   plain = λ p all. All-append (PlainLeaves s.store) left later all (captures.plain p (All-nil (PlainLeaves s.store)));
 }
 
@@ -172,10 +171,8 @@ captures_then {S = S} {tries = tries} {s = s} {s' = s'} {s'' = s''} {left = left
   fact = λ same.
       let parts = between s s' s'' before later same in
       both (before.store.stays parts.0) second.more second.grows (first.fact parts.0) (second.fact parts.1);
-  told = λ same.
-      let parts = between s s' s'' before later same in
-      All-append (IsTrueOf s.store) first.more second.more (first.told parts.0)
-      (subst (λ (x : Store). All (IsTrueOf x) second.more) (before.store.stays parts.0) (second.told parts.1));
+  told = All-append (IsTrueWhile s s'') first.more second.more (told_first s s' s'' before later first.more first.told)
+      (told_second s s' s'' before later second.more second.told);
   plain = λ p all.
       let store = before.store.stays (before.plain_store p) in
       subst (λ (x : Store). All (PlainLeaves x) left'') store (second.plain (before.plain p)
@@ -729,7 +726,7 @@ module _ {V : Type 0} {S : Seen → Type 0} {tries : ℕ} {s s' : Seen} (value :
     grows = refl;
     counts = counted_value S tries value lacks ended unread from to reads.is;
     fact = λ same. inr (none, any_of_one Lacks lacks lacks_it);
-    told = λ same. one_told s.store lacks (told_unread s.store lacks (unread_of ended) unread);
+    told = one_told s s' lacks (told_unread s s' lacks (unread_of ended) unread);
     plain = λ p all. let never : Err ended ≡ Ok (value s.store) = (reads.plain p).0 in cc;
   }
 
@@ -814,12 +811,12 @@ came_empty {S = S} {tries = tries} {s = s} {s' = s'} id bytes image none no_byte
   grows = refl;
   counts = counted_nothing S tries (Left.Empty id) refl (grown_within reads.counts.0);
   fact = λ same. inr (none, any_of_one (LacksInventory id) (Left.Empty id) refl);
-  told = λ same. one_told s.store (Left.Empty id) (empty same);
-  plain = λ p all. All-cons (PlainLeaves s.store) (Left.Empty id) [] (empty (reads.stays.plain_store p)) (All-nil (PlainLeaves s.store));
+  told = one_told s s' (Left.Empty id) ((s'.store, held_at_last s s', reads.counts.1), empty);
+  plain = λ p all. All-cons (PlainLeaves s.store) (Left.Empty id) [] (empty (keeps_same (inventory_of id) s s' reads.stays.store (reads.stays.plain_store p))) (All-nil (PlainLeaves s.store));
 }
   where
-    empty : s'.stores_added ≡ s.stores_added → inventory_of id s.store ≡ Some []
-    empty same = (read_same id reads same).1 ∙ ap Some no_bytes
+    empty : Keeps (inventory_of id) s s' → inventory_of id s.store ≡ Some []
+    empty keeps = (reads.is keeps).1 ∙ ap Some no_bytes
 
 -- an inventory that was not read is left out, unless there is none
 module _ (S : Seen → Type 0) {tries : ℕ} {s s' s'' : Seen} (id : ℕ) (ended : FruEnded) (image : Store)
@@ -827,10 +824,10 @@ module _ (S : Seen → Type 0) {tries : ℕ} {s s' s'' : Seen} (id : ℕ) (ended
     (later : StaysHonest s' s'') (after : CountsGrow s' s'') where
   -- CBh was answered, and the store has no such inventory
   absent : ended ≡ FruEnded.Refused not_present → WithinTries tries s s'
-      × (s''.stores_added ≡ s.stores_added → inventory_of id s.store ≡ None)
+      × (Keeps (inventory_of id) s s'' → inventory_of id s.store ≡ None)
   absent is = (
     within (rw is at reads.counts),
-    λ same. lacks (rw is at (read_same id reads (between s s' s'' reads.stays later same).0)),
+    λ keeps. lacks (rw is at (reads.is (keeps_first (inventory_of id) s s' s'' reads.stays.store later.store keeps))),
   )
     where
       within : InventoryCounts id tries s s' (Err (FruEnded.Refused not_present)) → WithinTries tries s s'
@@ -840,7 +837,7 @@ module _ (S : Seen → Type 0) {tries : ℕ} {s s' s'' : Seen} (id : ℕ) (ended
       lacks is = is.1
 
   -- it was refused or given up
-  left_unread : (lacks : Left) → LacksInventory id lacks → IsNotPlain ended → IsTrueOf s.store lacks
+  left_unread : (lacks : Left) → LacksInventory id lacks → IsNotPlain ended → IsTrueWhile s s'' lacks
       → AreCounted S tries (lacks ∷ []) s s''
       → Captures S tries s s'' [] (lacks ∷ []) (InventoryOrLeft (lacks ∷ []) image s.store id)
   left_unread lacks of_id not_plain is_true counts = record {
@@ -848,29 +845,22 @@ module _ (S : Seen → Type 0) {tries : ℕ} {s s' s'' : Seen} (id : ℕ) (ended
     grows = refl;
     counts = counts;
     fact = λ same. inr (none, any_of_one (LacksInventory id) lacks of_id);
-    told = λ same. one_told s.store lacks is_true;
+    told = one_told s s'' lacks is_true;
     plain = λ p all. absurd (not_plain (reads.plain p).0);
   }
 
   told_ended : (i : ℕ) (e : FruEnded) → IsNotPlain e → InventoryCounts id tries s s' (Err e)
-      → IsTrueOf s.store (Left.Inventory i e)
+      → IsTrueWhile s s'' (Left.Inventory i e)
   told_ended i FruEnded.Memory not counts = absurd (not tt)
   told_ended i FruEnded.GaveUp not counts = tt
   told_ended i (FruEnded.Refused code) not counts = tt
   told_ended i FruEnded.Stalled not counts = absurd counts
   told_ended i FruEnded.Words not counts = absurd counts
 
-  -- from a store that stays, an inventory that is absent is not cut off
+  -- an inventory that is absent, and did not change, is not cut off
   never_cut : ended ≡ FruEnded.Refused not_present → IsSome (inventory_of id s''.store)
-      → s''.stores_added ≡ s.stores_added → ⊥
-  never_cut is there same =
-      let parts = between s s' s'' reads.stays later same in
-      let store : s''.store ≡ s.store = later.store.stays parts.1 ∙ reads.stays.store.stays parts.0 in
-      no_some (inventory_of id s''.store) there (ap (inventory_of id) store ∙ (absent is).1 same)
-    where
-      no_some : (o : Option (List ℕ)) → IsSome o → o ≡ None → ⊥
-      no_some None is none = absurd (true≢false (sym is))
-      no_some (Some bytes) is none = none-some bytes (sym none)
+      → Keeps (inventory_of id) s s'' → ⊥
+  never_cut is there keeps = no_some (inventory_of id s''.store) there (keeps.0 ∙ (absent is).1 keeps)
 
   left_cut : ended ≡ FruEnded.Refused not_present → IsSome (inventory_of id s''.store)
       → Captures S tries s s'' [] (Left.CutOff id ∷ []) (InventoryOrLeft (Left.CutOff id ∷ []) image s.store id)
@@ -879,12 +869,17 @@ module _ (S : Seen → Type 0) {tries : ℕ} {s s' s'' : Seen} (id : ℕ) (ended
     grows = refl;
     counts = counted_nothing S tries (Left.CutOff id) refl (grown_then (grown_within (absent is).0) after);
     fact = λ same. inr (none, any_of_one (LacksInventory id) (Left.CutOff id) refl);
-    told = λ same. absurd (never_cut is there same);
+    told = one_told s s'' (Left.CutOff id) ((s''.store, held_at_last s s'', there), out);
     plain = λ p all.
-        let once = reads.stays.plain_store p in
-        let twice = later.plain_store (reads.stays.plain p) in
-        absurd (never_cut is there (twice ∙ once));
+        let all = stays_trans s s' s'' reads.stays later in
+        absurd (never_cut is there (keeps_same (inventory_of id) s s'' all.store (all.plain_store p)));
   }
+    where
+      none_then : InventoryCounts id tries s s' (Err (FruEnded.Refused not_present)) → inventory_of id s'.store ≡ None
+      none_then counts = counts.1
+
+      out : OfHeld s s'' (λ store. inventory_of id store ≡ None)
+      out = (s'.store, held_in_first s s' s'' reads.stays.store later.store s'.store (held_at_last s s'), none_then (rw is at reads.counts))
 
   left_one : (failure : Option ℕ) (lacks : Left) → S s → S s' → S s'' → IsLeftBy id ended failure lacks → IsRefusedAgain s' s'' lacks
       → CutOffIsIn s''.store lacks
@@ -910,9 +905,9 @@ pub left_inventory : (S : Seen → Type 0) {tries : ℕ} {s s' s'' : Seen} (id :
     → IfOk result (λ o. Captures S tries s s'' [] (option_to_list o)
     (InventoryOrLeft (option_to_list o) image s.store id))
 left_inventory S id ended failure (Err e) image from to end none reads later after left again there = tt
-left_inventory S id ended failure (Ok None) image from to end none reads later after left again there =
+left_inventory S {s = s} {s' = s'} {s'' = s''} id ended failure (Ok None) image from to end none reads later after left again there =
     let gone = absent S id ended image none reads later after left in
-    nothing_left [] (grown_then (grown_within gone.0) after) (λ same. inl (none ∙ sym (gone.1 same)))
+    nothing_left [] (grown_then (grown_within gone.0) after) (λ same. inl (none ∙ sym (gone.1 (keeps_same (inventory_of id) s s'' (stays_trans s s' s'' reads.stays later).store same))))
 left_inventory S id ended failure (Ok (Some lacks)) image from to end none reads later after left again there =
     left_one S id ended image none reads later after failure lacks from to end left again there
 

@@ -15,11 +15,13 @@ use Rattle.ipmi_bus.proofs.WalkLaws.{has_walk}
 use Rattle.ipmi_bus.proofs.WalkLemmas.{walk_law}
 use Rattle.ipmi_capture.specs.Below.{asked_at, AsksAtMost, Cycle, cycle_at, CursorHoldsCurrent, CursorState, digits, End, Id, id_in, has_id, handed_id, may_follow, NotGivenUpOrRefused, Place, place_after, place_after_rows, StepAnswers, StepIsHonest, StepIsPlain, store_shelf, whole_len, Ended, EndsBy, First, first_row, GaveUp, HandsOut, IsHonest, IsStep, IsWalk, Keeps, largest_len, Malformed, Missing, Refused, Row, rows_of, Sdr, Seen, Sel, Shelf, StandsAt, Stalled, stays_refl, stays_trans, StaysHonest, step_call_bound, Store, WalkEnd, WalkStep, with_rows, WithinTries}
 use Rattle.ipmi_capture.specs.Left.{CountsGrow}
+use Rattle.ipmi_capture.specs.Meanwhile.{OnlyGrewAsLog}
 use Rattle.ipmi_capture.specs.Phases.{CameKept, CameOf, most_on_walk, NoneIsFaulty, PlainEnds, Walks, WalksWhile}
 use Rattle.ipmi_capture.specs.declared.left.Left.{Left}
 use Rattle.std.specs.Option.{option_to_list}
 use Rattle.ipmi_capture.proofs.CountLemmas.{counted_after, counted_nothing, counted_record, grown_by, grown_none, grown_then, grown_within}
-use Rattle.ipmi_capture.proofs.LogLemmas.{WalkedWhile, while_again, while_done, while_ended, while_malformed, while_more, while_none}
+use Rattle.ipmi_capture.proofs.MeanwhileLemmas.{faulty_second}
+use Rattle.ipmi_capture.proofs.LogLemmas.{after_grown, IsAfter, is_after, WalkedWhile, while_again, while_done, while_ended, while_malformed, while_more, while_none}
 
 -- ---- the rows of a shelf
 
@@ -65,12 +67,6 @@ may_follow_these shelf (r ∷ rows) row id whole fits unseen may =
     let zero_is : nat_eq row.id 0 ≡ false = grind (arith, nat_tests, may) in
     let id_is : nat_eq row.id 65535 ≡ false = grind (arith, nat_tests, id) in
     rw (zero_is, id_is, unseen, whole_is, fits_is) refl
-
--- the place of a cursor that returned these rows
-place_now : (rows : List Row) (place there : Place)
-    → (place ≡ there) ⊎ ((place ≡ End) × (First ≡ First) × (first_row rows ≡ None)) → place ≢ End
-    → place ≡ there
-place_now rows place there at not_end = grind arith
 
 not_first : (start : Place) (rows : List Row) → start ≢ First → place_after_rows start rows ≢ First
 not_first start [] not = not
@@ -230,18 +226,18 @@ module _ {shelf : Shelf} {part tries : ℕ} {s s' s'' : Seen} {now next : Cursor
       → Walks S shelf tries s s'' (rows_of shelf new) (Some ended)
   came_ended {S = S} from to ended is h = record {
     along = λ same. ended_kept ended is h (kept_same h same);
-    none_faulty = λ same. well ended (rw is at (step_honest h).answers);
+    none_faulty = well ended (rw is at (step_honest h).answers);
     plain = λ p. fine ended (rw is at (step_honest h).answers) (rw is at (step_plain h p).fine);
     counts = counted_after S tries (Left.Records shelf ended ∷ []) s'' (walked.counts h) (counted_record S tries shelf now ended walked.tries_are from to (rw is at (step_honest h).answers));
   }
     where
-      well : (e : Ended) → StepAnswers now s' s'' (Err e) → NoneIsFaulty (Some e)
+      well : (e : Ended) → StepAnswers now s' s'' (Err e) → NoneIsFaulty shelf s s'' (Some e)
       well (Cycle n) answers = tt
       well (Missing n) answers = tt
       well (GaveUp n) answers = tt
       well (Refused n code) answers = tt
       well (Stalled n) answers = answers
-      well (Malformed n) answers = answers
+      well (Malformed n) answers = absurd answers
 
       fine : (e : Ended) → StepAnswers now s' s'' (Err e) → NotGivenUpOrRefused {V = Option Row} (Err e) → PlainEnds (Some e)
       fine (Cycle n) answers given = tt
@@ -254,7 +250,7 @@ module _ {shelf : Shelf} {part tries : ℕ} {s s' s'' : Seen} {now next : Cursor
   pub came_done : {S : Seen → Type 0} → result ≡ Ok None → IsHonest s → Walks S shelf tries s s'' (rows_of shelf new) None
   came_done is h = record {
     along = λ same. done_kept is h (kept_same h same);
-    none_faulty = λ same. tt;
+    none_faulty = tt;
     plain = λ p. tt;
     counts = grown_then (walked.counts h) (grown_within (none (rw is at (step_honest h).answers)));
   }
@@ -279,21 +275,26 @@ module _ {shelf : Shelf} {part tries : ℕ} {s s' s'' : Seen} {now next : Cursor
       one : StepAnswers now s' s'' (Ok (Some row)) → WithinTries now.tries s' s''
       one answers = answers.0
 
-  -- if the rows of the shelf did not change, the record may follow the earlier ones
-  may_put : IsHonest s → Keeps (rows_of shelf) s s'' → (row : Row) → result ≡ Ok (Some row)
-      → may_follow shelf (rows_of shelf new) row ≡ true
-  may_put h kept row is =
-      let later = step_honest h in
+  -- if the rows of the shelf did not change, or its walk only grew, the cursor is after the rows read
+  now_after : IsHonest s → Keeps (rows_of shelf) s s'' ⊎ OnlyGrewAsLog shelf s s'' → now.place ≢ End → IsAfter (rows_of shelf new) now
+  now_after h (inl kept) not_end =
       let there = has_walk shelf (rows_of shelf s.store) First (store_shelf shelf s.store h.store) in
       let at = walked.along h (kept_first h kept) there.0 there.1 there.2 there.3 in
+      is_after (rows_of shelf s.store) there.0 (rows_of shelf new) now at.0 at.1 not_end
+  now_after h (inr grown) not_end = after_grown h (walked.stays h) (walked.meanwhile h) step grown not_end
+
+  -- and then the record may follow them
+  may_put : IsHonest s → Keeps (rows_of shelf) s s'' ⊎ OnlyGrewAsLog shelf s s'' → (row : Row) → result ≡ Ok (Some row)
+      → may_follow shelf (rows_of shelf new) row ≡ true
+  may_put h why row is =
+      let later = step_honest h in
       let hands = (rw is at step.leaves).1 in
+      let at = now_after h why hands.not_at_end in
       let none = (rw is at step.leaves).0 in
       let looked = rw is at later.answers in
       let row_is = look_row shelf (rows_of shelf s''.store) (asked_at now.place) row (store_shelf shelf s''.store later.stays.honest.store) (rw walked.shelf_is at looked.1) in
-      let place = place_now (rows_of shelf s.store) now.place (place_after_rows First (rows_of shelf new)) (rw (sym at.0) at at.1.place) hands.not_at_end in
-      may_follow_these shelf (rows_of shelf new) row row_is.id row_is.whole row_is.fits
-      (rw (sym at.0) at (sym (at.1.ids row.id)) ∙ hands.unseen)
-      (id_now now.place now.ids (rows_of shelf new) row place hands.not_at_end none hands.id)
+      may_follow_these shelf (rows_of shelf new) row row_is.id row_is.whole row_is.fits (sym (at.ids row.id) ∙ hands.unseen)
+      (id_now now.place now.ids (rows_of shelf new) row at.place hands.not_at_end none hands.id)
 
   -- a record that may not follow is left out
   pub came_malformed : {S : Seen → Type 0} (n : ℕ) {row : Row} → result ≡ Ok (Some row)
@@ -301,11 +302,11 @@ module _ {shelf : Shelf} {part tries : ℕ} {s s' s'' : Seen} {now next : Cursor
       → IsHonest s → Walks S shelf tries s s'' (rows_of shelf new) (Some (Malformed n))
   came_malformed {S = S} n {row = row} is left h = record {
     along = λ same walk end walks ends. (stepped h (kept_same h same) walk end walks ends).0;
-    none_faulty = λ same. absurd (true≢false (sym (may_put h (kept_same h same) row is) ∙ left));
+    none_faulty = λ why. absurd (true≢false (sym (may_put h why row is) ∙ left));
     plain = λ p.
         let before = walked.stays h in
         let same = (step_honest h).stays.plain_store (before.plain p) ∙ before.plain_store p in
-        absurd (true≢false (sym (may_put h (kept_same h same) row is) ∙ left));
+        absurd (true≢false (sym (may_put h (inl (kept_same h same)) row is) ∙ left));
     counts = counted_nothing S tries (Left.Records shelf (Malformed n)) refl (came_record is h);
   }
 
@@ -403,12 +404,19 @@ module _ {shelf : Shelf} {part tries times : ℕ} {s s' s'' : Seen} {old now new
         let parts = between s s' s'' before (stays before.honest) same in
         let rows : rows_of shelf s'.store ≡ rows_of shelf s.store = ap (rows_of shelf) (before.store.stays parts.0) in
         (rw rows at ((walks before.honest).along parts.1 walk end)) is ends;
-    none_faulty = λ same.
-        let before = again.stays h in
-        (walks before.honest).none_faulty (between s s' s'' before (stays before.honest) same).1;
+    none_faulty = faulty ended (walks (again.stays h).honest).none_faulty;
     plain = λ p. let before = again.stays h in (walks before.honest).plain (before.plain p);
     counts = counted_after S tries (map (Left.Records shelf) (option_to_list ended)) s'' (again.counts h) (walks (again.stays h).honest).counts;
   }
+    where
+      faulty : (o : Option Ended) → NoneIsFaulty shelf s' s'' o → NoneIsFaulty shelf s s'' o
+      faulty None none = tt
+      faulty (Some (Cycle n)) none = tt
+      faulty (Some (Missing n)) none = tt
+      faulty (Some (GaveUp n)) none = tt
+      faulty (Some (Refused n code)) none = tt
+      faulty (Some (Stalled n)) none = none
+      faulty (Some (Malformed n)) none = let before = again.stays h in faulty_second s s' s'' before (stays before.honest) shelf none
 
   pub walks_all_ok : (S : Seen → Type 0) (result : Result (Option Ended) AllocError)
       → (IsHonest s' → IfOk result (λ ended. Walks S shelf tries s' s'' (rows_of shelf new) ended))

@@ -1,9 +1,9 @@
 -- What an image has of a controller whose store may change during the capture.
-use Rattle.std.specs.Prelude.{◌≡◌, ℕ, Some, List, ◌∷◌, All, length, take, ◌⊎◌}
+use Rattle.std.specs.Prelude.{◌≡◌, ℕ, IsSome, None, Some, List, [], ◌∷◌, All, length, take, ◌⊎◌}
 use Rattle.std.specs.List.{Any}
-use Rattle.ipmi_capture.specs.Below.{Done, First, info_of, inventory_of, Keeps, OnGrowing, reading_of, Row, row_with_id, rows_of, Sdr, Seen, Sel, Shelf, Store, WasHeld}
+use Rattle.ipmi_capture.specs.Below.{Cycle, CycleAt, Done, First, FruEnded, info_of, inventory_of, IsLog, Keeps, Malformed, Missing, MissingAt, OnGrowing, OnlyGrew, reading_of, Row, row_with_id, rows_of, Sdr, Seen, Sel, Shelf, Stalled, Store, WalkEnd, WasHeld}
 use Rattle.ipmi_capture.specs.Capture.{devices_of, HasWalk, InventoryOrLeft, NoneOrSame, ReadingOrLeft, sensors_of, WalkOrLeft}
-use Rattle.ipmi_capture.specs.Left.{LacksInfo, LacksRecords, SameOrLeft}
+use Rattle.ipmi_capture.specs.Left.{LacksInfo, LacksRecords, SameOrLeft, WalkEndsBy}
 use Rattle.ipmi_capture.specs.declared.left.Left.{Left}
 
 -- `Holds` for a store that the controller held meanwhile: at the first state, at the second, or between them
@@ -40,3 +40,33 @@ pub record IsCaptureWhile (left : List Left) (image : Store) (s s' : Seen) : Typ
       → OfHeld s s' (λ store. NoneOrSame (reading_of lun number image) (reading_of lun number store))
   pub own_inventories : (id : ℕ) → Keeps (inventory_of id) s s'
       → NoneOrSame (inventory_of id image) (inventory_of id s.store)
+
+-- ---- items left out
+
+-- the walk of the shelf ended with FFFFh at first, and then only grew
+abbrev pub OnlyGrewAsLog : Shelf → Seen → Seen → Type 0
+OnlyGrewAsLog shelf s s' = (log : List Row) × IsLog shelf First s.store log × OnlyGrew shelf First s s'
+
+-- if the rows of the shelf did not change, their walk has this end; and the walk is not one that only grew
+pub record EndsWhile (shelf : Shelf) (s s' : Seen) (end : WalkEnd) : Type 0 where
+  pub kept : Keeps (rows_of shelf) s s' → WalkEndsBy shelf s.store end
+  pub not_grown : OnlyGrewAsLog shelf s s' → ⊥
+
+-- the controller held a store with this inventory
+abbrev pub WasIn : ℕ → Seen → Seen → Type 0
+WasIn id s s' = OfHeld s s' (λ store. IsSome (inventory_of id store))
+
+-- An end is noted of a walk only if it is true, or the rows of the shelf changed otherwise than by growing. A record is malformed only
+-- if they changed so. An inventory noted as empty was in a store held meanwhile, and it is empty unless it changed. One that is cut
+-- off was in such a store, and was not in another. No record stalls; no inventory stalls, uses words, or is noted as out of memory.
+abbrev pub IsTrueWhile : Seen → Seen → Left → Type 0
+IsTrueWhile s s' (Left.Records shelf (Cycle n)) = EndsWhile shelf s s' (CycleAt n)
+IsTrueWhile s s' (Left.Records shelf (Missing n)) = EndsWhile shelf s s' (MissingAt n)
+IsTrueWhile s s' (Left.Records shelf (Stalled n)) = ⊥
+IsTrueWhile s s' (Left.Records shelf (Malformed n)) = Keeps (rows_of shelf) s s' ⊎ OnlyGrewAsLog shelf s s' → ⊥
+IsTrueWhile s s' (Left.Empty id) = WasIn id s s' × (Keeps (inventory_of id) s s' → inventory_of id s.store ≡ Some [])
+IsTrueWhile s s' (Left.CutOff id) = WasIn id s s' × OfHeld s s' (λ store. inventory_of id store ≡ None)
+IsTrueWhile s s' (Left.Inventory id FruEnded.Stalled) = ⊥
+IsTrueWhile s s' (Left.Inventory id FruEnded.Words) = ⊥
+IsTrueWhile s s' (Left.Inventory id FruEnded.Memory) = ⊥
+IsTrueWhile s s' _ = Unit {0}

@@ -4,8 +4,8 @@ use Rattle.std.specs.List.{Any}
 use Rattle.std.specs.Option.{option_to_list}
 use Rattle.ipmi_capture.specs.Below.{Code, Cycle, CycleAt, Done, Ended, EndsBy, First, FruEnded, fru_call_bound, inventory_of, IsRefused, IsWalk, Keeps, largest_len, Malformed, Missing, MissingAt, not_present, OnGrowing, PlainMayAnswer, Reading, reading_of, Row, rows_of, Sdr, Seen, Sel, Shelf, Stalled, step_call_bound, Store, WalkEnd, with_inventory, with_reading}
 use Rattle.ipmi_capture.specs.Capture.{InventoryOrLeft, NoneOrSame, OwnInventories, OwnReadings, ReadingOrLeft}
-use Rattle.ipmi_capture.specs.Left.{AreCounted, EndIsNoted, IsTrueOf, LacksInventory, LacksReading, LacksRecords, PlainLeaves}
-use Rattle.ipmi_capture.specs.Meanwhile.{OfHeld, OwnRows}
+use Rattle.ipmi_capture.specs.Left.{AreCounted, EndIsNoted, LacksInventory, LacksReading, LacksRecords, PlainLeaves}
+use Rattle.ipmi_capture.specs.Meanwhile.{IsTrueWhile, OfHeld, OnlyGrewAsLog, OwnRows}
 use Rattle.ipmi_capture.specs.Named.{IsSensorKey, sensor_place}
 use Rattle.ipmi_capture.specs.declared.left.Left.{Left}
 
@@ -31,14 +31,14 @@ pub record IsUnkept (image : Store) (left : Left) : Type 0 where
 
 -- ---- over an honest controller
 
--- A phase of a capture, with the list of items left out before and after it: the list grows. If no store is added, the fact
--- holds, and the new items are true of the store.
+-- A phase of a capture, with the list of items left out before and after it: the list grows, and what the new items say is true.
+-- If no store is added, the fact holds.
 pub record Captures (IsState : Seen → Type 0) (tries : ℕ) (s s' : Seen) (left left' : List Left) (Fact : Type 0) : Type 0 where
   pub more : List Left
   pub grows : left' ≡ left ++ more
   pub counts : AreCounted IsState tries more s s'
   pub fact : s'.stores_added ≡ s.stores_added → Fact
-  pub told : s'.stores_added ≡ s.stores_added → All (IsTrueOf s.store) more
+  pub told : All (IsTrueWhile s s') more
   pub plain : IsTrue s.plain → All (PlainLeaves s.store) left → All (PlainLeaves s.store) left'
 
 -- the rows are the whole walk, and its end is noted; or they are its first rows, and the others were left out
@@ -66,18 +66,18 @@ PlainEnds (Some (Cycle n)) = Unit {0}
 PlainEnds (Some (Missing n)) = Unit {0}
 PlainEnds (Some ended) = ⊥
 
--- from a store that stays, no record stalls or is malformed
-abbrev pub NoneIsFaulty : Option Ended → Type 0
-NoneIsFaulty (Some (Stalled n)) = ⊥
-NoneIsFaulty (Some (Malformed n)) = ⊥
-NoneIsFaulty ended = Unit {0}
+-- no record stalls, and none is malformed if the rows did not change, or the walk only grew
+abbrev pub NoneIsFaulty : Shelf → Seen → Seen → Option Ended → Type 0
+NoneIsFaulty shelf s s' (Some (Stalled n)) = ⊥
+NoneIsFaulty shelf s s' (Some (Malformed n)) = Keeps (rows_of shelf) s s' ⊎ OnlyGrewAsLog shelf s s' → ⊥
+NoneIsFaulty shelf s s' ended = Unit {0}
 
 -- a shelf was read; if no store is added, along its walk
 pub record Walks (IsState : Seen → Type 0) (shelf : Shelf) (tries : ℕ) (s s' : Seen) (rows : List Row) (ended : Option Ended) : Type 0 where
   pub along : s'.stores_added ≡ s.stores_added → (walk : List Row) (end : WalkEnd)
       → IsWalk (rows_of shelf s.store) First walk → EndsBy (rows_of shelf s.store) First walk end
       → CameOf walk end rows ended
-  pub none_faulty : s'.stores_added ≡ s.stores_added → NoneIsFaulty ended
+  pub none_faulty : NoneIsFaulty shelf s s' ended
   pub plain : IsTrue s.plain → PlainEnds ended
   pub counts : AreCounted IsState tries (map (Left.Records shelf) (option_to_list ended)) s s'
 

@@ -4,7 +4,7 @@ ghost use Rattle.std.specs.List.{list_all};
 ghost use Rattle.ipmi_capture.specs.Below.{AsksAtMost, empty_store, info_of, IsHonest, IsPlain, IsStore, rows_of, StaysHonest, Store, with_info, with_rows};
 ghost use Rattle.ipmi_capture.specs.Capture.{IsCaptureBut, IsCaptureOf};
 ghost use Rattle.ipmi_capture.specs.Left.{AreCounted, IsLeftOut, IsStateOf, IsTrueOf, LacksInfo, leaves_nothing, leaves_whole, PlainLeaves, SameOrLeft};
-ghost use Rattle.ipmi_capture.specs.Meanwhile.{IsCaptureWhile, OfHeld};
+ghost use Rattle.ipmi_capture.specs.Meanwhile.{IsCaptureWhile, IsTrueWhile, OfHeld};
 ghost use Rattle.ipmi_capture.specs.Phases.{Adds, AreWalk, Captures, HasLog, most_calls, most_on_shelf};
 
 use crate::inventories::capture_inventories;
@@ -116,6 +116,8 @@ fn capture_into<C: Controller, P: Progress>(
     ensures told { IsHonest (C.seen ctl.old) →
         (C.seen ctl.new).stores_added ≡ (C.seen ctl.old).stores_added →
         OnOk result (All (IsTrueOf (C.seen ctl.old).store) left.new.items) }
+    ensures told_while { IsHonest (C.seen ctl.old) →
+        OnOk result (All (IsTrueWhile (C.seen ctl.old) (C.seen ctl.new)) left.new.items) }
     ensures plain { IsPlain (C.seen ctl.old) →
         OnOk result (All (PlainLeaves (C.seen ctl.old).store) left.new.items) }
 {
@@ -143,7 +145,10 @@ fn capture_into<C: Controller, P: Progress>(
 /// Whatever stores it adds meanwhile, each record, info and reading of the image is that of a store that the controller held during
 /// the capture. A walk and an inventory are the controller's, except those left out, if the rows of the shelf, or that inventory, did
 /// not change. If the walk of a shelf ended with FFFFh at first and then only grew, the image has the whole walk of one such store,
-/// which begins with all records of the first walk; or it has the first records of it, and the others were left out.
+/// which begins with all records of the first walk; or it has the first records of it, and the others were given up or refused. An
+/// end that is noted is true of the shelf, unless its rows changed otherwise than by growing; only then may a record be malformed. An
+/// inventory noted as empty was there, and is empty unless it changed; one is cut off only if it was there and at another time was
+/// not. Nothing stalls or uses words.
 pub fn capture<C: Controller, P: Progress>(
     alloc: Global,
     ctl: &mut C,
@@ -172,6 +177,8 @@ pub fn capture<C: Controller, P: Progress>(
     ensures told { IsHonest (C.seen ctl.old) →
         (C.seen ctl.new).stores_added ≡ (C.seen ctl.old).stores_added →
         IfOk result (λ c. All (IsTrueOf (C.seen ctl.old).store) c.left.items) }
+    ensures told_while { IsHonest (C.seen ctl.old) →
+        IfOk result (λ c. All (IsTrueWhile (C.seen ctl.old) (C.seen ctl.new)) c.left.items) }
     ensures plain { IsPlain (C.seen ctl.old) →
         IfOk result (λ c. All (PlainLeaves (C.seen ctl.old).store) c.left.items) }
 {

@@ -3,6 +3,7 @@ use Rattle.std.proofs.lemmas.List.Elements.{All-nil}
 use Rattle.ipmi_capture.specs.Left.{PlainLeaves}
 use Rattle.ipmi_capture.specs.declared.left.Left.{Left}
 use Rattle.ipmi_capture.proofs.CaptureLemmas.{assemble, captures_parts, left_out, stays_on}
+use Rattle.ipmi_capture.proofs.MeanwhileLemmas.{told_of_store}
 use Rattle.ipmi_capture.proofs.WhileLemmas.{assemble_while, begins_adds, parts_while}
 use Rattle.ipmi_bus.specs.Seen.{stays_trans}
 use Rattle.ipmi_capture.proofs.capturing.capture_into.Goals as goal
@@ -56,14 +57,19 @@ returns-clause-counts g c = λ h.
     c.in_ok-capture_inventories.ensures.honest h in
     rw (sym (all.grows ∙ ap (λ (l : List Left). l ++ all.more) c.requires.none)) at all.counts
 
-pub returns-clause-told : goal.returns-clause-told
-returns-clause-told g c = λ h same.
+pub returns-clause-told_while : goal.returns-clause-told_while
+returns-clause-told_while g c = λ h.
     let all = captures_parts c.note_shelf.new.image c.note_shelf-2.new.image c.note_info.new.image c.note_info-2.new.image c.capture_readings.new.image c.capture_inventories.new.image
     c.in_ok-named.named.sensors.items c.in_ok-named.named.devices.items
     c.note_shelf.ensures.stays c.note_shelf-2.ensures.stays c.note_info.ensures.stays c.note_info-2.ensures.stays c.capture_readings.ensures.stays c.capture_inventories.ensures.stays
     c.in_ok-note_shelf.ensures.honest c.in_ok-note_shelf-2.ensures.honest c.in_ok-note_info.ensures.honest c.in_ok-note_info-2.ensures.honest c.in_ok-capture_readings.ensures.honest
     c.in_ok-capture_inventories.ensures.honest h in
-    rw (sym (all.grows ∙ ap (λ (l : List Left). l ++ all.more) c.requires.none)) at (all.told same)
+    rw (sym (all.grows ∙ ap (λ (l : List Left). l ++ all.more) c.requires.none)) at all.told
+
+pub returns-clause-told : goal.returns-clause-told
+returns-clause-told g c = λ h same.
+    let stays = stays_on (stays_on (stays_on (stays_on (stays_on c.note_shelf.ensures.stays c.note_shelf-2.ensures.stays) c.note_info.ensures.stays) c.note_info-2.ensures.stays) c.capture_readings.ensures.stays) c.capture_inventories.ensures.stays in
+    told_of_store _ _ (stays h) same _ (returns-clause-told_while g c h)
 
 pub returns-clause-plain : goal.returns-clause-plain
 returns-clause-plain g c = λ plain.

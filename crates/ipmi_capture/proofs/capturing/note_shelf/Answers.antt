@@ -9,7 +9,8 @@ pub returns-in-Ok-Some-clause-honest : goal.returns-in-Ok-Some-clause-honest
 returns-in-Ok-Some-clause-honest g c = λ h.
     on_ok c.note.result c.note.ensures (λ added. rw added (captures_after c.args.left.now.items (Left.Records c.args.shelf c.in-Ok-Some.ended ∷ [])
     (walk_after c.args.shelf c.args.left.now.items (Left.Records c.args.shelf c.in-Ok-Some.ended ∷ []) _ _)
-    (captures_walk c.args.shelf _ c.in-Ok-Some.ended (c.in-Ok-Some.ensures.stays h) (rw c.in-Ok-Some.field-0-is at (c.in-Ok-Some.ensures.honest h)))))
+    (captures_walk c.args.shelf _ c.in-Ok-Some.ended (c.in-Ok-Some.ensures.stays h) (rw c.in-Ok-Some.field-0-is at (c.in-Ok-Some.ensures.honest h))
+    (rw c.in-Ok-Some.field-0-is at (c.in-Ok-Some.ensures.meanwhile h)))))
 
 pub returns-in-Ok-None-clause-honest : goal.returns-in-Ok-None-clause-honest
 returns-in-Ok-None-clause-honest g c = λ h.
