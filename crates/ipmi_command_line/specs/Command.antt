@@ -4,7 +4,7 @@ use Rattle.clap.specs.Words.{Row, first_of}
 use Rattle.ipmi_command_line.specs.declared.task.Count.{Count}
 use Rattle.ipmi_command_line.specs.declared.task.Task.{Task}
 use Rattle.ipmi_command_line.specs.declared.command.UsageFault.{UsageFault}
-use Rattle.ipmi_command_line.specs.Arguments.{free_words, is_taken, rows_of_words}
+use Rattle.ipmi_command_line.specs.Arguments.{free_words, is_reference, is_taken, rows_of_words}
 use Rattle.ipmi_command_line.specs.Number.{decimal_of, digits_of, within}
 use Rattle.ipmi_command_line.specs.Table.{task_of}
 use Rattle.ipmi_command_line.specs.Task.{takes_from}
@@ -70,8 +70,9 @@ command_of_task rows (Some task) = with_options (first_of (codes "image") rows) 
     (number_or 32 1 254 (first_of (codes "part") rows))
     (number_or 5 0 255 (first_of (codes "tries") rows))
 
--- the meaning of the words; the first is the program's name
+-- the meaning of the words; the first is the program's name; each other option, and a second image,
+-- is a fault of the line
 unfoldable pub meaning_of : List (List ℕ) → Result CommandState UsageFault
-meaning_of words = if is_taken words
+meaning_of words = if is_taken words && is_reference (rows_of_words words)
     then command_of_task (rows_of_words words) (task_of (free_words (rows_of_words words)))
     else Err UsageFault.Line

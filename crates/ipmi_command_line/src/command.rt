@@ -1,16 +1,18 @@
 //! The command of a command line.
-ghost use Rattle.std.specs.Prelude.{◌≡◌, ◌≤◌, ◌<◌, ◌⊎◌, Err, IfOk, IfSome, IsSome, IsTrue, MatchResult, None, Ok, Some, length, option_map};
+ghost use Rattle.std.specs.Prelude.{◌≡◌, ◌≤◌, ◌<◌, ◌⊎◌, Err, false, IfErr, IfOk, IfSome, IsSome, IsTrue, MatchResult, None, Ok, Some, length, option_map, true};
 ghost use Rattle.clap.specs.Words.{found_of, rows_of};
+ghost use Rattle.ipmi_command_line.specs.Arguments.{is_taken, rows_of_words};
 ghost use Rattle.ipmi_command_line.specs.Command.{CommandState, IsCommand, IsTask, command_of_task, meaning_of, number_or, start_of_text};
 ghost use Rattle.ipmi_command_line.specs.declared.command.UsageFault.{UsageFault};
 ghost use Rattle.ipmi_command_line.specs.Task.{is_listing, takes_from};
 
-use crate::arguments::{arguments, value};
+use crate::arguments::{arguments, is_reference, value};
 use crate::number::{decimal, digits};
 use crate::table::task_of;
 use crate::task::{Count, Task};
 use crate::words::{Word, Words};
 use clap::ArgMatches;
+use clap::error::ErrorKind;
 use ipmi_bus::LARGEST_PART;
 use std::alloc::{AllocError, Global};
 use std::marker::Model;
@@ -188,15 +190,34 @@ fn command_of_task(
     Ok(Command::new(task, from, part, tries, image))
 }
 
+/// The options and words of a command line. The first word is the program's name.
+fn arguments_of<'a>(alloc: Global, words: &'a Words) -> Result<ArgMatches<'a>, UsageFault>
+    ensures ok { IfOk result (λ m. (is_taken words.entry.now ≡ true) ×
+        (rows_of (found_of m) ≡ rows_of_words words.entry.now)) }
+    ensures err { IfErr result (λ e. (e ≡ UsageFault.Memory) ⊎
+        ((e ≡ UsageFault.Line) × (is_taken words.entry.now ≡ false))) }
+{
+    match arguments(alloc, words.as_slice()) {
+        Ok(matches) => Ok(matches),
+        Err(error) => match error.kind() {
+            ErrorKind::OutOfMemory => Err(UsageFault::Memory),
+            _ => Err(UsageFault::Line),
+        },
+    }
+}
+
 /// Parses the words of a command line, the first of which is the program's name. The result is the command, or the
 /// fault of the words, or `Memory`.
-#[tactic(auto, using(crate::proofs::ArgumentLemmas::free_words_are), unfolding(crate::specs::Command::meaning_of))]
+#[tactic(auto, using(crate::proofs::ArgumentLemmas::values_are), unfolding(crate::specs::Command::meaning_of))]
 pub fn command_of(alloc: Global, words: &Words) -> Result<Command, UsageFault>
     requires { 0 < length words.now }
     ensures { MatchResult result (λ c. meaning_of words.now ≡ Ok c)
         (λ e. (e ≡ UsageFault.Memory) ⊎ (meaning_of words.now ≡ Err e)) }
 {
-    let matches = arguments(alloc, words)?;
+    let matches = arguments_of(alloc, words)?;
+    if !is_reference(&matches) {
+        return Err(UsageFault::Line);
+    }
     match task_of(alloc, matches.get_strs("words").unwrap_or(&[]))? {
         Some(task) => command_of_task(alloc, task, &matches),
         None => Err(UsageFault::Command),

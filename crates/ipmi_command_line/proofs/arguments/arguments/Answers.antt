@@ -1,7 +1,10 @@
-use Rattle.std.proofs.Common.{◌≡◌, ◌≢◌, ◌∙◌, suc, arith, length, ne_eqb, true, false, [], ◌∷◌, ap, ap₂, inl, inr, refl, sym, map-id}
+use Rattle.std.proofs.Common.{◌≡◌, ◌≢◌, ◌∙◌, ◌⊎◌, suc, arith, length, ne_eqb, true, false, List, [], ◌∷◌, ap, ap₂, inl, inr, refl, sym, Result, Ok, Err, IfOk, IfErr}
 use Rattle.clap.proofs.OnLiterals.{clap_on_literals}
+use Rattle.clap.specs.declared.error.Error.{Error}
 use Rattle.clap.specs.declared.error.kind.ErrorKind.{ErrorKind}
-use Rattle.clap.specs.Words.{IsAmong, Kinds, fault_of, is_simple, is_simple_and_free, matches_of}
+use Rattle.clap.specs.declared.error.kind.ErrorKind.TheVariants.{OutOfMemory}
+use Rattle.clap.specs.declared.parser.matches.ArgMatches.{ArgMatches}
+use Rattle.clap.specs.Words.{App, FailsBy, HasMatchesOf, IsAmong, Kinds, Text, fault_of, found_of, is_simple, is_simple_and_free, kind_of, matches_of, rows_of}
 use Rattle.ipmi_command_line.specs.Arguments.{command_line, is_taken, rows_of_words}
 use Rattle.clap.specs.Walk.{is_empty}
 use Rattle.ipmi_command_line.proofs.arguments.arguments.Goals as goal
@@ -18,21 +21,30 @@ is_empty-kinds : (k : ErrorKind) (ks : Kinds) → IsAmong k ks → is_empty ks �
 is_empty-kinds k [] h = elim h [ ]
 is_empty-kinds k (x ∷ xs) h = let some : suc (length xs) ≢ 0 = omega arith in ne_eqb _ 0 some
 
-pub returns-in-Ok-clause-ok : goal.returns-in-Ok-clause-ok
+-- what `clap` says of a parse with this command line
+ok_taken : (a : App) (words : List Text) (r : Result ArgMatches Error) → a ≡ command_line
+    → (is_simple_and_free a ≡ true → FailsBy (fault_of a words) r) → IfOk r (HasMatchesOf a words)
+    → IfOk r (λ m. (is_taken words ≡ true) × (rows_of (found_of m) ≡ rows_of_words words))
 unfolding is_taken rows_of_words
-returns-in-Ok-clause-ok c =
-    let app_is = c.in_ok-command_line.ensures in
-    let words_are = map-id c.as_slice.result.now ∙ c.as_slice.ensures in (
-      ap is_empty (sym (ap₂ fault_of app_is words_are) ∙ c.in-Ok.ensures.kinds (ap is_simple_and_free app_is ∙ is_simple_and_free-command_line)),
-      (c.in-Ok.ensures.matches (ap is_simple app_is ∙ is_simple-command_line)).0 ∙ ap₂ matches_of app_is words_are,
-    )
+ok_taken a words (Ok m) is kinds matches = (
+  ap is_empty (sym (ap (λ app. fault_of app words) is) ∙ kinds (ap is_simple_and_free is ∙ is_simple_and_free-command_line)),
+  (matches (ap is_simple is ∙ is_simple-command_line)).0 ∙ ap (λ app. matches_of app words) is,
+)
+ok_taken a words (Err e) is kinds matches = tt
+
+err_taken : (a : App) (words : List Text) (r : Result ArgMatches Error) → a ≡ command_line
+    → (is_simple_and_free a ≡ true → FailsBy (fault_of a words) r)
+    → IfErr r (λ e. (kind_of e ≡ OutOfMemory) ⊎ (is_taken words ≡ false))
+unfolding is_taken
+err_taken a words (Ok m) is kinds = tt
+err_taken a words (Err e) is kinds =
+    elim (kinds (ap is_simple_and_free is ∙ is_simple_and_free-command_line)) [
+      | inl h ↦ inl h
+      | inr h ↦ inr (ap is_empty (sym (ap (λ app. fault_of app words) is)) ∙ is_empty-kinds _ _ h)
+    ]
+
+pub returns-clause-ok : goal.returns-clause-ok
+returns-clause-ok g c = ok_taken _ _ c.try_get_matches_from.result c.in_ok-command_line.ensures c.try_get_matches_from.ensures.kinds c.try_get_matches_from.ensures.matches
 
 pub returns-clause-err : goal.returns-clause-err
-unfolding is_taken
-returns-clause-err c =
-    let app_is = c.in_ok-command_line.ensures in
-    let words_are = map-id c.as_slice.result.now ∙ c.as_slice.ensures in
-    elim (c.in-Err.ensures.kinds (ap is_simple_and_free app_is ∙ is_simple_and_free-command_line)) [
-      | inl h ↦ absurd (c.in_default.not-OutOfMemory (c.kind.ensures ∙ h))
-      | inr h ↦ inr (refl, ap is_empty (sym (ap₂ fault_of app_is words_are)) ∙ is_empty-kinds _ _ h)
-    ]
+returns-clause-err g c = err_taken _ _ c.try_get_matches_from.result c.in_ok-command_line.ensures c.try_get_matches_from.ensures.kinds

@@ -1,0 +1,12 @@
+use Rattle.std.proofs.Common.{◌∙◌, ap₂}
+use Rattle.std.proofs.lemmas.Result.{IfOk-weaker}
+use Rattle.clap.specs.Words.{with_rule}
+use Rattle.ipmi_command_line.proofs.arguments.valued_options.Goals as goal
+
+pub returns : goal.returns
+returns c =
+    let label = c.in_ok-arg.ensures.shape c.list_rule.ensures.local ∙ ap₂ with_rule c.in_ok-four_options.ensures c.list_rule.ensures.rule in
+    let live = c.in_ok-arg-2.ensures.shape c.option_rule.ensures.local ∙ ap₂ with_rule label c.option_rule.ensures.rule in
+    let id = c.in_ok-arg-3.ensures.shape c.option_rule-2.ensures.local ∙ ap₂ with_rule live c.option_rule-2.ensures.rule in
+    IfOk-weaker c.arg-4.result _ _ (λ r h. h.shape c.output_rule.ensures.local
+    ∙ ap₂ with_rule id c.output_rule.ensures.rule) c.arg-4.ensures
