@@ -141,7 +141,7 @@ impl Command {
 }
 
 /// The id in the text of `--from`: four hex digits, neither `0000` nor `FFFF`. None if the option is not given.
-fn start_of_text(text: Option<&str>) -> Result<Option<u16>, UsageFault>
+pub(crate) fn start_of_text(text: Option<&str>) -> Result<Option<u16>, UsageFault>
     ensures value { let meant = start_of_text (option_map (λ t. t.now) text.entry) in
         MatchResult result (λ from. meant ≡ Some from) (λ e. (e ≡ UsageFault.Option) × (meant ≡ None)) }
     ensures range { IfOk result (λ from. IfSome from (λ id. (1 ≤ id) × (id ≤ 65534))) }
@@ -156,7 +156,12 @@ fn start_of_text(text: Option<&str>) -> Result<Option<u16>, UsageFault>
 }
 
 /// The number of an option, in decimal from `low` to `high`, or `default` if the option is not given.
-fn number_or(text: Option<&str>, default: u8, low: u8, high: u8) -> Result<u8, UsageFault>
+pub(crate) fn number_or(
+    text: Option<&str>,
+    default: u8,
+    low: u8,
+    high: u8,
+) -> Result<u8, UsageFault>
     requires { (low ≤ default) × (default ≤ high) }
     ensures value { let meant = number_or default low high (option_map (λ t. t.now) text.entry) in
         MatchResult result (λ n. meant ≡ Some n) (λ e. (e ≡ UsageFault.Option) × (meant ≡ None)) }

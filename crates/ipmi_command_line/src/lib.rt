@@ -3,11 +3,20 @@
 
 mod arguments;
 mod command;
+mod commands;
+mod error;
+mod mistake;
 mod number;
+mod request;
 mod table;
 mod task;
 mod words;
 
 pub use command::{Command, DEFAULT_PART, DEFAULT_TRIES, UsageFault, command_of};
+pub use commands::{COMMANDS, CommandRow, Operand, Verb};
+pub use error::{Hint, UsageError};
+pub use request::{
+    Action, FLAGS, Format, Limits, LiveTool, Request, Source, Topic, VALUED, request_of,
+};
 pub use task::{Count, Kind, Task};
 pub use words::{Word, Words};

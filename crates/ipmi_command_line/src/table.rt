@@ -36,7 +36,7 @@ fn inventory_of(word: &str) -> Option<Task>
 }
 
 /// The `n` oldest entries, or all entries if `n` is 0.
-fn oldest(n: u16) -> Count
+pub(crate) fn oldest(n: u16) -> Count
     ensures value { result ≡ oldest n }
     ensures range { IsCount result }
 {
@@ -95,7 +95,7 @@ fn task_of_three(alloc: Global, a: &str, b: &str, c: &str) -> Result<Option<Task
     })
 }
 
-fn task_of_four(a: &str, b: &str, c: &str, d: &str) -> Option<Task>
+pub(crate) fn task_of_four(a: &str, b: &str, c: &str, d: &str) -> Option<Task>
     ensures value { result ≡ task_of_four a.now b.now c.now d.now }
     ensures range { IfSome result IsTask }
 {

@@ -1,0 +1,96 @@
+-- The table of commands: words as `starts_with` compares them, and rows as `find` finds them.
+use Rattle.std.proofs.Common.{◌≡◌, ◌≤◌, ◌<◌, ◌∙◌, ap, arith, refl, List, [], ◌∷◌, Bool, Bor, bytes_eq, ◌&&◌, ◌||◌, codes, get_or, if◌then◌else◌, length, map, Option, None, Some, option_map, unwrap_or}
+use Rattle.std.specs.List.{find, list_any, starts_with}
+use Rattle.clap.proofs.WalkLemmas.{find-map}
+use Rattle.clap.specs.Words.{Text}
+use Rattle.ipmi_command_line.specs.Request.{events_of, has_option, help_of, topic_named, topic_of}
+use Rattle.ipmi_command_line.specs.Table.{entries_of, oldest, task_of_four}
+use Rattle.ipmi_command_line.specs.declared.request.Topic.{Topic}
+use Rattle.ipmi_command_line.specs.declared.task.Count.{Count}
+use Rattle.ipmi_command_line.specs.declared.task.Task.{Task}
+use Rattle.ipmi_command_line.specs.Commands.{CommandState, Row, begins_with, row_among, row_state, texts}
+
+pub begins_with_is : (words own : List (Bor Text)) → starts_with (λ a b. bytes_eq a.now b.now) words own ≡ begins_with (texts words) (texts own)
+begins_with_is words [] = refl
+begins_with_is [] (first ∷ more) = refl
+begins_with_is (word ∷ words) (first ∷ more) = ap (λ b. bytes_eq first.now word.now && b) (begins_with_is words more)
+
+state_of_found : (r : Option (Bor Row)) → option_map (λ row. row_state row.now) r ≡ option_map row_state (option_map (λ row. row.now) r)
+state_of_found None = refl
+state_of_found (Some row) = refl
+
+pub row_found : (r : Option (Bor Row)) (words : List Text) (table : List Row)
+    → option_map (λ row. row.now) r ≡ find (λ row. begins_with words (row_state row).words) table
+    → option_map (λ row. row_state row.now) r ≡ row_among (map row_state table) words
+row_found r words table found = state_of_found r ∙ ap (option_map row_state) found
+    ∙ find-map (λ (row : CommandState). begins_with words row.words) row_state table
+
+-- `contains` of a text among texts
+pub has_option_is : (options : List (Bor Text)) (name : Text)
+    → list_any (λ y. bytes_eq y.now name) options ≡ has_option (texts options) name
+has_option_is [] name = refl
+has_option_is (option ∷ options) name = ap (λ b. bytes_eq option.now name || b) (has_option_is options name)
+
+-- the first name of a list that passes
+pub name_found : (passes : Text → Bool) (r : Option (Bor (Bor Text))) (names : List (Bor Text))
+    → option_map (λ name. name.now) r ≡ find (λ (name : Bor Text). passes name.now) names
+    → option_map (λ (name : Bor Text). name.now) (option_map (λ (name : Bor (Bor Text)). name.now) r) ≡ find passes (texts names)
+name_found passes r names found = ap (option_map (λ (name : Bor Text). name.now)) found
+    ∙ find-map passes (λ (name : Bor Text). name.now) names
+
+-- ---- the words of `sel elist`
+
+pub no_word_of_events : (words : List (Bor Text)) → length words < 2 → None ≡ events_of (texts words)
+no_word_of_events [] h = refl
+no_word_of_events (a ∷ []) h = refl
+no_word_of_events _ h = absurd (omega arith)
+
+pub two_words_of_events : (words : List (Bor Text)) → 2 ≤ length words → length words < 3
+    → Some (Task.SelList Count.All) ≡ events_of (texts words)
+two_words_of_events (a ∷ b ∷ []) h l = refl
+two_words_of_events _ h l = absurd (omega arith)
+
+pub three_words_of_events : (words : List (Bor Text)) (e : Bor Text) → 3 ≤ length words → length words < 4
+    → entries_of oldest (get_or words 2 e).now ≡ events_of (texts words)
+three_words_of_events (a ∷ b ∷ c ∷ []) e h l = refl
+three_words_of_events _ e h l = absurd (omega arith)
+
+pub four_words_of_events : (words : List (Bor Text)) (e f : Bor Text) → 4 ≤ length words → length words < 5
+    → task_of_four (codes "sel") (codes "list") (get_or words 2 e).now (get_or words 3 f).now ≡ events_of (texts words)
+four_words_of_events (a ∷ b ∷ c ∷ d ∷ []) e f h l = refl
+four_words_of_events _ e f h l = absurd (omega arith)
+
+pub many_words_of_events : (words : List (Bor Text)) → 5 ≤ length words → None ≡ events_of (texts words)
+many_words_of_events (a ∷ b ∷ c ∷ d ∷ e ∷ words) h = refl
+many_words_of_events _ h = absurd (omega arith)
+
+pub ruleset events = (no_word_of_events, two_words_of_events, three_words_of_events, four_words_of_events, many_words_of_events)
+
+-- ---- the words beside `--help`
+
+pub one_word_of_topic : (words : List (Bor Text)) (e : Bor Text) → 1 ≤ length words → length words < 2
+    → unwrap_or (topic_named (get_or words 0 e).now) Topic.General ≡ topic_of (texts words)
+one_word_of_topic (a ∷ []) e h l = refl
+one_word_of_topic _ e h l = absurd (omega arith)
+
+pub two_words_of_topic : (words : List (Bor Text)) (e f : Bor Text) → 2 ≤ length words
+    → unwrap_or (topic_named (if bytes_eq (get_or words 0 e).now (codes "help") then (get_or words 1 f).now else (get_or words 0 e).now)) Topic.General
+    ≡ topic_of (texts words)
+two_words_of_topic (a ∷ b ∷ words) e f h = refl
+two_words_of_topic _ e f h = absurd (omega arith)
+
+pub ruleset topics = (one_word_of_topic, two_words_of_topic)
+
+-- ---- the words after `help`
+
+pub no_word_of_help : (words : List (Bor Text)) → length words < 2 → Some Topic.General ≡ help_of (texts words)
+no_word_of_help [] h = refl
+no_word_of_help (a ∷ []) h = refl
+no_word_of_help _ h = absurd (omega arith)
+
+pub word_of_help : (words : List (Bor Text)) (e : Bor Text) → 2 ≤ length words
+    → topic_named (get_or words 1 e).now ≡ help_of (texts words)
+word_of_help (a ∷ b ∷ words) e h = refl
+word_of_help _ e h = absurd (omega arith)
+
+pub ruleset helps = (no_word_of_help, word_of_help)

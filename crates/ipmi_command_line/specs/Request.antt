@@ -1,0 +1,254 @@
+-- What a command line asks for: a function of the options and words that `clap` found, and of the table of commands. None if
+-- the line is refused.
+use Rattle.std.specs.Prelude.{ℕ, ◌≤◌, ◌==◌, ◌&&◌, Bool, true, false, not, is_some, is_none, List, [], ◌∷◌, Option, Some, None, ⊤, option_map, unwrap_or, codes, bytes_eq, count_by, drop, length, map, nat_le, nat_lt, take, IfSome, IsTrue, OnSome, if◌then◌else◌}
+use Rattle.std.specs.List.{after_first, before_first, find, list_any, position_or_len}
+use Rattle.clap.specs.Words.{Row, Text, first_of}
+use Rattle.ipmi_command_line.specs.Arguments.{free_words, has_value, is_given, is_taken, rows_of_words, values_of}
+use Rattle.ipmi_command_line.specs.Command.{IsTask, number_or, start_of_text}
+use Rattle.ipmi_command_line.specs.Commands.{CommandState, row_of}
+use Rattle.ipmi_command_line.specs.Number.{decimal_of, hex_of, within}
+use Rattle.ipmi_command_line.specs.Table.{entries_of, oldest, task_of, task_of_four}
+use Rattle.ipmi_command_line.specs.Task.{takes_from}
+use Rattle.ipmi_command_line.specs.declared.commands.Verb.{Verb}
+use Rattle.ipmi_command_line.specs.declared.request.Action.{Action}
+use Rattle.ipmi_command_line.specs.declared.request.Format.{Format}
+use Rattle.ipmi_command_line.specs.declared.request.Limits.{Limits}
+use Rattle.ipmi_command_line.specs.declared.request.LiveTool.{LiveTool}
+use Rattle.ipmi_command_line.specs.declared.request.Request.{Request}
+use Rattle.ipmi_command_line.specs.declared.request.Source.{Source}
+use Rattle.ipmi_command_line.specs.declared.request.Topic.{Topic}
+use Rattle.ipmi_command_line.specs.declared.request.TheConstants.{FLAGS, VALUED}
+use Rattle.ipmi_command_line.specs.declared.task.Count.{Count}
+use Rattle.ipmi_command_line.specs.declared.task.Kind.{Kind}
+use Rattle.ipmi_command_line.specs.declared.task.Task.{Task}
+
+-- ---- the ranges
+
+abbrev pub IsId : ℕ → Type 0
+IsId id = (1 ≤ id) × (id ≤ 65534)
+
+-- a task that takes an id to start from may have one
+abbrev pub IsAction : Action → Type 0
+IsAction (Action.Print task from) = IsTask task × IfSome from IsId × OnSome from (IsTrue (takes_from task))
+IsAction (Action.GetSensors names from) = IfSome from IsId
+IsAction _ = ⊤
+
+pub record IsRequest (request : Request) : Type 0 where
+  pub action : IsAction request.action
+  pub part : IfSome request.limits.part (λ n. (1 ≤ n) × (n ≤ 254))
+
+-- ---- values
+
+-- hex digits with or without `0x`
+abbrev pub hex_id_of : Text → Option ℕ
+hex_id_of text = within 1 65534 (hex_of (if bytes_eq (take 2 text) (codes "0x") then drop 2 text else text))
+
+abbrev pub start_of : List Row → Option (Option ℕ)
+start_of rows = start_of_text (first_of (codes "from") rows)
+
+abbrev pub part_of_text : Option Text → Option (Option ℕ)
+part_of_text None = Some None
+part_of_text (Some text) = option_map (λ part. Some part) (within 1 254 (decimal_of text))
+
+abbrev pub with_limits : Option (Option ℕ) → Option ℕ → Option Limits
+with_limits (Some part) (Some tries) = Some (record { part = part; tries = tries })
+with_limits part tries = None
+
+abbrev pub limits_of : List Row → Option Limits
+limits_of rows = with_limits (part_of_text (first_of (codes "part") rows))
+    (number_or 5 0 255 (first_of (codes "tries") rows))
+
+-- ---- where the records come from
+
+abbrev pub tool_of : Text → Option LiveTool
+tool_of name =
+    if bytes_eq name (codes "ipmitool") then Some LiveTool.Ipmitool
+    else (if bytes_eq name (codes "freeipmi") then Some LiveTool.FreeIpmi else None)
+
+-- TOOL:FOLDER; the first colon ends the tool's name, and the folder has a name
+abbrev pub live_of : Text → Option Source
+live_of text =
+    if nat_lt (position_or_len (λ byte. byte == 58) text) (length text)
+    then (if length (after_first (λ byte. byte == 58) text) == 0 then None
+    else option_map (λ tool. Source.Live tool (after_first (λ byte. byte == 58) text))
+    (tool_of (before_first (λ byte. byte == 58) text)))
+    else None
+
+abbrev pub standard_inputs : List Text → ℕ
+standard_inputs images = count_by (λ image. bytes_eq image (codes "-")) images
+
+-- the images, of which one may be standard input, or a live controller without an image
+abbrev pub source_of : List Text → Option Text → Option Source
+source_of images None = if nat_lt 1 (standard_inputs images) then None else Some (Source.Images images)
+source_of [] (Some text) = live_of text
+source_of (image ∷ images) (Some text) = None
+
+-- ---- help
+
+abbrev pub topic_named : Text → Option Topic
+topic_named word =
+    if bytes_eq word (codes "sdr") then Some Topic.Sdr
+    else (if bytes_eq word (codes "sensor") then Some Topic.Sensor
+    else (if bytes_eq word (codes "sel") then Some Topic.Sel
+    else (if bytes_eq word (codes "fru") then Some Topic.Fru
+    else (if bytes_eq word (codes "capture") then Some Topic.Capture
+    else (if bytes_eq word (codes "image") then Some Topic.Image
+    else (if bytes_eq word (codes "help") then Some Topic.General
+    else None))))))
+
+-- what `help` prints: the first of these words is `help`
+abbrev pub help_of : List Text → Option Topic
+help_of [] = Some Topic.General
+help_of (word ∷ []) = Some Topic.General
+help_of (word ∷ second ∷ words) = topic_named second
+
+-- `--help` beside these words
+abbrev pub topic_of : List Text → Topic
+topic_of [] = Topic.General
+topic_of (word ∷ []) = unwrap_or (topic_named word) Topic.General
+topic_of (word ∷ second ∷ words) =
+    unwrap_or (topic_named (if bytes_eq word (codes "help") then second else word)) Topic.General
+
+-- ---- what is to be done
+
+-- `sel get`: the id is a word, or the value of `--id`
+abbrev pub entry_of : List Text → Option Text → Option Task
+entry_of words None = task_of words
+entry_of words (Some id) =
+    if length words == 2 then option_map (λ id. Task.SelGet id) (hex_id_of id) else None
+
+-- `sel elist` takes what `sel list` takes
+abbrev pub events_of : List Text → Option Task
+events_of (a ∷ b ∷ []) = Some (Task.SelList Count.All)
+events_of (a ∷ b ∷ c ∷ []) = entries_of oldest c
+events_of (a ∷ b ∷ c ∷ d ∷ []) = task_of_four (codes "sel") (codes "list") c d
+events_of _ = None
+
+-- a command that prints records; `whole`: nothing follows its own words
+abbrev pub task_of_verb : Verb → Bool → List Text → Option Text → Option Task
+task_of_verb Verb.Task whole words id = task_of words
+task_of_verb Verb.GetEntry whole words id = entry_of words id
+task_of_verb Verb.DescribeEvents whole words id = events_of words
+task_of_verb Verb.DescribeSensors whole words id = if whole then Some (Task.List Kind.Sensors) else None
+task_of_verb Verb.ListDevices whole words id = if whole then Some (Task.Fru None) else None
+task_of_verb _ whole words id = None
+
+abbrev pub task_of_row : CommandState → List Text → Option Text → Option Task
+task_of_row row words id = task_of_verb row.verb (length words == length row.words) words id
+
+-- only a task that takes an id to start from may have one
+abbrev pub printed_of : Option (Option ℕ) → Option Task → Option Action
+printed_of (Some from) (Some task) =
+    if is_some from && not (takes_from task) then None else Some (Action.Print task from)
+printed_of from task = None
+
+-- the names after the first two words
+abbrev pub named_of : List Text → Option (Option ℕ) → Option Action
+named_of (a ∷ b ∷ name ∷ names) (Some from) = Some (Action.GetSensors (name ∷ names) from)
+named_of words from = None
+
+abbrev pub capture_of : Bool → List Row → Option Action
+capture_of whole rows = if whole && (has_value (codes "live") rows && not (has_value (codes "from") rows))
+    then Some (Action.Capture (first_of (codes "output") rows) (is_given (codes "quiet") rows)) else None
+
+abbrev pub rewrite_of : Bool → List Row → Option Action
+rewrite_of whole rows = if whole && (not (has_value (codes "from") rows)
+    && nat_le (length (values_of (codes "image") rows)) 1)
+    then Some Action.Rewrite else None
+
+abbrev pub action_of_verb : Verb → CommandState → List Text → List Row → Option Action
+action_of_verb Verb.GetSensors row words rows = named_of words (start_of rows)
+action_of_verb Verb.Capture row words rows = capture_of (length words == 1) rows
+action_of_verb Verb.Rewrite row words rows = rewrite_of (length words == 2) rows
+action_of_verb _ row words rows = printed_of (start_of rows) (task_of_row row words (first_of (codes "id") rows))
+
+abbrev pub action_of : CommandState → List Text → List Row → Option Action
+action_of row words rows = action_of_verb row.verb row words rows
+
+-- ---- options
+
+abbrev pub has_option : List Text → Text → Bool
+has_option options name = list_any (λ option. bytes_eq option name) options
+
+-- the first of these options with a value that was given and is not among those of a command
+abbrev pub among_values : List Text → List Text → List Row → Option Text
+among_values names options rows = find (λ name. has_value name rows && not (has_option options name)) names
+
+-- and without one
+abbrev pub among_flags : List Text → List Text → List Row → Option Text
+among_flags names options rows = find (λ name. is_given name rows && not (has_option options name)) names
+
+abbrev pub or_else : Option Text → Option Text → Option Text
+or_else None second = second
+or_else (Some first) second = Some first
+
+-- the first option that was given and is not among those of a command
+unfoldable pub misplaced : List Text → List Row → Option Text
+misplaced options rows = or_else (among_values (map (λ name. name.now) VALUED) options rows)
+    (among_flags (map (λ name. name.now) FLAGS) options rows)
+
+abbrev pub text_format : Verb → Format
+text_format Verb.DescribeEvents = Format.Descriptive
+text_format Verb.DescribeSensors = Format.Descriptive
+text_format Verb.GetSensors = Format.Descriptive
+text_format Verb.ListDevices = Format.Descriptive
+text_format _ = Format.Plain
+
+-- only objects have labels
+abbrev pub format_of : Verb → List Row → Option Format
+format_of verb rows =
+    if is_given (codes "json") rows then Some (Format.Json (values_of (codes "label") rows))
+    else (if has_value (codes "label") rows then None else Some (text_format verb))
+
+-- ---- the request
+
+-- help and the version need nothing else
+abbrev pub short_request : Action → Request
+short_request action = record {
+  action = action;
+  source = Source.Images [];
+  limits = record { part = None; tries = 5 };
+  format = Format.Plain;
+  strict = false;
+}
+
+abbrev pub with_parts : Option Action → Option Source → Option Limits → Option Format → Bool → Option Request
+with_parts (Some action) (Some source) (Some limits) (Some format) strict =
+    Some (record { action = action; source = source; limits = limits; format = format; strict = strict })
+with_parts action source limits format strict = None
+
+-- each option that is given goes with the command
+abbrev pub request_of_row : CommandState → List Text → List Row → Option Request
+request_of_row row words rows =
+    if is_some (misplaced row.options rows) then None
+    else with_parts (action_of row words rows)
+    (source_of (values_of (codes "image") rows) (first_of (codes "live") rows)) (limits_of rows)
+    (format_of row.verb rows) (is_given (codes "strict") rows)
+
+abbrev pub request_of_help : List Text → Option Request
+request_of_help words = option_map (λ topic. short_request (Action.Help topic)) (help_of words)
+
+abbrev pub request_of_verb : Verb → CommandState → List Text → List Row → Option Request
+request_of_verb Verb.Help row words rows = request_of_help words
+request_of_verb verb row words rows = request_of_row row words rows
+
+abbrev pub request_of_command : CommandState → List Text → List Row → Option Request
+request_of_command row words rows = request_of_verb row.verb row words rows
+
+abbrev pub request_of_found : Option CommandState → List Text → List Row → Option Request
+request_of_found None words rows = None
+request_of_found (Some row) words rows = request_of_command row words rows
+
+unfoldable pub request_of_words : List Text → List Row → Option Request
+request_of_words words rows = request_of_found (row_of words) words rows
+
+-- help, then the version, then the command
+abbrev pub request_of_rows : List Row → Option Request
+request_of_rows rows =
+    if is_given (codes "help") rows then Some (short_request (Action.Help (topic_of (free_words rows))))
+    else (if is_given (codes "version") rows then Some (short_request Action.Version)
+    else request_of_words (free_words rows) rows)
+
+-- the first word is the program's name
+unfoldable pub request_of : List Text → Option Request
+request_of words = if is_taken words then request_of_rows (rows_of_words words) else None

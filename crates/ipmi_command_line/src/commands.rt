@@ -1,0 +1,229 @@
+//! The table of commands. What is read, suggested and printed as help comes from it.
+ghost use Rattle.std.specs.Prelude.{◌≡◌, map, option_map};
+ghost use Rattle.ipmi_command_line.specs.Commands.{begins_with, row_among, row_of, row_state, texts};
+
+/// What a command does.
+#[derive(Clone, Copy, Debug, PartialEq, Eq)]
+pub enum Verb {
+    /// The task that its words name, as in the reference program.
+    Task,
+    /// The block of an entry, whose id is a word, or the value of `--id`.
+    GetEntry,
+    /// Entries in descriptive words.
+    DescribeEvents,
+    /// Sensors in descriptive words.
+    DescribeSensors,
+    /// The blocks of the sensors with these names, in descriptive words.
+    GetSensors,
+    /// A line for each device.
+    ListDevices,
+    /// A live controller saved as an image.
+    Capture,
+    /// An image in its canonical spelling.
+    Rewrite,
+    /// A help text.
+    Help,
+}
+
+/// What may follow the words of a command.
+#[derive(Clone, Copy, Debug, PartialEq, Eq)]
+pub enum Operand {
+    /// Nothing.
+    Nothing,
+    /// A kind of sensor data records, or nothing.
+    Kind,
+    /// A name.
+    Name,
+    /// One or more names.
+    Names,
+    /// A number of entries, after `first`, `last` or nothing; or nothing.
+    Count,
+    /// The id of an entry.
+    EntryId,
+    /// The id of a device, or nothing.
+    DeviceId,
+    /// A command, or nothing.
+    Topic,
+}
+
+/// A command: its words, what it does, what follows its words, the options that go with it, and its lines of the general
+/// help, which are empty if those of another row have it. `--part`, `--tries` and, where its task takes one, `--from` go with
+/// it too. A row is a tuple, as specs/ can then read the table.
+pub type CommandRow = (
+    &'static [&'static str],
+    Verb,
+    Operand,
+    &'static [&'static str],
+    &'static str,
+);
+
+/// The options of commands that print records.
+const PRINTING: &[&str] = &["image", "live", "json", "label", "strict"];
+
+/// The options of the command that prints one entry.
+const GETTING: &[&str] = &["image", "live", "json", "label", "strict", "id"];
+
+/// The options of `capture`.
+const CAPTURING: &[&str] = &["live", "output", "quiet"];
+
+/// The options of `image rewrite`.
+const REWRITING: &[&str] = &["image", "strict"];
+
+/// No options.
+const NONE: &[&str] = &[];
+
+/// The commands. A command comes before one whose words begin it.
+pub const COMMANDS: [CommandRow; 20] = [
+    (
+        &["sdr", "list"],
+        Verb::Task,
+        Operand::Kind,
+        PRINTING,
+        "  sdr, sdr list [KIND]    a line for each sensor: name, reading, status\n",
+    ),
+    (
+        &["sdr", "elist"],
+        Verb::Task,
+        Operand::Kind,
+        PRINTING,
+        "  sdr elist [KIND]        the same with number and entity\n",
+    ),
+    (
+        &["sdr", "get"],
+        Verb::Task,
+        Operand::Name,
+        PRINTING,
+        "  sdr get NAME            all about the sensor of this name\n",
+    ),
+    (
+        &["sdr", "info"],
+        Verb::Task,
+        Operand::Nothing,
+        PRINTING,
+        "  sdr info                a summary of the sensor data repository\n",
+    ),
+    (
+        &["sdr", "hex"],
+        Verb::Task,
+        Operand::Nothing,
+        PRINTING,
+        "  sdr hex                 each sensor data record as an image line (the default)\n",
+    ),
+    (&["sdr"], Verb::Task, Operand::Nothing, PRINTING, ""),
+    (
+        &["sensor", "list"],
+        Verb::DescribeSensors,
+        Operand::Nothing,
+        PRINTING,
+        "  sensor, sensor list     a line for each sensor: states in words, thresholds\n",
+    ),
+    (
+        &["sensor", "get"],
+        Verb::GetSensors,
+        Operand::Names,
+        PRINTING,
+        "  sensor get NAME..       all about the sensors of these names, in words\n",
+    ),
+    (
+        &["sensor"],
+        Verb::DescribeSensors,
+        Operand::Nothing,
+        PRINTING,
+        "",
+    ),
+    (
+        &["sel", "info"],
+        Verb::Task,
+        Operand::Nothing,
+        PRINTING,
+        "  sel, sel info           a summary of the event log\n",
+    ),
+    (
+        &["sel", "list"],
+        Verb::Task,
+        Operand::Count,
+        PRINTING,
+        "  sel list [[first] N]    a line for each event, or for the N oldest\n  sel list last N         a line for each of the N newest events\n",
+    ),
+    (
+        &["sel", "elist"],
+        Verb::DescribeEvents,
+        Operand::Count,
+        PRINTING,
+        "  sel elist ..            the same as sel list .., with names and in words\n",
+    ),
+    (
+        &["sel", "get"],
+        Verb::GetEntry,
+        Operand::EntryId,
+        GETTING,
+        "  sel get ID              all about one event\n",
+    ),
+    (&["sel"], Verb::Task, Operand::Nothing, PRINTING, ""),
+    (
+        &["fru", "print"],
+        Verb::Task,
+        Operand::DeviceId,
+        PRINTING,
+        "  fru, fru print [ID]     the inventory of each device, or of one\n",
+    ),
+    (
+        &["fru", "list"],
+        Verb::ListDevices,
+        Operand::Nothing,
+        PRINTING,
+        "  fru list                a line for each device: name, product, part, serial\n",
+    ),
+    (&["fru"], Verb::Task, Operand::Nothing, PRINTING, ""),
+    (
+        &["capture"],
+        Verb::Capture,
+        Operand::Nothing,
+        CAPTURING,
+        "  capture                 a live controller as an image (serdimko-live)\n",
+    ),
+    (
+        &["image", "rewrite"],
+        Verb::Rewrite,
+        Operand::Nothing,
+        REWRITING,
+        "  image rewrite           the image as version 2, in a fixed order and spelling\n",
+    ),
+    (
+        &["help"],
+        Verb::Help,
+        Operand::Topic,
+        NONE,
+        "  help [COMMAND]          this help, or more on a command\n",
+    ),
+];
+
+/// Whether the words begin with these.
+#[tactic(auto, using(crate::proofs::CommandLemmas::begins_with_is))]
+pub(crate) fn begins_with(words: &[&str], own: &[&str]) -> bool
+    ensures { result ≡ begins_with (texts words.now) (texts own.now) }
+{
+    words.starts_with(own)
+}
+
+/// The first command of a table that the words begin with.
+fn row_among(table: &'static [CommandRow], words: &[&str]) -> Option<&'static CommandRow>
+    ensures { option_map (λ row. row_state row.now) result ≡
+        row_among (map row_state table.entry.now) (texts words.now) }
+{
+    table.iter().find(|row| begins_with(words, row.0))
+}
+
+/// The words of the command that is run if there are none.
+const DEFAULT: [&str; 2] = ["sdr", "hex"];
+
+/// The command that the words begin with.
+#[tactic(auto, unfolding(crate::specs::Commands::row_of, crate::specs::Commands::commands))]
+pub(crate) fn row_of(words: &[&str]) -> Option<&'static CommandRow>
+    ensures { option_map (λ row. row_state row.now) result ≡ row_of (texts words.now) }
+{
+    match words {
+        [] => row_among(&COMMANDS, &DEFAULT),
+        _ => row_among(&COMMANDS, words),
+    }
+}

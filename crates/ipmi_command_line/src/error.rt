@@ -1,0 +1,264 @@
+//! Why `serdimko` refuses a command line.
+ghost use Rattle.std.specs.Prelude.{◌≡◌};
+ghost use Rattle.ipmi_command_line.specs.declared.error.UsageError.{UsageError};
+
+use crate::commands::{COMMANDS, CommandRow, Operand, begins_with};
+use std::alloc::AllocError;
+use std::error::Error;
+use std::fmt;
+
+/// What the user may have meant.
+#[derive(Clone, Copy, Debug)]
+pub enum Hint<'a> {
+    /// Nothing is known.
+    None,
+    /// This word.
+    Word(&'static str),
+    /// A password on the command line of stock `ipmitool`.
+    Password,
+    /// An option with which stock `ipmitool` connects.
+    Connection(&'static str),
+    /// An id as listings print it, with these hex digits. An entry's id also goes with `--id`.
+    HexId(&'a str, Operand),
+    /// The id `0000`, from which a walk begins.
+    FirstRecord,
+    /// A name with spaces that is not quoted.
+    Quotes,
+    /// A file.
+    File,
+}
+
+/// Why a command line is refused. It displays as one line, in which control characters of the user are escaped.
+#[derive(Debug, Drop)]
+pub enum UsageError<'a> {
+    /// Out of memory.
+    Memory,
+    /// `clap` does not accept the options and words. This is what it says.
+    Line(String, Hint<'a>),
+    /// No command has this word after these words.
+    UnknownWord(&'a str, &'static [&'static str], Hint<'a>),
+    /// The word is no kind of sensor data record.
+    UnknownKind(&'a str, Hint<'a>),
+    /// The command of these words lacks what follows them.
+    Missing(&'static [&'static str], Operand),
+    /// The command of these words takes no such word, or not so many.
+    Extra(&'a str, &'static [&'static str], Hint<'a>),
+    /// The word is no number that the operand may be.
+    Number(&'a str, Operand, Hint<'a>),
+    /// The option does not take this value.
+    Value(&'static str, &'a str, Hint<'a>),
+    /// The option does not go with the command of these words.
+    Misplaced(&'static str, &'static [&'static str]),
+    /// There are both a word and `--id` for the id of an entry.
+    TwoIds,
+    /// There is no live controller for `capture`.
+    NotLive,
+    /// There are several images, and the command takes one.
+    SeveralImages,
+    /// Standard input is an image twice.
+    StandardInputTwice,
+    /// There are both an image and a live controller.
+    ImageAndLive,
+    /// There is `--label` without `--json`.
+    LabelWithoutJson,
+}
+
+impl From<AllocError> for UsageError<'_> {
+    ghost from_gives = { λ _ e. e ≡ UsageError.Memory };
+
+    fn from(_error: AllocError) -> Self {
+        UsageError::Memory
+    }
+}
+
+/// A text of the user. A control byte, below 20h or 7Fh, is written as `\x` and two upper-case hex digits, so that the message
+/// stays one line.
+#[derive(Clone, Copy)]
+struct Escaped<'a>(&'a str);
+
+impl fmt::Display for Escaped<'_> {
+    fn fmt<W: fmt::Write>(&self, f: &mut fmt::Formatter<W>) -> fmt::Result {
+        for c in self.0.chars() {
+            if c.is_ascii_control() {
+                write!(f, "\\x{:02X}", c as u32)?;
+            } else {
+                f.write_char(c)?;
+            }
+        }
+        Ok(())
+    }
+}
+
+/// Words with spaces between them.
+#[derive(Clone, Copy)]
+struct Spaced(&'static [&'static str]);
+
+impl fmt::Display for Spaced {
+    fn fmt<W: fmt::Write>(&self, f: &mut fmt::Formatter<W>) -> fmt::Result {
+        let mut space = "";
+        for word in self.0 {
+            write!(f, "{space}{word}")?;
+            space = " ";
+        }
+        Ok(())
+    }
+}
+
+/// The word that the command has after these words, if it begins with them.
+pub(crate) fn next_word(row: &CommandRow, after: &[&str]) -> Option<&'static str> {
+    let (words, ..) = *row;
+    if !begins_with(words, after) {
+        return None;
+    }
+    words.get(after.len()).copied()
+}
+
+/// Writes the words that commands of the table have after these words.
+fn write_next_words<W: fmt::Write>(
+    f: &mut fmt::Formatter<W>,
+    table: &'static [CommandRow],
+    after: &[&str],
+) -> fmt::Result {
+    let mut last = "";
+    for row in table {
+        let word = next_word(row, after).unwrap_or(last);
+        // rows that begin alike stand together
+        if word != last {
+            write!(f, " {word}")?;
+        }
+        last = word;
+    }
+    Ok(())
+}
+
+/// What follows the words of a command, as messages and help name it.
+impl fmt::Display for Operand {
+    fn fmt<W: fmt::Write>(&self, f: &mut fmt::Formatter<W>) -> fmt::Result {
+        f.write_str(match self {
+            Operand::Nothing => "nothing",
+            Operand::Kind => "a kind: all, full, compact, event, generic, mclocator or fru",
+            Operand::Name | Operand::Names => "a NAME",
+            Operand::Count => "a number from 0 to 65535",
+            Operand::EntryId => "an ID from 1 to 65534",
+            Operand::DeviceId => "an ID from 0 to 254",
+            Operand::Topic => "a command",
+        })
+    }
+}
+
+impl fmt::Display for Hint<'_> {
+    fn fmt<W: fmt::Write>(&self, f: &mut fmt::Formatter<W>) -> fmt::Result {
+        match self {
+            Hint::None => Ok(()),
+            Hint::Word(word) => write!(f, ": did you mean '{word}'?"),
+            Hint::Password => f.write_str(
+                ": for a live machine put the password in IPMI_PASSWORD, and write serdimko-live -E ... -- COMMAND",
+            ),
+            Hint::Connection(option) => {
+                write!(
+                    f,
+                    ": for a live machine write serdimko-live {option} ... -- COMMAND"
+                )
+            }
+            Hint::HexId(digits, operand) => {
+                let digits = Escaped(digits);
+                match operand {
+                    Operand::Nothing => write!(f, ": write {digits}"),
+                    Operand::EntryId => write!(f, ": in hex write 0x{digits}, or --id {digits}"),
+                    _ => write!(f, ": in hex write 0x{digits}"),
+                }
+            }
+            Hint::FirstRecord => f.write_str(": leave it out to begin with the first record"),
+            Hint::Quotes => f.write_str(": quote a name that has spaces"),
+            Hint::File => f.write_str(": a file comes after --image"),
+        }
+    }
+}
+
+/// What the value of an option must be.
+fn rule_of(option: &str) -> &'static str {
+    match option {
+        "from" => "four hex digits from 0001 to FFFE",
+        "part" => "a number from 1 to 254, decimal without leading zeros",
+        "tries" => "a number from 0 to 255, decimal without leading zeros",
+        "id" => "a hex id of 1 to 4 digits, 1 to FFFE",
+        "live" => "TOOL:FOLDER, which serdimko-live gives",
+        _ => "KEY=VALUE, with a key that no object and no earlier label has",
+    }
+}
+
+impl fmt::Display for UsageError<'_> {
+    fn fmt<W: fmt::Write>(&self, f: &mut fmt::Formatter<W>) -> fmt::Result {
+        match self {
+            UsageError::Memory => f.write_str("out of memory"),
+            UsageError::Line(said, hint) => write!(f, "{}{hint}", Escaped(said.as_str())),
+            UsageError::UnknownWord(word, after, hint) => write_unknown(f, word, after, hint),
+            UsageError::UnknownKind(word, hint) => {
+                write!(f, "'{}' is not {}{hint}", Escaped(word), Operand::Kind)
+            }
+            UsageError::Missing(words, operand) => write!(f, "'{}' needs {operand}", Spaced(words)),
+            UsageError::Extra(word, words, hint) => {
+                write!(
+                    f,
+                    "unexpected word '{}' with '{}'{hint}",
+                    Escaped(word),
+                    Spaced(words)
+                )
+            }
+            UsageError::Number(word, operand, hint) => write!(
+                f,
+                "'{}' is not {operand}, in decimal without leading zeros or as 0x and up to four hex digits{hint}",
+                Escaped(word)
+            ),
+            UsageError::Value(option, value, hint) => {
+                write!(
+                    f,
+                    "--{option} '{}' is not {}{hint}",
+                    Escaped(value),
+                    rule_of(option)
+                )
+            }
+            UsageError::Misplaced(option, words) => {
+                write!(f, "--{option} does not go with '{}'", Spaced(words))
+            }
+            _ => f.write_str(self.rule()),
+        }
+    }
+}
+
+/// Writes that no command has the word there, and what it may be.
+fn write_unknown<W: fmt::Write>(
+    f: &mut fmt::Formatter<W>,
+    word: &str,
+    after: &'static [&'static str],
+    hint: &Hint<'_>,
+) -> fmt::Result {
+    let word = Escaped(word);
+    if after.is_empty() {
+        write!(f, "unknown command '{word}'")?;
+    } else {
+        write!(f, "unknown word '{word}' after '{}'", Spaced(after))?;
+    }
+    let Hint::None = hint else {
+        return write!(f, "{hint}");
+    };
+    f.write_str(": use one of")?;
+    write_next_words(f, &COMMANDS, after)
+}
+
+impl UsageError<'_> {
+    /// The rule that options break together.
+    fn rule(&self) -> &'static str {
+        match self {
+            UsageError::TwoIds => "'sel get' takes an ID or --id, not both",
+            UsageError::NotLive => "'capture' needs a live controller: see serdimko-live --help",
+            UsageError::SeveralImages => "'image rewrite' takes one image",
+            UsageError::StandardInputTwice => "standard input is given twice",
+            UsageError::ImageAndLive => "--image does not go with a live controller",
+            UsageError::LabelWithoutJson => "--label goes only with --json",
+            _ => "the command line can't be read: see serdimko --help",
+        }
+    }
+}
+
+impl Error for UsageError<'_> {}

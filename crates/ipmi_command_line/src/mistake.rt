@@ -1,0 +1,220 @@
+//! What is wrong with a command line that has no request.
+ghost use Rattle.std.specs.Prelude.{◌≡◌};
+
+use crate::commands::{COMMANDS, CommandRow, Operand};
+use crate::error::{Hint, UsageError, next_word};
+use crate::number::digits;
+use clap::Error;
+use std::alloc::{AllocError, Global};
+use std::convert::AsStr;
+use strsim::osa_distance;
+
+/// The kinds of sensor data records.
+const KINDS: [&str; 7] = [
+    "all",
+    "full",
+    "compact",
+    "event",
+    "generic",
+    "mclocator",
+    "fru",
+];
+
+/// Options with which stock `ipmitool` connects.
+const CONNECTION: [&str; 20] = [
+    "-I", "-H", "-U", "-E", "-p", "-f", "-t", "-b", "-B", "-d", "-K", "-m", "-T", "-z", "-L", "-N",
+    "-A", "-C", "-R", "-k",
+];
+
+// ---- options
+
+/// What `clap` says of an error: its first paragraph, and its tip after a semicolon.
+fn said_of(alloc: Global, error: &Error) -> Result<String, AllocError> {
+    let text = format!(in alloc; "{error}")?;
+    let mut parts = text.as_str().split("\n\n");
+    let first = parts.next().unwrap_or("");
+    let first = first.strip_prefix("error: ").unwrap_or(first);
+    let mut said = String::from_str(alloc, first.trim_end())?;
+    if let Some(tip) = parts.next().and_then(|part| part.strip_prefix("  tip: ")) {
+        said.push_str("; ")?;
+        said.push_str(tip)?;
+    }
+    Ok(said)
+}
+
+/// The option of stock `ipmitool` that the word is, or begins with.
+fn hint_of_option<'a>(word: &str) -> Option<Hint<'a>> {
+    if word.starts_with("-P") {
+        return Some(Hint::Password);
+    }
+    let option = CONNECTION.iter().find(|option| word.starts_with(**option))?;
+    Some(Hint::Connection(*option))
+}
+
+/// What a user of stock `ipmitool` may have meant.
+fn hint_of_line<'a, S: AsStr>(words: &[S]) -> Hint<'a> {
+    for word in words.get(1..).unwrap_or(&[]) {
+        let word = word.as_str();
+        if word == "--" {
+            break;
+        }
+        if let Some(hint) = hint_of_option(word) {
+            return hint;
+        }
+    }
+    Hint::None
+}
+
+/// `clap` does not accept the options and words.
+pub(crate) fn refused<'a, S: AsStr>(
+    alloc: Global,
+    error: &Error,
+    words: &'a [S],
+) -> Result<UsageError<'a>, AllocError> {
+    Ok(UsageError::Line(said_of(alloc, error)?, hint_of_line(words)))
+}
+
+/// The digits of an id, as listings and messages print it.
+fn bare_digits(text: &str) -> &str {
+    let text = text.strip_prefix("0x").unwrap_or(text);
+    text.strip_suffix('h').unwrap_or(text)
+}
+
+/// The value is none that the option takes.
+pub(crate) fn value_error<'a>(option: &'static str, value: Option<&'a str>) -> UsageError<'a> {
+    let value = value.unwrap_or("");
+    let id = bare_digits(value);
+    let is_id = id.len() <= 4 && digits(id, 16, 1, 0xFFFE).is_some();
+    let hint = match option {
+        "from" if value == "0000" => Hint::FirstRecord,
+        "id" if is_id => Hint::HexId(id, Operand::Nothing),
+        "from" if is_id && id.len() == 4 => Hint::HexId(id, Operand::Nothing),
+        _ => Hint::None,
+    };
+    UsageError::Value(option, value, hint)
+}
+
+// ---- words
+
+/// The first name that starts with the word, if the word has three letters or more. Otherwise the first name that differs by
+/// one wrong, missing, extra or swapped letter.
+fn is_near(alloc: Global, word: &str, name: &str) -> Result<bool, AllocError> {
+    if word.len() > 2 && name.starts_with(word) {
+        return Ok(true);
+    }
+    Ok(osa_distance(alloc, word, name)? <= 1)
+}
+
+/// Whether the word looks like a file's name.
+fn is_file(word: &str) -> bool {
+    word == "-" || word.contains('.') || word.contains('/')
+}
+
+/// No command has the word after these.
+fn unknown<'a>(
+    alloc: Global,
+    word: &'a str,
+    after: &'static [&'static str],
+) -> Result<UsageError<'a>, AllocError> {
+    if is_file(word) {
+        return Ok(UsageError::UnknownWord(word, after, Hint::File));
+    }
+    for row in COMMANDS.iter() {
+        if let Some(name) = next_word(row, after) {
+            if is_near(alloc, word, name)? {
+                return Ok(UsageError::UnknownWord(word, after, Hint::Word(name)));
+            }
+        }
+    }
+    Ok(UsageError::UnknownWord(word, after, Hint::None))
+}
+
+/// The first words of the commands that have two words alone.
+const GROUP: [&str; 1] = ["image"];
+
+/// No command begins with these words.
+pub(crate) fn unknown_word<'a>(
+    alloc: Global,
+    words: &[&'a str],
+) -> Result<UsageError<'a>, AllocError> {
+    match words {
+        [] => Ok(UsageError::Missing(&[], Operand::Topic)),
+        ["image"] => Ok(UsageError::UnknownWord("", &GROUP, Hint::Word("rewrite"))),
+        ["image", word, ..] => unknown(alloc, word, &GROUP),
+        [word, ..] => unknown(alloc, word, &[]),
+    }
+}
+
+/// The word is no kind of record.
+fn unknown_kind<'a>(alloc: Global, word: &'a str) -> Result<UsageError<'a>, AllocError> {
+    if is_file(word) {
+        return Ok(UsageError::UnknownKind(word, Hint::File));
+    }
+    for name in KINDS.iter() {
+        if is_near(alloc, word, name)? {
+            return Ok(UsageError::UnknownKind(word, Hint::Word(*name)));
+        }
+    }
+    Ok(UsageError::UnknownKind(word, Hint::None))
+}
+
+/// The word is no number that the operand may be.
+fn wrong_number<'a>(operand: Operand, word: &'a str) -> UsageError<'a> {
+    let digits_ = bare_digits(word);
+    let is_id = operand != Operand::Count
+        && digits_.len() <= 4
+        && digits(digits_, 16, 0, 0xFFFE).is_some();
+    let hint = if is_id {
+        Hint::HexId(digits_, operand)
+    } else {
+        Hint::None
+    };
+    UsageError::Number(word, operand, hint)
+}
+
+/// What is wrong with the number of `sel list`.
+fn count_error<'a>(row: &CommandRow, words: &[&'a str]) -> UsageError<'a> {
+    match words {
+        [] | ["first" | "last"] => UsageError::Missing(row.0, row.2),
+        ["first" | "last", _, word, ..] => UsageError::Extra(word, row.0, Hint::None),
+        ["first" | "last", word] | [word] => wrong_number(row.2, word),
+        [_, word, ..] => UsageError::Extra(word, row.0, Hint::None),
+    }
+}
+
+/// What is wrong with the id of an entry or of a device.
+fn id_error<'a>(row: &CommandRow, words: &[&'a str], id: Option<&'a str>) -> UsageError<'a> {
+    match (words, id) {
+        ([], Some(_)) => value_error("id", id),
+        ([_, ..], Some(_)) => UsageError::TwoIds,
+        ([], None) => UsageError::Missing(row.0, row.2),
+        ([word], None) => wrong_number(row.2, word),
+        ([_, word, ..], None) => UsageError::Extra(word, row.0, Hint::None),
+    }
+}
+
+/// What is wrong with the words after those of a command.
+pub(crate) fn word_error<'a>(
+    alloc: Global,
+    row: &CommandRow,
+    words: &[&'a str],
+    id: Option<&'a str>,
+) -> Result<UsageError<'a>, AllocError> {
+    let (own, _, operand, ..) = *row;
+    let after = words.get(own.len()..).unwrap_or(&[]);
+    match (operand, after) {
+        (Operand::Count, _) => Ok(count_error(row, after)),
+        (Operand::EntryId | Operand::DeviceId, _) => Ok(id_error(row, after, id)),
+        (_, []) => Ok(UsageError::Missing(own, operand)),
+        (Operand::Kind, [word]) => unknown_kind(alloc, word),
+        (Operand::Name | Operand::Names, [_, word, ..]) => {
+            Ok(UsageError::Extra(word, own, Hint::Quotes))
+        }
+        (Operand::Kind, [_, word, ..]) => Ok(UsageError::Extra(word, own, Hint::None)),
+        (_, [word, ..]) if own.len() == 1 && !matches!(own, ["capture"]) => unknown(
+            alloc, word, own,
+        ),
+        (_, [word, ..]) if is_file(word) => Ok(UsageError::Extra(word, own, Hint::File)),
+        (_, [word, ..]) => Ok(UsageError::Extra(word, own, Hint::None)),
+    }
+}

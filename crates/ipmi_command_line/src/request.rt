@@ -1,0 +1,671 @@
+//! What a command line of `serdimko` asks for.
+ghost use Rattle.std.specs.Prelude.{◌≡◌, ◌≤◌, ◌⊎◌, ◌==◌, codes, false, if◌then◌else◌, IfOk, IfSome, length, map, MatchResult, None, option_map, Some, true};
+ghost use Rattle.clap.specs.Words.{first_of, found_of, rows_of};
+ghost use Rattle.ipmi_command_line.specs.Arguments.{is_taken, rows_of_words, values_of};
+ghost use Rattle.ipmi_command_line.specs.Command.{IsTask, number_or, start_of_text};
+ghost use Rattle.ipmi_command_line.specs.Commands.{CommandState, row_of, row_state, texts};
+ghost use Rattle.ipmi_command_line.specs.Request.{action_of, among_flags, among_values, capture_of, entry_of, events_of, format_of, hex_id_of, help_of, IsRequest, IsAction, has_option, limits_of, live_of, misplaced, named_of, part_of_text, printed_of, request_of, request_of_command, request_of_help, request_of_row, request_of_rows, request_of_words, rewrite_of, short_request, source_of, standard_inputs, start_of, task_of_row, tool_of, topic_named, topic_of};
+ghost use Rattle.ipmi_command_line.specs.declared.error.UsageError.{UsageError};
+
+use crate::arguments::{arguments, has_value, is_given, value, value_count};
+use crate::command::{DEFAULT_TRIES, FIRST_ID, LAST_ID, number_or, start_of_text};
+use crate::commands::{CommandRow, Verb, row_of};
+use crate::error::UsageError;
+use crate::mistake::{refused, unknown_word, value_error, word_error};
+use crate::number::{decimal, digits, number};
+use crate::table::{oldest, task_of, task_of_four};
+use crate::task::{Count, Kind, Task};
+use crate::words::{Word, Words};
+use clap::ArgMatches;
+use clap::error::ErrorKind;
+use ipmi_bus::LARGEST_PART;
+use std::alloc::{AllocError, Global};
+use std::convert::AsStr;
+
+/// The command on which help is wanted.
+#[derive(Clone, Copy, Debug, PartialEq, Eq)]
+pub enum Topic {
+    /// All commands.
+    General,
+    /// `sdr`.
+    Sdr,
+    /// `sensor`.
+    Sensor,
+    /// `sel`.
+    Sel,
+    /// `fru`.
+    Fru,
+    /// `capture`.
+    Capture,
+    /// `image`.
+    Image,
+}
+
+/// What is to be done.
+#[derive(Debug, Drop)]
+pub enum Action {
+    /// Print what the task says, from this id on.
+    Print(Task, Option<u16>),
+    /// Print the block of each sensor with one of these names, from this id on.
+    GetSensors(Words, Option<u16>),
+    /// Save a live controller as an image, to this file or to standard output, and perhaps without showing progress.
+    Capture(Option<Word>, bool),
+    /// Print an image in its canonical spelling.
+    Rewrite,
+    /// Print a help text.
+    Help(Topic),
+    /// Print the version.
+    Version,
+}
+
+/// The tool that holds a session with a live controller.
+#[derive(Clone, Copy, Debug, PartialEq, Eq)]
+pub enum LiveTool {
+    /// Stock `ipmitool`.
+    Ipmitool,
+    /// FreeIPMI's `ipmi-raw`.
+    FreeIpmi,
+}
+
+/// Where the records come from.
+#[derive(Debug, Drop)]
+pub enum Source {
+    /// Saved images, one after another; `-` is standard input, and so are none.
+    Images(Words),
+    /// A live controller: the tool, and the folder of its pipes.
+    Live(LiveTool, Word),
+}
+
+/// What a request may take of a controller.
+#[derive(Clone, Copy, Debug, PartialEq, Eq)]
+pub struct Limits {
+    /// The largest number of bytes per request, 1 to 254, if one was given.
+    pub part: Option<u8>,
+    /// The number of retries for one record, reading, info or inventory.
+    pub tries: u8,
+}
+
+/// How records are printed.
+#[derive(Debug, Drop)]
+pub enum Format {
+    /// As text, as the reference program does.
+    Plain,
+    /// As text, in descriptive words.
+    Descriptive,
+    /// As objects, each with these labels, `KEY=VALUE`.
+    Json(Words),
+}
+
+/// What a command line asks for.
+#[derive(Debug, Drop)]
+pub struct Request {
+    /// What is to be done.
+    pub action: Action,
+    /// Where the records come from.
+    pub source: Source,
+    /// What may be taken of a controller.
+    pub limits: Limits,
+    /// How records are printed.
+    pub format: Format,
+    /// Whether a fault or a missing device is a failure.
+    pub strict: bool,
+}
+
+// ---- values
+
+/// The id in hex digits, with or without `0x`, as listings print it.
+fn hex_id(text: &str) -> Option<u16>
+    ensures value { result ≡ hex_id_of text.now }
+    ensures range { IfSome result (λ id. (1 ≤ id) × (id ≤ 65534)) }
+{
+    let text = text.strip_prefix("0x").unwrap_or(text);
+    if text.len() > 4 {
+        return None;
+    }
+    digits(text, 16, FIRST_ID, LAST_ID)
+}
+
+/// The id to start from.
+fn start_of<'a>(matches: &ArgMatches<'a>) -> Result<Option<u16>, UsageError<'a>>
+    ensures value { MatchResult result (λ from. start_of (rows_of (found_of matches.now)) ≡ Some from)
+        (λ _. start_of (rows_of (found_of matches.now)) ≡ None) }
+    ensures range { IfOk result (λ from. IfSome from (λ id. (1 ≤ id) × (id ≤ 65534))) }
+{
+    let text = value(matches, "from");
+    match start_of_text(text) {
+        Ok(from) => Ok(from),
+        Err(_) => Err(value_error("from", text)),
+    }
+}
+
+/// The largest number of bytes per request, if it was given.
+fn part_of<'a>(matches: &ArgMatches<'a>) -> Result<Option<u8>, UsageError<'a>>
+    ensures value { MatchResult result (λ part. part_of_text (first_of (codes "part") (rows_of (found_of matches.now))) ≡ Some part)
+        (λ _. part_of_text (first_of (codes "part") (rows_of (found_of matches.now))) ≡ None) }
+    ensures range { IfOk result (λ part. IfSome part (λ n. (1 ≤ n) × (n ≤ 254))) }
+{
+    let Some(text) = value(matches, "part") else {
+        return Ok(None);
+    };
+    match decimal(text, 1, u16::from(LARGEST_PART)) {
+        Some(part) => Ok(Some(part as u8)),
+        None => Err(value_error("part", Some(text))),
+    }
+}
+
+/// The number of retries.
+fn tries_of<'a>(matches: &ArgMatches<'a>) -> Result<u8, UsageError<'a>>
+    ensures { MatchResult result (λ tries. number_or 5 0 255 (first_of (codes "tries") (rows_of (found_of matches.now))) ≡ Some tries)
+        (λ _. number_or 5 0 255 (first_of (codes "tries") (rows_of (found_of matches.now))) ≡ None) }
+{
+    let text = value(matches, "tries");
+    match number_or(text, DEFAULT_TRIES, 0, u8::MAX) {
+        Ok(tries) => Ok(tries),
+        Err(_) => Err(value_error("tries", text)),
+    }
+}
+
+/// What may be taken of a controller.
+fn limits_of<'a>(matches: &ArgMatches<'a>) -> Result<Limits, UsageError<'a>>
+    ensures value { MatchResult result (λ limits. limits_of (rows_of (found_of matches.now)) ≡ Some limits)
+        (λ _. limits_of (rows_of (found_of matches.now)) ≡ None) }
+    ensures range { IfOk result (λ limits. IfSome limits.part (λ n. (1 ≤ n) × (n ≤ 254))) }
+{
+    let part = part_of(matches)?;
+    let tries = tries_of(matches)?;
+    Ok(Limits { part, tries })
+}
+
+/// Copies of the words.
+fn copies(alloc: Global, words: &[&str]) -> Result<Words, AllocError>
+    ensures { IfOk result (λ copies. copies ≡ texts words.now) }
+{
+    let mut copies = Words::new(alloc);
+    for word in words {
+        copies.push(word)?;
+    }
+    Ok(copies)
+}
+
+/// Copies of all values of an option that may come several times.
+#[tactic(auto, using(crate::proofs::ArgumentLemmas::values_are))]
+fn copies_of(alloc: Global, matches: &ArgMatches<'_>, name: &str) -> Result<Words, AllocError>
+    ensures { IfOk result (λ copies. copies ≡ values_of name.now (rows_of (found_of matches.now))) }
+{
+    copies(alloc, matches.get_strs(name).unwrap_or(&[]))
+}
+
+// ---- where the records come from
+
+/// The tool with this name.
+fn tool_of(name: &str) -> Option<LiveTool>
+    ensures { result ≡ tool_of name.now }
+{
+    match name {
+        "ipmitool" => Some(LiveTool::Ipmitool),
+        "freeipmi" => Some(LiveTool::FreeIpmi),
+        _ => None,
+    }
+}
+
+/// The live controller of `TOOL:FOLDER`. None if it is malformed.
+fn live_of(alloc: Global, text: &str) -> Result<Option<Source>, AllocError>
+    ensures { IfOk result (λ live. live ≡ live_of text.now) }
+{
+    let Some((tool, folder)) = text.split_once(':') else {
+        return Ok(None);
+    };
+    if folder.is_empty() {
+        return Ok(None);
+    }
+    match tool_of(tool) {
+        Some(tool) => Ok(Some(Source::Live(tool, Word::new(alloc, folder)?))),
+        None => Ok(None),
+    }
+}
+
+/// How many of the images are standard input.
+fn standard_inputs(images: &[Word]) -> usize
+    ensures { result ≡ standard_inputs images.now }
+{
+    images
+        .iter()
+        .filter(|image| Word::as_str(image) == "-")
+        .count()
+}
+
+/// Where the records come from.
+fn source_of<'a>(alloc: Global, matches: &ArgMatches<'a>) -> Result<Source, UsageError<'a>>
+    ensures { let meant = source_of (values_of (codes "image") (rows_of (found_of matches.now)))
+        (first_of (codes "live") (rows_of (found_of matches.now))) in
+        MatchResult result (λ source. meant ≡ Some source) (λ e. (e ≡ UsageError.Memory) ⊎ (meant ≡ None)) }
+{
+    let images = copies_of(alloc, matches, "image")?;
+    let Some(text) = value(matches, "live") else {
+        if standard_inputs(images.as_slice()) > 1 {
+            return Err(UsageError::StandardInputTwice);
+        }
+        return Ok(Source::Images(images));
+    };
+    if !images.as_slice().is_empty() {
+        return Err(UsageError::ImageAndLive);
+    }
+    match live_of(alloc, text)? {
+        Some(live) => Ok(live),
+        None => Err(value_error("live", Some(text))),
+    }
+}
+
+// ---- what is to be done
+
+/// The command that has this name as its first word, to print help on it.
+fn topic_named(word: &str) -> Option<Topic>
+    ensures { result ≡ topic_named word.now }
+{
+    match word {
+        "sdr" => Some(Topic::Sdr),
+        "sensor" => Some(Topic::Sensor),
+        "sel" => Some(Topic::Sel),
+        "fru" => Some(Topic::Fru),
+        "capture" => Some(Topic::Capture),
+        "image" => Some(Topic::Image),
+        "help" => Some(Topic::General),
+        _ => None,
+    }
+}
+
+/// What `--help` prints beside these words.
+#[tactic(auto, using(crate::proofs::CommandLemmas::topics))]
+fn topic_of(words: &[&str]) -> Topic
+    ensures { result ≡ topic_of (texts words.now) }
+{
+    match words {
+        [] => Topic::General,
+        [word] => topic_named(word).unwrap_or(Topic::General),
+        [first, second, ..] => {
+            let word = if *first == "help" { second } else { first };
+            topic_named(word).unwrap_or(Topic::General)
+        }
+    }
+}
+
+/// What `help` prints, which is the first of these words. None if the word after it is no command.
+#[tactic(auto, using(crate::proofs::CommandLemmas::helps))]
+fn help_of(words: &[&str]) -> Option<Topic>
+    ensures { result ≡ help_of (texts words.now) }
+{
+    match words {
+        [] | [_] => Some(Topic::General),
+        [_, word, ..] => topic_named(word),
+    }
+}
+
+/// `sel get` and its id, which is a word or the value of `--id`.
+fn entry_of(alloc: Global, words: &[&str], id: Option<&str>) -> Result<Option<Task>, AllocError>
+    ensures value { IfOk result (λ task. task ≡ entry_of (texts words.now) (option_map (λ id. id.now) id.entry)) }
+    ensures range { IfOk result (λ task. IfSome task IsTask) }
+{
+    let Some(id) = id else {
+        return task_of(alloc, words);
+    };
+    if words.len() != 2 {
+        return Ok(None);
+    }
+    Ok(hex_id(id).map(Task::SelGet))
+}
+
+/// `sel elist` and how many entries.
+#[tactic(auto, using(crate::proofs::CommandLemmas::events))]
+fn events_of(words: &[&str]) -> Option<Task>
+    ensures value { result ≡ events_of (texts words.now) }
+    ensures range { IfSome result IsTask }
+{
+    match words {
+        [] | [_] => None,
+        [_, _] => Some(Task::SelList(Count::All)),
+        [_, _, count] => number(count, 0, u16::MAX).map(|n| Task::SelList(oldest(n))),
+        [_, _, end, count] => task_of_four("sel", "list", end, count),
+        _ => None,
+    }
+}
+
+/// The task of a command that prints records.
+fn task_of_row(
+    alloc: Global,
+    row: &CommandRow,
+    words: &[&str],
+    id: Option<&str>,
+) -> Result<Option<Task>, AllocError>
+    ensures value { IfOk result (λ task. task ≡
+        task_of_row (row_state row.now) (texts words.now) (option_map (λ id. id.now) id.entry)) }
+    ensures range { IfOk result (λ task. IfSome task IsTask) }
+{
+    let (own, verb, ..) = *row;
+    let is_whole = words.len() == own.len();
+    match verb {
+        Verb::Task => task_of(alloc, words),
+        Verb::GetEntry => entry_of(alloc, words, id),
+        Verb::DescribeEvents => Ok(events_of(words)),
+        Verb::DescribeSensors if is_whole => Ok(Some(Task::List(Kind::Sensors))),
+        Verb::ListDevices if is_whole => Ok(Some(Task::Fru(None))),
+        _ => Ok(None),
+    }
+}
+
+/// Prints what the task of a command says.
+fn printed_of<'a>(
+    alloc: Global,
+    row: &CommandRow,
+    words: &[&'a str],
+    matches: &ArgMatches<'a>,
+) -> Result<Action, UsageError<'a>>
+    ensures value { let meant = printed_of (start_of (rows_of (found_of matches.now)))
+        (task_of_row (row_state row.now) (texts words.now) (first_of (codes "id") (rows_of (found_of matches.now)))) in
+        MatchResult result (λ action. meant ≡ Some action) (λ e. (e ≡ UsageError.Memory) ⊎ (meant ≡ None)) }
+    ensures range { IfOk result IsAction }
+{
+    let from = start_of(matches)?;
+    let id = value(matches, "id");
+    let Some(task) = task_of_row(alloc, row, words, id)? else {
+        return Err(word_error(alloc, row, words, id)?);
+    };
+    if from.is_some() && !task.takes_from() {
+        return Err(UsageError::Misplaced("from", row.0));
+    }
+    Ok(Action::Print(task, from))
+}
+
+/// Prints the sensors with the names after the first two words.
+fn named_of<'a>(
+    alloc: Global,
+    row: &CommandRow,
+    words: &[&'a str],
+    matches: &ArgMatches<'a>,
+) -> Result<Action, UsageError<'a>>
+    ensures value { let meant = named_of (texts words.now) (start_of (rows_of (found_of matches.now))) in
+        MatchResult result (λ action. meant ≡ Some action) (λ e. (e ≡ UsageError.Memory) ⊎ (meant ≡ None)) }
+    ensures range { IfOk result IsAction }
+{
+    let from = start_of(matches)?;
+    let [_, _, _, ..] = words else {
+        return Err(UsageError::Missing(row.0, row.2));
+    };
+    Ok(Action::GetSensors(copies(alloc, &words[2..])?, from))
+}
+
+/// Saves a live controller.
+fn capture_of<'a>(
+    alloc: Global,
+    row: &CommandRow,
+    words: &[&'a str],
+    matches: &ArgMatches<'a>,
+) -> Result<Action, UsageError<'a>>
+    ensures value { let meant = capture_of (length words.now == 1) (rows_of (found_of matches.now)) in
+        MatchResult result (λ action. meant ≡ Some action) (λ e. (e ≡ UsageError.Memory) ⊎ (meant ≡ None)) }
+    ensures range { IfOk result IsAction }
+{
+    if words.len() != 1 {
+        return Err(word_error(alloc, row, words, None)?);
+    }
+    if !has_value(matches, "live") {
+        return Err(UsageError::NotLive);
+    }
+    if has_value(matches, "from") {
+        return Err(UsageError::Misplaced("from", row.0));
+    }
+    let output = value(matches, "output")
+        .map(|text| Word::new(alloc, text))
+        .transpose()?;
+    Ok(Action::Capture(output, is_given(matches, "quiet")))
+}
+
+/// Prints an image in its canonical spelling.
+fn rewrite_of<'a>(
+    alloc: Global,
+    row: &CommandRow,
+    words: &[&'a str],
+    matches: &ArgMatches<'a>,
+) -> Result<Action, UsageError<'a>>
+    ensures value { let meant = rewrite_of (length words.now == 2) (rows_of (found_of matches.now)) in
+        MatchResult result (λ action. meant ≡ Some action) (λ e. (e ≡ UsageError.Memory) ⊎ (meant ≡ None)) }
+    ensures range { IfOk result IsAction }
+{
+    if words.len() != 2 {
+        return Err(word_error(alloc, row, words, None)?);
+    }
+    if has_value(matches, "from") {
+        return Err(UsageError::Misplaced("from", row.0));
+    }
+    if value_count(matches, "image") > 1 {
+        return Err(UsageError::SeveralImages);
+    }
+    Ok(Action::Rewrite)
+}
+
+/// What a command does.
+fn action_of<'a>(
+    alloc: Global,
+    row: &CommandRow,
+    words: &[&'a str],
+    matches: &ArgMatches<'a>,
+) -> Result<Action, UsageError<'a>>
+    ensures value { let meant = action_of (row_state row.now) (texts words.now) (rows_of (found_of matches.now)) in
+        MatchResult result (λ action. meant ≡ Some action) (λ e. (e ≡ UsageError.Memory) ⊎ (meant ≡ None)) }
+    ensures range { IfOk result IsAction }
+{
+    match row.1 {
+        Verb::GetSensors => named_of(alloc, row, words, matches),
+        Verb::Capture => capture_of(alloc, row, words, matches),
+        Verb::Rewrite => rewrite_of(alloc, row, words, matches),
+        _ => printed_of(alloc, row, words, matches),
+    }
+}
+
+// ---- options
+
+/// The options with a value that go with some commands only.
+pub const VALUED: [&str; 5] = ["image", "label", "live", "id", "output"];
+
+/// The options without a value that go with some commands only.
+pub const FLAGS: [&str; 3] = ["strict", "json", "quiet"];
+
+/// Whether an option is among those of a command.
+#[tactic(auto, using(crate::proofs::CommandLemmas::has_option_is))]
+fn has_option(options: &[&str], name: &str) -> bool
+    ensures { result ≡ has_option (texts options.now) name.now }
+{
+    options.contains(&name)
+}
+
+/// The first of these options with a value that was given and is not among those of a command.
+fn among_values(
+    names: &'static [&'static str],
+    options: &[&str],
+    matches: &ArgMatches<'_>,
+) -> Option<&'static str>
+    ensures { option_map (λ name. name.now) result ≡
+        among_values (texts names.entry.now) (texts options.now) (rows_of (found_of matches.now)) }
+{
+    names
+        .iter()
+        .find(|name| has_value(matches, name) && !has_option(options, name))
+        .copied()
+}
+
+/// The first of these options without a value that was given and is not among those of a command.
+fn among_flags(
+    names: &'static [&'static str],
+    options: &[&str],
+    matches: &ArgMatches<'_>,
+) -> Option<&'static str>
+    ensures { option_map (λ name. name.now) result ≡
+        among_flags (texts names.entry.now) (texts options.now) (rows_of (found_of matches.now)) }
+{
+    names
+        .iter()
+        .find(|name| is_given(matches, name) && !has_option(options, name))
+        .copied()
+}
+
+/// The first option that was given and is not among those of a command.
+#[tactic(auto, unfolding(crate::specs::Request::misplaced))]
+fn misplaced(options: &[&str], matches: &ArgMatches<'_>) -> Option<&'static str>
+    ensures { option_map (λ name. name.now) result ≡ misplaced (texts options.now) (rows_of (found_of matches.now)) }
+{
+    let name = among_values(&VALUED, options, matches);
+    if name.is_some() {
+        return name;
+    }
+    among_flags(&FLAGS, options, matches)
+}
+
+/// How records are printed.
+fn format_of<'a>(
+    alloc: Global,
+    verb: Verb,
+    matches: &ArgMatches<'a>,
+) -> Result<Format, UsageError<'a>>
+    ensures { let meant = format_of verb (rows_of (found_of matches.now)) in
+        MatchResult result (λ format. meant ≡ Some format) (λ e. (e ≡ UsageError.Memory) ⊎ (meant ≡ None)) }
+{
+    if is_given(matches, "json") {
+        return Ok(Format::Json(copies_of(alloc, matches, "label")?));
+    }
+    if has_value(matches, "label") {
+        return Err(UsageError::LabelWithoutJson);
+    }
+    Ok(match verb {
+        Verb::DescribeEvents | Verb::DescribeSensors | Verb::GetSensors | Verb::ListDevices => {
+            Format::Descriptive
+        }
+        _ => Format::Plain,
+    })
+}
+
+// ---- the request
+
+/// A request that reads no records.
+fn short_request(alloc: Global, action: Action) -> Request
+    ensures { result ≡ short_request action }
+{
+    Request {
+        action,
+        source: Source::Images(Words::new(alloc)),
+        limits: Limits {
+            part: None,
+            tries: DEFAULT_TRIES,
+        },
+        format: Format::Plain,
+        strict: false,
+    }
+}
+
+/// The request of a command that reads records.
+fn request_of_row<'a>(
+    alloc: Global,
+    row: &CommandRow,
+    words: &[&'a str],
+    matches: &ArgMatches<'a>,
+) -> Result<Request, UsageError<'a>>
+    ensures value { let meant = request_of_row (row_state row.now) (texts words.now) (rows_of (found_of matches.now)) in
+        MatchResult result (λ request. meant ≡ Some request) (λ e. (e ≡ UsageError.Memory) ⊎ (meant ≡ None)) }
+    ensures range { IfOk result IsRequest }
+{
+    if let Some(name) = misplaced(row.3, matches) {
+        return Err(UsageError::Misplaced(name, row.0));
+    }
+    let action = action_of(alloc, row, words, matches)?;
+    let source = source_of(alloc, matches)?;
+    let limits = limits_of(matches)?;
+    let format = format_of(alloc, row.1, matches)?;
+    Ok(Request {
+        action,
+        source,
+        limits,
+        format,
+        strict: is_given(matches, "strict"),
+    })
+}
+
+/// The request for a help text. The first word is `help`.
+fn request_of_help<'a>(alloc: Global, words: &[&'a str]) -> Result<Request, UsageError<'a>>
+    ensures value { let meant = request_of_help (texts words.now) in
+        MatchResult result (λ request. meant ≡ Some request) (λ e. (e ≡ UsageError.Memory) ⊎ (meant ≡ None)) }
+    ensures range { IfOk result IsRequest }
+{
+    match help_of(words) {
+        Some(topic) => Ok(short_request(alloc, Action::Help(topic))),
+        None => Err(unknown_word(alloc, words.get(1..).unwrap_or(&[]))?),
+    }
+}
+
+/// The request of a command.
+fn request_of_command<'a>(
+    alloc: Global,
+    row: &CommandRow,
+    words: &[&'a str],
+    matches: &ArgMatches<'a>,
+) -> Result<Request, UsageError<'a>>
+    ensures value { let meant = request_of_command (row_state row.now) (texts words.now) (rows_of (found_of matches.now)) in
+        MatchResult result (λ request. meant ≡ Some request) (λ e. (e ≡ UsageError.Memory) ⊎ (meant ≡ None)) }
+    ensures range { IfOk result IsRequest }
+{
+    match row.1 {
+        Verb::Help => request_of_help(alloc, words),
+        _ => request_of_row(alloc, row, words, matches),
+    }
+}
+
+/// The request of these words and the options.
+#[tactic(auto, unfolding(crate::specs::Request::request_of_words))]
+fn request_of_words<'a>(
+    alloc: Global,
+    words: &[&'a str],
+    matches: &ArgMatches<'a>,
+) -> Result<Request, UsageError<'a>>
+    ensures value { let meant = request_of_words (texts words.now) (rows_of (found_of matches.now)) in
+        MatchResult result (λ request. meant ≡ Some request) (λ e. (e ≡ UsageError.Memory) ⊎ (meant ≡ None)) }
+    ensures range { IfOk result IsRequest }
+{
+    match row_of(words) {
+        Some(row) => request_of_command(alloc, row, words, matches),
+        None => Err(unknown_word(alloc, words)?),
+    }
+}
+
+/// The request of the options and words that `clap` found.
+#[tactic(auto, using(crate::proofs::ArgumentLemmas::values_are))]
+fn request_of_matches<'a>(
+    alloc: Global,
+    matches: &ArgMatches<'a>,
+) -> Result<Request, UsageError<'a>>
+    ensures value { let meant = request_of_rows (rows_of (found_of matches.now)) in
+        MatchResult result (λ request. meant ≡ Some request) (λ e. (e ≡ UsageError.Memory) ⊎ (meant ≡ None)) }
+    ensures range { IfOk result IsRequest }
+{
+    let words = matches.get_strs("words").unwrap_or(&[]);
+    if is_given(matches, "help") {
+        return Ok(short_request(alloc, Action::Help(topic_of(words))));
+    }
+    if is_given(matches, "version") {
+        return Ok(short_request(alloc, Action::Version));
+    }
+    request_of_words(alloc, words, matches)
+}
+
+/// What the words of a command line ask for. The first is the program's name. Each option that is given is used or refused,
+/// except beside help and the version. At Err a line has no request, or memory ran out.
+#[tactic(auto, unfolding(crate::specs::Request::request_of))]
+pub fn request_of<'a, S: AsStr>(alloc: Global, words: &'a [S]) -> Result<Request, UsageError<'a>>
+    ensures value { MatchResult result (λ request. request_of (map S.text words.entry.now) ≡ Some request)
+        (λ e. (e ≡ UsageError.Memory) ⊎ (request_of (map S.text words.entry.now) ≡ None)) }
+    ensures range { IfOk result IsRequest }
+{
+    match arguments(alloc, words) {
+        Ok(matches) => request_of_matches(alloc, &matches),
+        Err(error) => match error.kind() {
+            ErrorKind::OutOfMemory => Err(UsageError::Memory),
+            _ => Err(refused(alloc, &error, words)?),
+        },
+    }
+}
