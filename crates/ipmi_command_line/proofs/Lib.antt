@@ -1,3 +1,4 @@
 pub mod ArgumentLemmas
 pub mod CommandLemmas
+pub mod LawLemmas
 pub mod TableLemmas

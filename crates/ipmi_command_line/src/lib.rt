@@ -5,6 +5,7 @@ mod arguments;
 mod command;
 mod commands;
 mod error;
+pub mod laws;
 mod mistake;
 mod number;
 mod request;
