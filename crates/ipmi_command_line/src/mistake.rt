@@ -28,14 +28,15 @@ const CONNECTION: [&str; 20] = [
 
 // ---- options
 
-/// What `clap` says of an error: its first paragraph, and its tip after a semicolon.
-fn said_of(alloc: Global, error: &Error) -> Result<String, AllocError> {
+/// What `clap` says of an error: its first paragraph, and perhaps its tip after a semicolon.
+fn said_of(alloc: Global, error: &Error, has_tip: bool) -> Result<String, AllocError> {
     let text = format!(in alloc; "{error}")?;
     let mut parts = text.as_str().split("\n\n");
     let first = parts.next().unwrap_or("");
     let first = first.strip_prefix("error: ").unwrap_or(first);
     let mut said = String::from_str(alloc, first.trim_end())?;
-    if let Some(tip) = parts.next().and_then(|part| part.strip_prefix("  tip: ")) {
+    let tip = parts.next().and_then(|part| part.strip_prefix("  tip: "));
+    if let Some(tip) = tip.filter(|_| has_tip) {
         said.push_str("; ")?;
         said.push_str(tip)?;
     }
@@ -71,7 +72,10 @@ pub(crate) fn refused<'a, S: AsStr>(
     error: &Error,
     words: &'a [S],
 ) -> Result<UsageError<'a>, AllocError> {
-    Ok(UsageError::Line(said_of(alloc, error)?, hint_of_line(words)))
+    let hint = hint_of_line(words);
+    // a hint of our own is better than that of `clap`
+    let said = said_of(alloc, error, matches!(hint, Hint::None))?;
+    Ok(UsageError::Line(said, hint))
 }
 
 /// The digits of an id, as listings and messages print it.

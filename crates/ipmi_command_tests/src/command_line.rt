@@ -3,6 +3,7 @@ mod faults;
 pub(crate) mod lines;
 mod memory;
 mod options;
+mod requests;
 mod scopes;
 mod tasks;
 mod words;

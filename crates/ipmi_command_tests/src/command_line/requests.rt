@@ -1,0 +1,193 @@
+//! What command lines of `serdimko` ask for, and why others are refused.
+use crate::cases::parts;
+use ipmi_command_line::{
+    Action, Format, Request, Source, Task, UsageError, Word, Words, request_of,
+};
+use std::alloc::Global;
+use std::process::Abort;
+
+/// The words of a line after the program's name, split at commas.
+fn words_of(rt: &impl Abort, alloc: Global, line: &str) -> Words {
+    let mut words = Words::new(alloc);
+    words.push("serdimko").expect(rt, "memory");
+    for word in line.split(',').filter(|word| !word.is_empty()) {
+        words.push(word).expect(rt, "memory");
+    }
+    words
+}
+
+/// Words with spaces between them.
+fn spaced(rt: &impl Abort, alloc: Global, words: &[Word]) -> String {
+    let mut text = String::new(alloc);
+    for word in words {
+        text.push_str(" ").expect(rt, "memory");
+        text.push_str(word.as_str()).expect(rt, "memory");
+    }
+    text
+}
+
+fn task_text(rt: &impl Abort, alloc: Global, task: &Task) -> String {
+    match task {
+        Task::Get(name) => {
+            let name = name.as_str();
+            format!(in alloc; "Get({name})").expect(rt, "memory")
+        }
+        _ => format!(in alloc; "{task:?}").expect(rt, "memory"),
+    }
+}
+
+fn file_text(file: Option<&Word>) -> &str {
+    match file {
+        Some(file) => file.as_str(),
+        None => "-",
+    }
+}
+
+fn action_text(rt: &impl Abort, alloc: Global, action: &Action) -> String {
+    match action {
+        Action::Print(task, from) => {
+            let task = task_text(rt, alloc, task);
+            format!(in alloc; "{task} {from:?}").expect(rt, "memory")
+        }
+        Action::GetSensors(names, from) => {
+            let names = spaced(rt, alloc, names.as_slice());
+            format!(in alloc; "sensors{names} {from:?}").expect(rt, "memory")
+        }
+        Action::Capture(output, quiet) => {
+            let file = file_text(output.as_ref());
+            format!(in alloc; "capture {file} {quiet}").expect(rt, "memory")
+        }
+        Action::Rewrite => String::from_str(alloc, "rewrite").expect(rt, "memory"),
+        Action::Help(topic) => format!(in alloc; "help {topic:?}").expect(rt, "memory"),
+        Action::Version => String::from_str(alloc, "version").expect(rt, "memory"),
+    }
+}
+
+fn source_text(rt: &impl Abort, alloc: Global, source: &Source) -> String {
+    match source {
+        Source::Images(images) => {
+            let images = spaced(rt, alloc, images.as_slice());
+            format!(in alloc; "images{images}").expect(rt, "memory")
+        }
+        Source::Live(tool, folder) => {
+            let folder = folder.as_str();
+            format!(in alloc; "{tool:?} {folder}").expect(rt, "memory")
+        }
+    }
+}
+
+fn format_text(rt: &impl Abort, alloc: Global, form: &Format) -> String {
+    match form {
+        Format::Plain => String::from_str(alloc, "plain").expect(rt, "memory"),
+        Format::Descriptive => String::from_str(alloc, "words").expect(rt, "memory"),
+        Format::Json(labels) => {
+            let labels = spaced(rt, alloc, labels.as_slice());
+            format!(in alloc; "json{labels}").expect(rt, "memory")
+        }
+    }
+}
+
+/// A request: the action, the source, the limits, the format, and whether it is strict.
+fn request_text(rt: &impl Abort, alloc: Global, request: &Request) -> String {
+    let action = action_text(rt, alloc, &request.action);
+    let source = source_text(rt, alloc, &request.source);
+    let form = format_text(rt, alloc, &request.format);
+    let (part, tries, strict) = (request.limits.part, request.limits.tries, request.strict);
+    format!(in alloc; "{action}; {source}; {part:?} {tries}; {form}; {strict}").expect(rt, "memory")
+}
+
+fn answer_text(rt: &impl Abort, alloc: Global, answer: Result<Request, UsageError<'_>>) -> String {
+    match answer {
+        Ok(request) => {
+            let text = request_text(rt, alloc, &request);
+            drop(request);
+            text
+        }
+        Err(error) => {
+            let text = format!(in alloc; "{error}").expect(rt, "memory");
+            drop(error);
+            text
+        }
+    }
+}
+
+/// Asserts what a line asks for, or why it is refused.
+fn assert_request(rt: &impl Abort, alloc: Global, case: &str) {
+    let (line, wanted) = parts(rt, case);
+    let words = words_of(rt, alloc, line);
+    let got = answer_text(rt, alloc, request_of(alloc, words.as_slice()));
+    drop(words);
+    assert!(rt; got.as_str() == wanted, "{line}: got {got}");
+}
+
+/// `words|request`.
+const REQUESTS: &str = "|Hex None; images; None 5; plain; false
+sdr|List(Sensors) None; images; None 5; plain; false
+--,sdr,list|List(Sensors) None; images; None 5; plain; false
+sdr,list,--image,a,full,--from,00a0|List(Full) Some(160); images a; None 5; plain; false
+--image,a,sdr,get,CPU1 Temp,--image=-|Get(CPU1 Temp) None; images a -; None 5; plain; false
+sdr,get,--,--help|Get(--help) None; images; None 5; plain; false
+sensor|List(Sensors) None; images; None 5; words; false
+sensor,list,--part,8,--tries,0|List(Sensors) None; images; Some(8) 0; words; false
+sensor,get,A,B,--from,0002|sensors A B Some(2); images; None 5; words; false
+sel|Info(Sel) None; images; None 5; plain; false
+sel,list,last,20|SelList(Last(20)) None; images; None 5; plain; false
+sel,elist|SelList(All) None; images; None 5; words; false
+sel,elist,0x10|SelList(First(16)) None; images; None 5; words; false
+sel,elist,last,3|SelList(Last(3)) None; images; None 5; words; false
+sel,get,0x16|SelGet(22) None; images; None 5; plain; false
+sel,get,--id,0016|SelGet(22) None; images; None 5; plain; false
+--id=0x16,sel,get|SelGet(22) None; images; None 5; plain; false
+fru,print,254|Fru(Some(254)) None; images; None 5; plain; false
+fru,list,--strict,--strict|Fru(None) None; images; None 5; words; true
+--json,--label,a=1,--label,b=2,fru|Fru(None) None; images; None 5; json a=1 b=2; false
+sdr,info,--live,ipmitool:/tmp/x|Info(Sdr) None; Ipmitool /tmp/x; None 5; plain; false
+--live,freeipmi:x,capture,-o,file,--quiet|capture file true; FreeIpmi x; None 5; plain; false
+image,rewrite,--image,a|rewrite; images a; None 5; plain; false
+sdr,get,-h|help Sdr; images; None 5; plain; false
+--help,--version|help General; images; None 5; plain; false
+help,sel|help Sel; images; None 5; plain; false
+-V,sdr|version; images; None 5; plain; false";
+
+#[test]
+fn lines_ask_for_this(rt: HostRuntime) {
+    for case in REQUESTS.lines() {
+        assert_request(&rt, rt.alloc(), case);
+    }
+}
+
+/// `words|why they are refused`.
+const REFUSED: &str = "srd|unknown command 'srd': did you mean 'sdr'?
+foo|unknown command 'foo': use one of sdr sensor sel fru capture image help
+server.image|unknown command 'server.image': a file comes after --image
+sdr,lst|unknown word 'lst' after 'sdr': did you mean 'list'?
+sel,cl\u{7}ear|unknown word 'cl\\x07ear' after 'sel': use one of info list elist get
+sdr,list,ful|'ful' is not a kind: all, full, compact, event, generic, mclocator or fru: did you mean 'full'?
+sdr,get|'sdr get' needs a NAME
+sensor,get|'sensor get' needs a NAME
+sdr,get,CPU1,Temp|unexpected word 'Temp' with 'sdr get': quote a name that has spaces
+sdr,info,foo|unexpected word 'foo' with 'sdr info'
+sel,list,ten|'ten' is not a number from 0 to 65535, in decimal without leading zeros or as 0x and up to four hex digits
+sel,get,0016|'0016' is not an ID from 1 to 65534, in decimal without leading zeros or as 0x and up to four hex digits: in hex write 0x0016, or --id 0016
+sel,get|'sel get' needs an ID from 1 to 65534
+sel,get,1,--id,2|'sel get' takes an ID or --id, not both
+sdr,--id,2|--id does not go with 'sdr'
+sdr,list,--from,0000|--from '0000' is not four hex digits from 0001 to FFFE: leave it out to begin with the first record
+--part,0|--part '0' is not a number from 1 to 254, decimal without leading zeros
+sdr,info,--from,0001|--from does not go with 'sdr info'
+--image,-,--image,-|standard input is given twice
+--live,ipmitool:x,--image,a|--image does not go with a live controller
+capture|'capture' needs a live controller: see serdimko-live --help
+--image,a,--image,b,image,rewrite|'image rewrite' takes one image
+--label,a=1|--label goes only with --json
+--imge,a|unexpected argument '--imge' found; a similar argument exists: '--image'
+-P,secret|unexpected argument '-P' found: for a live machine put the password in IPMI_PASSWORD, and write serdimko-live -E ... -- COMMAND
+-H,host,sdr|unexpected argument '-H' found: for a live machine write serdimko-live -H ... -- COMMAND
+--part,1,--part,2|the argument '--part <part>' cannot be used multiple times";
+
+#[test]
+fn other_lines_are_refused(rt: HostRuntime) {
+    for case in REFUSED.lines() {
+        assert_request(&rt, rt.alloc(), case);
+    }
+}
