@@ -82,10 +82,11 @@ impl<W: Write> Sink for Written<W> {
 }
 
 impl<W: Write> Written<W> {
-    ghost use Rattle.ipmi_output.specs.Writer.{writer_of};
+    ghost use Rattle.ipmi_output.specs.Writer.{flush_faults, writer_of};
 
     /// A sink over the writer. The bytes that the writer already holds count as taken. There are no faults yet.
     pub fn new(writer: W) -> Written<W>
+        ensures writer { writer_of result ≡ writer }
         ensures taken { ⟦<Written<W> as Sink>⟧.taken result ≡ unwrap_or (W.contents writer) [] }
         ensures faults { ⟦<Written<W> as Sink>⟧.faults result ≡ 0 }
     {
@@ -103,6 +104,19 @@ impl<W: Write> Written<W> {
         ensures { result.now ≡ writer_of self.now }
     {
         &self.writer
+    }
+
+    /// Flushes the writer. A failure counts as a fault. The bytes taken do not change.
+    pub fn flush_writer(&mut self) -> Result<(), SinkFault>
+        ensures taken { ⟦<Written<W> as Sink>⟧.taken self.new ≡ ⟦<Written<W> as Sink>⟧.taken self.old }
+        ensures faults { ⟦<Written<W> as Sink>⟧.faults self.new ≡ ⟦<Written<W> as Sink>⟧.faults self.old + flush_faults result }
+    {
+        let flushed = self.writer.flush().or(Err(SinkFault));
+        if flushed.is_err() {
+            let before = Some(&self.history);
+            self.history = History::after(&Call(before, &[], Err(SinkFault)));
+        }
+        flushed
     }
 
     /// Returns the writer. If contracts see the contents of a writer, as for a `Vec<u8>`, these are the bytes taken.
