@@ -1,11 +1,14 @@
 -- An exchange over the streams of one unit. The streams are taken out and then put back.
-use Rattle.std.proofs.Common.{◌≡◌, ◌≢◌, ◌==◌, inr, sym, true≢false, IsErr, if◌then◌else◌, ℕ, Bool, true, false, Option, None, Some, Result, Ok, Err, OnOk, List, refl, subst, ap, ◌∙◌}
-use Rattle.std.specs.Io.KnownBytes.{Appends, Consumes}
+use Rattle.std.proofs.Common.{◌≡◌, ◌≢◌, ◌==◌, inr, sym, true≢false, IsErr, if◌then◌else◌, ℕ, Bool, true, false, Option, None, Some, Result, Ok, Err, OnOk, List, refl, subst, ap, ◌∙◌, [], unwrap_or}
+use Rattle.std.specs.Io.KnownBytes.{Consumes}
+use Rattle.std.specs.declared.io.traits.Write.{Ghosts}
+use Rattle.ipmi_output.specs.Writer.{taken_of, writer_of}
+use Rattle.ipmi_output.specs.declared.sink.Written.{Written}
 use Rattle.ipmi_raw.specs.declared.peer.Lost.{Lost}
 use Rattle.ipmi_raw.specs.declared.piped.Units.{Units}
 use Rattle.ipmi_raw.specs.declared.streams.Streams.{Streams}
 use Rattle.ipmi_raw.specs.declared.tool.Tool.{Tool}
-use Rattle.ipmi_raw.specs.Piped.{AreReady, IsFirst, IsOverUnit, Known, Openings, streams_of, with_streams}
+use Rattle.ipmi_raw.specs.Piped.{AreReady, IsExchange, IsFirst, IsOpened, IsOverUnit, Known, Openings, streams_of, with_streams}
 
 -- the streams put in last are there
 last_put : {R W : Type 0} (unit : ℕ) (one other : Option (Streams R W)) (units : Units R W)
@@ -29,50 +32,60 @@ on_err P (Ok done) is = absurd (true≢false (sym is))
 on_err P (Err lost) is = tt
 
 -- no streams were open, so some were opened
-module _ {O R W : Type 0} (opens : Openings O R W) (remaining : Known R) (contents : Known W) (tool : Tool) (unit : ℕ)
-    (first : List ℕ) (opener opener' : O) (opened after : Streams R W)
-    (opens_them : opens opener opener' unit (Some (opened.replies, opened.requests))) where
-  pub ready_after : (was_open : Option (Streams R W)) → ((s : Streams R W) → was_open ≢ Some s)
-      → IsFirst remaining contents tool (Ok tt) first opened after
-      → AreReady opens remaining contents tool unit was_open (Ok after) first opener opener'
+module _ {O R W : Type 0} {write : Ghosts W} (opens : Openings O R W) (remaining : Known R) (tool : Tool) (unit : ℕ)
+    (first : List ℕ) (opener opener' : O) (opened after : Streams R (Written W write))
+    (is_opened : IsOpened opens unit opener opener' opened) where
+  pub ready_after : (was_open : Option (Streams R (Written W write))) → ((s : Streams R (Written W write)) → was_open ≢ Some s)
+      → IsFirst remaining tool (Ok tt) first opened after
+      → AreReady opens remaining tool unit was_open (Ok after) first opener opener'
   ready_after (Some s) none over = absurd (none s refl)
-  ready_after None none over = (opened, opens_them, over)
+  ready_after None none over = (opened, is_opened, over)
 
-  pub lost_after : (was_open : Option (Streams R W)) (lost : Lost) (result : Result (Streams R W) Lost)
-      → ((s : Streams R W) → was_open ≢ Some s) → IsErr result → IsFirst remaining contents tool (Err lost) first opened after
-      → AreReady opens remaining contents tool unit was_open result first opener opener'
+  pub lost_after : (was_open : Option (Streams R (Written W write))) (lost : Lost) (result : Result (Streams R (Written W write)) Lost)
+      → ((s : Streams R (Written W write)) → was_open ≢ Some s) → IsErr result → IsFirst remaining tool (Err lost) first opened after
+      → AreReady opens remaining tool unit was_open result first opener opener'
   lost_after (Some s) lost result none is over = absurd (none s refl)
   lost_after None lost (Ok streams) none is over = absurd (true≢false (sym is))
-  lost_after None lost (Err same) none is over = inr (opened, after, opens_them, over)
+  lost_after None lost (Err same) none is over = inr (opened, after, is_opened, over)
 
-module _ {O R W : Type 0} (opens : Openings O R W) (remaining : Known R) (contents : Known W) (tool : Tool) (unit : ℕ)
-    (request : List ℕ) (opener opener' : O) (old middle : Units R W) (was_open : Option (Streams R W))
+-- a writer that was opened is as it was
+pub opened_so : {O R W : Type 0} {write : Ghosts W} (opens : Openings O R W) (unit : ℕ) (opener opener' : O) (replies : R) (writer : W)
+    (requests : Written W write) → opens opener opener' unit (Some (replies, writer)) → writer_of requests ≡ writer
+    → taken_of requests ≡ unwrap_or (write.contents writer) []
+    → IsOpened opens unit opener opener' (record { replies = replies; requests = requests })
+opened_so {write = write} opens unit opener opener' replies writer requests are same none = record {
+  are_opened = subst (λ w. opens opener opener' unit (Some (replies, w))) (sym same) are;
+  none_sent = none ∙ ap (λ w. unwrap_or (write.contents w) []) (sym same);
+}
+
+module _ {O R W : Type 0} {write : Ghosts W} (opens : Openings O R W) (remaining : Known R) (tool : Tool) (unit : ℕ)
+    (request : List ℕ) (opener opener' : O) (old middle : Units R (Written W write)) (was_open : Option (Streams R (Written W write)))
     (was : was_open ≡ streams_of unit old) (out : middle ≡ with_streams unit None old) where
   -- the request was exchanged over the streams
-  pub over_unit : (came : Result (Unit {0}) Lost) (first reply : List ℕ) (new : Units R W) (before after : Streams R W)
-      → AreReady opens remaining contents tool unit was_open (Ok before) first opener opener'
-      → OnOk came (Appends (contents before.requests) (contents after.requests) request)
-      → Consumes (remaining before.replies) (remaining after.replies) reply → new ≡ with_streams unit (Some after) middle
-      → IsOverUnit opens remaining contents tool unit request came reply opener opener' old new
-  over_unit came first reply new before after ready sent read put = record {
+  pub over_unit : (came : Result (Unit {0}) Lost) (first reply : List ℕ) (new : Units R (Written W write))
+      (before after : Streams R (Written W write))
+      → AreReady opens remaining tool unit was_open (Ok before) first opener opener'
+      → IsExchange remaining request came reply before after → new ≡ with_streams unit (Some after) middle
+      → IsOverUnit opens remaining tool unit request came reply opener opener' old new
+  over_unit came first reply new before after ready over put = record {
     now = Some after;
     others = put ∙ ap (λ u. with_streams unit (Some after) u) out ∙ last_put unit None (Some after) old;
     ready = Ok before;
     first = first;
-    are_ready = subst (λ o. AreReady opens remaining contents tool unit o (Ok before) first opener opener') was ready;
-    over = (after, refl, record { sent = sent; read = read });
+    are_ready = subst (λ o. AreReady opens remaining tool unit o (Ok before) first opener opener') was ready;
+    over = (after, refl, over);
   }
 
   -- there are no streams
   pub over_none : (lost : Lost) (came : Result (Unit {0}) Lost) (reply : List ℕ) → IsErr came
-      → AreReady opens remaining contents tool unit was_open (Err lost) reply opener opener'
-      → IsOverUnit opens remaining contents tool unit request came reply opener opener' old middle
+      → AreReady opens remaining tool unit was_open (Err lost) reply opener opener'
+      → IsOverUnit opens remaining tool unit request came reply opener opener' old middle
   over_none lost (Ok done) reply is ready = absurd (true≢false (sym is))
   over_none lost (Err same) reply is ready = record {
     now = None;
     others = out;
     ready = Err lost;
     first = reply;
-    are_ready = subst (λ o. AreReady opens remaining contents tool unit o (Err lost) reply opener opener') was ready;
+    are_ready = subst (λ o. AreReady opens remaining tool unit o (Err lost) reply opener opener') was ready;
     over = (refl, refl, refl);
   }

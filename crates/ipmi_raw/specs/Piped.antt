@@ -1,11 +1,15 @@
 -- The streams for the requests to a logical unit.
-use Rattle.std.specs.Prelude.{ℕ, ◌≡◌, ◌==◌, ◌⊎◌, if◌then◌else◌, codes, Option, None, Some, MatchResult, Result, Ok, Err, OnOk, List, []}
-use Rattle.std.specs.Io.KnownBytes.{Appends, Consumes}
+use Rattle.std.specs.Prelude.{ℕ, ◌≡◌, ◌==◌, ◌⊎◌, if◌then◌else◌, codes, Option, None, Some, MatchResult, Result, Ok, Err, List, [], unwrap_or}
+use Rattle.std.specs.Io.KnownBytes.{Consumes}
+use Rattle.std.specs.declared.io.traits.Write.{Ghosts}
+use Rattle.ipmi_output.specs.Writer.{taken_of, writer_of}
+use Rattle.ipmi_output.specs.declared.sink.Written.{Written}
 use Rattle.ipmi_raw.specs.declared.peer.Lost.{Lost}
 use Rattle.ipmi_raw.specs.declared.piped.Units.{Units}
 use Rattle.ipmi_raw.specs.declared.streams.Streams.{Streams}
 use Rattle.ipmi_raw.specs.declared.tool.Tool.{Tool}
 use Rattle.ipmi_raw.specs.declared.tool.Tool.TheVariants.{Ipmitool, FreeIpmi}
+use Rattle.ipmi_raw.specs.Streams.{HandsOver}
 
 -- the unit whose streams carry a request: each ipmitool sends all its requests to one unit, whereas a request to `ipmi-raw` names
 -- its unit
@@ -25,14 +29,14 @@ with_streams unit streams units =
     if unit == 0 then record units { zero = streams } else if unit == 1 then record units { one = streams }
     else if unit == 2 then record units { two = streams } else if unit == 3 then record units { three = streams } else units
 
--- the type of `remaining` and `contents`: the bytes still to be read from a stream, or written to it, if they are known
+-- the type of `remaining`: the bytes still to be read from a stream, if they are known
 abbrev pub Known : Type 0 → Type 0
 Known S = S → Option (List ℕ)
 
--- If a reply came, the request was written. The reply consists of the bytes read.
-pub record IsExchange {R W : Type 0} (remaining : Known R) (contents : Known W) (request : List ℕ) (came : Result (Unit {0}) Lost)
-    (reply : List ℕ) (old new : Streams R W) : Type 0 where
-  pub sent : OnOk came (Appends (contents old.requests) (contents new.requests) request)
+-- The tool is handed the request, as `HandsOver` says, and nothing else. The reply consists of the bytes read.
+pub record IsExchange {R W : Type 0} {write : Ghosts W} (remaining : Known R) (request : List ℕ) (came : Result (Unit {0}) Lost)
+    (reply : List ℕ) (old new : Streams R (Written W write)) : Type 0 where
+  pub sent : HandsOver came request (taken_of old.requests) (taken_of new.requests)
   pub read : Consumes (remaining old.replies) (remaining new.replies) reply
 
 -- ---- streams that are opened
@@ -41,39 +45,46 @@ pub record IsExchange {R W : Type 0} (remaining : Known R) (contents : Known W) 
 abbrev pub Openings : Type 0 → Type 0 → Type 0 → Type 1
 Openings O R W = O → O → ℕ → Option (R × W) → Type 0
 
+-- The streams of a unit just as they were opened. The tool was handed nothing yet: its input has taken only what the writer held
+-- when it was opened.
+pub record IsOpened {O R W : Type 0} {write : Ghosts W} (opens : Openings O R W) (unit : ℕ) (old new : O)
+    (opened : Streams R (Written W write)) : Type 0 where
+  pub are_opened : opens old new unit (Some (opened.replies, writer_of opened.requests))
+  pub none_sent : taken_of opened.requests ≡ unwrap_or (write.contents (writer_of opened.requests)) []
+
 -- ipmitool is first sent a request that makes it open its session: Get Device ID (IPMI v2.0, section 20.1)
-abbrev pub IsFirst : {R W : Type 0} → Known R → Known W → Tool → Result (Unit {0}) Lost → List ℕ → Streams R W → Streams R W → Type 0
-IsFirst remaining contents Ipmitool came reply old new =
-    IsExchange remaining contents (codes "raw 0x06 0x01\necho .\n") came reply old new
-IsFirst remaining contents FreeIpmi came reply old new = (came ≡ Ok tt) × (reply ≡ []) × (new ≡ old)
+abbrev pub IsFirst : {R W : Type 0} {write : Ghosts W} → Known R → Tool → Result (Unit {0}) Lost → List ℕ
+    → Streams R (Written W write) → Streams R (Written W write) → Type 0
+IsFirst remaining Ipmitool came reply old new = IsExchange remaining (codes "raw 0x06 0x01\necho .\n") came reply old new
+IsFirst remaining FreeIpmi came reply old new = (came ≡ Ok tt) × (reply ≡ []) × (new ≡ old)
 
 -- the streams opened for a unit, after the first request over them; or the opening failed, or that request lost the connection
-abbrev pub AreOpened : {O R W : Type 0} → Openings O R W → Known R → Known W → Tool → ℕ → Result (Streams R W) Lost → List ℕ
-    → O → O → Type 0
-AreOpened {R = R} {W = W} opens remaining contents tool unit (Ok streams) reply old new =
-    (opened : Streams R W) × opens old new unit (Some (opened.replies, opened.requests))
-    × IsFirst remaining contents tool (Ok tt) reply opened streams
-AreOpened {R = R} {W = W} opens remaining contents tool unit (Err lost) reply old new =
+abbrev pub AreOpened : {O R W : Type 0} {write : Ghosts W} → Openings O R W → Known R → Tool → ℕ
+    → Result (Streams R (Written W write)) Lost → List ℕ → O → O → Type 0
+AreOpened {R = R} {W = W} {write = write} opens remaining tool unit (Ok streams) reply old new =
+    (opened : Streams R (Written W write)) × IsOpened opens unit old new opened
+    × IsFirst remaining tool (Ok tt) reply opened streams
+AreOpened {R = R} {W = W} {write = write} opens remaining tool unit (Err lost) reply old new =
     (opens old new unit None × (reply ≡ []))
-    ⊎ ((opened : Streams R W) × (after : Streams R W) × opens old new unit (Some (opened.replies, opened.requests))
-    × IsFirst remaining contents tool (Err lost) reply opened after)
+    ⊎ ((opened : Streams R (Written W write)) × (after : Streams R (Written W write)) × IsOpened opens unit old new opened
+    × IsFirst remaining tool (Err lost) reply opened after)
 
 -- the streams for a request: those of the unit that are open; if there are none, some are opened
-abbrev pub AreReady : {O R W : Type 0} → Openings O R W → Known R → Known W → Tool → ℕ → Option (Streams R W)
-    → Result (Streams R W) Lost → List ℕ → O → O → Type 0
-AreReady opens remaining contents tool unit (Some streams) result reply old new = (result ≡ Ok streams) × (new ≡ old)
-AreReady opens remaining contents tool unit None result reply old new =
-    AreOpened opens remaining contents tool unit result reply old new
+abbrev pub AreReady : {O R W : Type 0} {write : Ghosts W} → Openings O R W → Known R → Tool → ℕ
+    → Option (Streams R (Written W write)) → Result (Streams R (Written W write)) Lost → List ℕ → O → O → Type 0
+AreReady opens remaining tool unit (Some streams) result reply old new = (result ≡ Ok streams) × (new ≡ old)
+AreReady opens remaining tool unit None result reply old new = AreOpened opens remaining tool unit result reply old new
 
 -- An exchange over the streams of this unit, which are open afterwards. If there are none to be had, the connection is lost, and the
--- reply is what came when they were opened. The streams of other units are unchanged.
-pub record IsOverUnit {O R W : Type 0} (opens : Openings O R W) (remaining : Known R) (contents : Known W) (tool : Tool) (unit : ℕ)
-    (request : List ℕ) (came : Result (Unit {0}) Lost) (reply : List ℕ) (opener opener' : O) (old new : Units R W) : Type 0 where
-  pub now : Option (Streams R W)
+-- reply is what came when they were opened. The streams of other units are unchanged, so their tools are handed nothing.
+pub record IsOverUnit {O R W : Type 0} {write : Ghosts W} (opens : Openings O R W) (remaining : Known R) (tool : Tool) (unit : ℕ)
+    (request : List ℕ) (came : Result (Unit {0}) Lost) (reply : List ℕ) (opener opener' : O)
+    (old new : Units R (Written W write)) : Type 0 where
+  pub now : Option (Streams R (Written W write))
   pub others : new ≡ with_streams unit now old
-  pub ready : Result (Streams R W) Lost
+  pub ready : Result (Streams R (Written W write)) Lost
   pub first : List ℕ
-  pub are_ready : AreReady opens remaining contents tool unit (streams_of unit old) ready first opener opener'
+  pub are_ready : AreReady opens remaining tool unit (streams_of unit old) ready first opener opener'
   pub over : MatchResult ready
-      (λ before. (after : Streams R W) × (now ≡ Some after) × IsExchange remaining contents request came reply before after)
+      (λ before. (after : Streams R (Written W write)) × (now ≡ Some after) × IsExchange remaining request came reply before after)
       (λ lost. (now ≡ None) × (came ≡ Err lost) × (reply ≡ first))

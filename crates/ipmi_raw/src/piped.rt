@@ -11,6 +11,7 @@ ghost use Rattle.ipmi_raw.specs.declared.request.Request.{Request};
 use crate::peer::{Lost, Peer, ReplyText};
 use crate::streams::Streams;
 use crate::tool::Tool;
+use ipmi_output::Written;
 use std::io::{self, Read, Write};
 use std::mem;
 
@@ -75,7 +76,7 @@ impl<R: Drop, W: Drop> Units<R, W> {
 pub struct Piped<O: Open> {
     tool: Tool,
     opener: O,
-    units: Units<O::Replies, O::Requests>,
+    units: Units<O::Replies, Written<O::Requests>>,
 }
 
 impl<O: Open> Piped<O> {
@@ -108,12 +109,12 @@ fn unit_of(tool: Tool, lun: u8) -> u8
 
 /// Sends ipmitool its first request.
 fn begin<R: Read, W: Write>(
-    streams: &mut Streams<R, W>,
+    streams: &mut Streams<R, Written<W>>,
     tool: Tool,
     reply: &mut ReplyText,
 ) -> Result<(), Lost>
     requires { reply.old.items ≡ [] }
-    ensures over { IsFirst R.remaining W.contents tool result reply.new.items streams.old streams.new }
+    ensures over { IsFirst R.remaining tool result reply.new.items streams.old streams.new }
     ensures first { IsNotEndedWithin tool reply.new.items }
 {
     match tool {
@@ -125,14 +126,14 @@ fn begin<R: Read, W: Write>(
 /// The streams of the tool that sends requests to the unit. Opens them if they are not open. Then `reply` receives what
 /// ipmitool prints when it opens its session.
 fn opened<O: Open>(
-    streams: Option<Streams<O::Replies, O::Requests>>,
+    streams: Option<Streams<O::Replies, Written<O::Requests>>>,
     opener: &mut O,
     tool: Tool,
     unit: u8,
     reply: &mut ReplyText,
-) -> Result<Streams<O::Replies, O::Requests>, Lost>
+) -> Result<Streams<O::Replies, Written<O::Requests>>, Lost>
     requires { reply.old.items ≡ [] }
-    ensures ready { AreReady O.opens O.Replies.remaining O.Requests.contents tool unit streams result reply.new.items
+    ensures ready { AreReady O.opens O.Replies.remaining tool unit streams result reply.new.items
         opener.old opener.new }
     ensures first { IsNotEndedWithin tool reply.new.items }
 {
@@ -142,6 +143,7 @@ fn opened<O: Open>(
     let Ok((replies, requests)) = opener.open(unit) else {
         return Err(Lost);
     };
+    let requests = Written::new(requests);
     let mut streams = Streams { replies, requests };
     begin(&mut streams, tool, reply)?;
     Ok(streams)
@@ -153,7 +155,7 @@ impl<O: Open> Peer for Piped<O> {
     ghost tool = { λ piped. piped.tool };
 
     ghost brings = { λ old new lun request result reply. OnOk result (IsEnded old.tool reply) × IsNotEndedWithin old.tool reply
-        × (unit_of old.tool lun < 4 → IsOverUnit O.opens O.Replies.remaining O.Requests.contents old.tool (unit_of old.tool lun)
+        × (unit_of old.tool lun < 4 → IsOverUnit O.opens O.Replies.remaining old.tool (unit_of old.tool lun)
         request result reply old.opener new.opener old.units new.units)
         × (4 ≤ unit_of old.tool lun → IsErr result × (reply ≡ []) × (new ≡ old)) };
 

@@ -1,10 +1,12 @@
 //! The two streams of a tool: its input for requests and its output with replies.
 ghost use Rattle.std.specs.Prelude.{◌≡◌, [], ◌∷◌, MatchBool, MatchOption, OnOk};
-ghost use Rattle.std.specs.Io.KnownBytes.{Appends, Consumes};
-ghost use Rattle.ipmi_raw.specs.Streams.{IsEnded, IsNotEndedWithin};
+ghost use Rattle.std.specs.Io.KnownBytes.{Consumes};
+ghost use Rattle.ipmi_output.specs.Writer.{taken_of};
+ghost use Rattle.ipmi_raw.specs.Streams.{HandsOver, IsEnded, IsNotEndedWithin};
 
 use crate::peer::{Lost, REPLY_ROOM, ReplyText};
 use crate::tool::Tool;
+use ipmi_output::{Written, write_all};
 use std::io::{ErrorKind, Read, Write};
 
 /// ipmitool's output for the end mark of a reply.
@@ -57,32 +59,45 @@ fn read_reply<R: Read>(tool: Tool, reader: &mut R, reply: &mut ReplyText) -> Res
     Err(Lost)
 }
 
+/// Hands the text of a request to the tool's input.
+fn send<W: Write>(requests: &mut Written<W>, request: &[u8]) -> Result<(), Lost>
+    ensures { HandsOver result request.now (taken_of requests.old) (taken_of requests.new) }
+{
+    match write_all(requests, request) {
+        Ok(()) => requests.flush_writer().or(Err(Lost)),
+        Err(_) => Err(Lost),
+    }
+}
+
 /// The two streams of a tool.
 #[derive(Drop)]
 pub struct Streams<R, W> {
     /// The tool's output. It is read byte by byte.
     pub replies: R,
-    /// The tool's input.
+    /// The tool's input, a `Written`.
     pub requests: W,
 }
 
-impl<R: Read, W: Write> Streams<R, W> {
-    /// Sends the text of a request, and stores the tool's output in `reply`, up to the end of a reply. The connection
-    /// is lost if the tool does not accept the request, if its output ends, or if the output does not fit into
+impl<R: Read, W: Write> Streams<R, Written<W>> {
+    /// Hands the text of a request to the tool, and stores the tool's output in `reply`, up to the end of a reply. The
+    /// connection is lost if the tool does not accept the request, if its output ends, or if the output does not fit into
     /// `reply`. A tool that does not accept a request may have printed the reason.
+    ///
+    /// The tool is handed nothing else. If the connection is lost, it is handed a first part of the request, perhaps
+    /// all or none.
     pub fn exchange(
         &mut self,
         tool: Tool,
         request: &[u8],
         reply: &mut ReplyText,
     ) -> Result<(), Lost>
-        ensures sent { OnOk result (Appends (W.contents self.old.requests) (W.contents self.new.requests) request.now) }
+        ensures sent { HandsOver result request.now (taken_of self.old.requests) (taken_of self.new.requests) }
         ensures read { Consumes (R.remaining self.old.replies) (R.remaining self.new.replies) reply.new.items }
         ensures ended { OnOk result (IsEnded tool reply.new.items) }
         ensures first { IsNotEndedWithin tool reply.new.items }
     {
-        let is_sent = self.requests.write_all(request).is_ok() && self.requests.flush().is_ok();
+        let sent = send(&mut self.requests, request);
         read_reply(tool, &mut self.replies, reply)?;
-        if is_sent { Ok(()) } else { Err(Lost) }
+        sent
     }
 }
