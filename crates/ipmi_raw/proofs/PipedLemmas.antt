@@ -27,10 +27,6 @@ last_put {R} {W} unit one other units = of (unit == 0) (unit == 1) (unit == 2) (
     of false false false true = refl
     of false false false false = refl
 
-pub on_err : (P : Type 0) (came : Result (Unit {0}) Lost) → IsErr came → OnOk came P
-on_err P (Ok done) is = absurd (true≢false (sym is))
-on_err P (Err lost) is = tt
-
 -- no streams were open, so some were opened
 module _ {O R W : Type 0} {write : Ghosts W} (opens : Openings O R W) (remaining : Known R) (tool : Tool) (unit : ℕ)
     (first : List ℕ) (opener opener' : O) (opened after : Streams R (Written W write))
@@ -41,12 +37,11 @@ module _ {O R W : Type 0} {write : Ghosts W} (opens : Openings O R W) (remaining
   ready_after (Some s) none over = absurd (none s refl)
   ready_after None none over = (opened, is_opened, over)
 
-  pub lost_after : (was_open : Option (Streams R (Written W write))) (lost : Lost) (result : Result (Streams R (Written W write)) Lost)
-      → ((s : Streams R (Written W write)) → was_open ≢ Some s) → IsErr result → IsFirst remaining tool (Err lost) first opened after
-      → AreReady opens remaining tool unit was_open result first opener opener'
-  lost_after (Some s) lost result none is over = absurd (none s refl)
-  lost_after None lost (Ok streams) none is over = absurd (true≢false (sym is))
-  lost_after None lost (Err same) none is over = inr (opened, after, is_opened, over)
+  pub lost_after : (was_open : Option (Streams R (Written W write))) (lost : Lost)
+      → ((s : Streams R (Written W write)) → was_open ≢ Some s) → IsFirst remaining tool (Err lost) first opened after
+      → AreReady opens remaining tool unit was_open (Err (Some after)) first opener opener'
+  lost_after (Some s) lost none over = absurd (none s refl)
+  lost_after None lost none over = (opened, is_opened, (lost, over))
 
 -- a writer that was opened is as it was
 pub opened_so : {O R W : Type 0} {write : Ghosts W} (opens : Openings O R W) (unit : ℕ) (opener opener' : O) (replies : R) (writer : W)
@@ -76,16 +71,16 @@ module _ {O R W : Type 0} {write : Ghosts W} (opens : Openings O R W) (remaining
     over = (after, refl, over);
   }
 
-  -- there are no streams
-  pub over_none : (lost : Lost) (came : Result (Unit {0}) Lost) (reply : List ℕ) → IsErr came
-      → AreReady opens remaining tool unit was_open (Err lost) reply opener opener'
-      → IsOverUnit opens remaining tool unit request came reply opener opener' old middle
-  over_none lost (Ok done) reply is ready = absurd (true≢false (sym is))
-  over_none lost (Err same) reply is ready = record {
-    now = None;
-    others = out;
+  -- the connection was lost when the streams were opened
+  pub over_none : (lost : Option (Streams R (Written W write))) (came : Result (Unit {0}) Lost) (reply : List ℕ)
+      (new : Units R (Written W write)) → IsErr came
+      → AreReady opens remaining tool unit was_open (Err lost) reply opener opener' → new ≡ with_streams unit lost middle
+      → IsOverUnit opens remaining tool unit request came reply opener opener' old new
+  over_none lost came reply new is ready put = record {
+    now = lost;
+    others = put ∙ ap (λ u. with_streams unit lost u) out ∙ last_put unit None lost old;
     ready = Err lost;
     first = reply;
     are_ready = subst (λ o. AreReady opens remaining tool unit o (Err lost) reply opener opener') was ready;
-    over = (refl, refl, refl);
+    over = (refl, is, refl);
   }

@@ -1,5 +1,5 @@
 -- The streams for the requests to a logical unit.
-use Rattle.std.specs.Prelude.{ℕ, ◌≡◌, ◌==◌, ◌⊎◌, if◌then◌else◌, codes, Option, None, Some, MatchResult, Result, Ok, Err, List, [], unwrap_or}
+use Rattle.std.specs.Prelude.{ℕ, ◌≡◌, ◌==◌, ◌⊎◌, if◌then◌else◌, codes, Option, None, Some, MatchResult, Result, Ok, Err, IsErr, List, [], unwrap_or}
 use Rattle.std.specs.Io.KnownBytes.{Consumes}
 use Rattle.std.specs.declared.io.traits.Write.{Ghosts}
 use Rattle.ipmi_output.specs.Writer.{taken_of, writer_of}
@@ -58,33 +58,38 @@ abbrev pub IsFirst : {R W : Type 0} {write : Ghosts W} → Known R → Tool → 
 IsFirst remaining Ipmitool came reply old new = IsExchange remaining (codes "raw 0x06 0x01\necho .\n") came reply old new
 IsFirst remaining FreeIpmi came reply old new = (came ≡ Ok tt) × (reply ≡ []) × (new ≡ old)
 
--- the streams opened for a unit, after the first request over them; or the opening failed, or that request lost the connection
-abbrev pub AreOpened : {O R W : Type 0} {write : Ghosts W} → Openings O R W → Known R → Tool → ℕ
-    → Result (Streams R (Written W write)) Lost → List ℕ → O → O → Type 0
+-- the streams for a request, or the connection is lost: then those that lost it, or none if the opening failed
+abbrev pub Ready : Type 0 → Type 0
+Ready S = Result S (Option S)
+
+-- the streams opened for a unit, after the first request over them
+abbrev pub AreOpened : {O R W : Type 0} {write : Ghosts W} → Openings O R W → Known R → Tool → ℕ → Ready (Streams R (Written W write))
+    → List ℕ → O → O → Type 0
 AreOpened {R = R} {W = W} {write = write} opens remaining tool unit (Ok streams) reply old new =
     (opened : Streams R (Written W write)) × IsOpened opens unit old new opened
     × IsFirst remaining tool (Ok tt) reply opened streams
-AreOpened {R = R} {W = W} {write = write} opens remaining tool unit (Err lost) reply old new =
-    (opens old new unit None × (reply ≡ []))
-    ⊎ ((opened : Streams R (Written W write)) × (after : Streams R (Written W write)) × IsOpened opens unit old new opened
-    × IsFirst remaining tool (Err lost) reply opened after)
+AreOpened {R = R} {W = W} {write = write} opens remaining tool unit (Err (Some streams)) reply old new =
+    (opened : Streams R (Written W write)) × IsOpened opens unit old new opened
+    × ((lost : Lost) × IsFirst remaining tool (Err lost) reply opened streams)
+AreOpened opens remaining tool unit (Err None) reply old new = opens old new unit None × (reply ≡ [])
 
 -- the streams for a request: those of the unit that are open; if there are none, some are opened
 abbrev pub AreReady : {O R W : Type 0} {write : Ghosts W} → Openings O R W → Known R → Tool → ℕ
-    → Option (Streams R (Written W write)) → Result (Streams R (Written W write)) Lost → List ℕ → O → O → Type 0
-AreReady opens remaining tool unit (Some streams) result reply old new = (result ≡ Ok streams) × (new ≡ old)
-AreReady opens remaining tool unit None result reply old new = AreOpened opens remaining tool unit result reply old new
+    → Option (Streams R (Written W write)) → Ready (Streams R (Written W write)) → List ℕ → O → O → Type 0
+AreReady opens remaining tool unit (Some streams) ready reply old new = (ready ≡ Ok streams) × (new ≡ old)
+AreReady opens remaining tool unit None ready reply old new = AreOpened opens remaining tool unit ready reply old new
 
--- An exchange over the streams of this unit, which are open afterwards. If there are none to be had, the connection is lost, and the
--- reply is what came when they were opened. The streams of other units are unchanged, so their tools are handed nothing.
+-- An exchange over the streams of this unit, which stay open, even if the connection is lost over them. If it is lost when they are
+-- opened, the request is not sent, and the reply is what came then. The streams of other units are unchanged, so their tools are
+-- handed nothing.
 pub record IsOverUnit {O R W : Type 0} {write : Ghosts W} (opens : Openings O R W) (remaining : Known R) (tool : Tool) (unit : ℕ)
     (request : List ℕ) (came : Result (Unit {0}) Lost) (reply : List ℕ) (opener opener' : O)
     (old new : Units R (Written W write)) : Type 0 where
   pub now : Option (Streams R (Written W write))
   pub others : new ≡ with_streams unit now old
-  pub ready : Result (Streams R (Written W write)) Lost
+  pub ready : Ready (Streams R (Written W write))
   pub first : List ℕ
   pub are_ready : AreReady opens remaining tool unit (streams_of unit old) ready first opener opener'
   pub over : MatchResult ready
       (λ before. (after : Streams R (Written W write)) × (now ≡ Some after) × IsExchange remaining request came reply before after)
-      (λ lost. (now ≡ None) × (came ≡ Err lost) × (reply ≡ first))
+      (λ lost. (now ≡ lost) × IsErr came × (reply ≡ first))

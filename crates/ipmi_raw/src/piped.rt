@@ -123,6 +123,9 @@ fn begin<R: Read, W: Write>(
     }
 }
 
+/// The streams for a request, or the streams that lost the connection when they were opened; none if the opening failed.
+type Ready<R, W> = Result<Streams<R, Written<W>>, Option<Streams<R, Written<W>>>>;
+
 /// The streams of the tool that sends requests to the unit. Opens them if they are not open. Then `reply` receives what
 /// ipmitool prints when it opens its session.
 fn opened<O: Open>(
@@ -131,22 +134,23 @@ fn opened<O: Open>(
     tool: Tool,
     unit: u8,
     reply: &mut ReplyText,
-) -> Result<Streams<O::Replies, Written<O::Requests>>, Lost>
+) -> Ready<O::Replies, O::Requests>
     requires { reply.old.items ≡ [] }
-    ensures ready { AreReady O.opens O.Replies.remaining tool unit streams result reply.new.items
-        opener.old opener.new }
+    ensures ready { AreReady O.opens O.Replies.remaining tool unit streams result reply.new.items opener.old opener.new }
     ensures first { IsNotEndedWithin tool reply.new.items }
 {
     if let Some(streams) = streams {
         return Ok(streams);
     }
     let Ok((replies, requests)) = opener.open(unit) else {
-        return Err(Lost);
+        return Err(None);
     };
     let requests = Written::new(requests);
     let mut streams = Streams { replies, requests };
-    begin(&mut streams, tool, reply)?;
-    Ok(streams)
+    match begin(&mut streams, tool, reply) {
+        Ok(()) => Ok(streams),
+        Err(_) => Err(Some(streams)),
+    }
 }
 
 impl<O: Open> Peer for Piped<O> {
@@ -177,9 +181,16 @@ impl<O: Open> Peer for Piped<O> {
             return Err(Lost);
         }
         let open = self.units.replace(unit, None);
-        let mut streams = opened(open, &mut self.opener, self.tool, unit, reply)?;
-        let came = streams.exchange(self.tool, request, reply);
-        self.units.replace(unit, Some(streams));
-        came
+        match opened(open, &mut self.opener, self.tool, unit, reply) {
+            Ok(mut streams) => {
+                let came = streams.exchange(self.tool, request, reply);
+                self.units.replace(unit, Some(streams));
+                came
+            }
+            Err(streams) => {
+                self.units.replace(unit, streams);
+                Err(Lost)
+            }
+        }
     }
 }

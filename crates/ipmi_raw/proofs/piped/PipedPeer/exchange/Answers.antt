@@ -1,28 +1,28 @@
-use Rattle.std.proofs.Common.{arith, sym}
-use Rattle.ipmi_raw.proofs.PipedLemmas.{on_err, over_none, over_unit}
+use Rattle.std.proofs.Common.{arith, refl, sym}
+use Rattle.ipmi_raw.proofs.PipedLemmas.{over_none, over_unit}
 use Rattle.ipmi_raw.proofs.piped.PipedPeer.exchange.Goals as goal
 
-pub returns-clause-brings : goal.returns-clause-brings
-returns-clause-brings g c = (
+pub returns-in-Ok-clause-brings : goal.returns-in-Ok-clause-brings
+returns-in-Ok-clause-brings g c = (
   c.exchange-came.ensures.ended,
   c.exchange-came.ensures.first,
   λ unit. rw (sym c.unit_of-unit.ensures)
       (over_unit g.O.Open.opens g.O.Replies.Read.remaining c.args.self.now.tool c.unit_of-unit.result
       c.args.request.now c.args.self.now.opener c.opened.new.opener c.args.self.now.units c.replace-open.new.self c.replace-open.result
       c.replace-open.ensures.was c.replace-open.ensures.now c.exchange-came.result c.opened.new.reply.items c.exchange-came.new.reply.items
-      c.replace.new.self c.in_ok-streams.streams c.exchange-came.new.self c.in_ok-streams.ensures.ready
+      c.replace.new.self c.in-Ok.streams c.exchange-came.new.self c.in-Ok.ensures.ready
       (record { sent = c.exchange-came.ensures.sent; read = c.exchange-came.ensures.read }) c.replace.ensures.now),
   λ none. absurd (omega (arith, none, c.unit_of-unit.ensures)),
 )
 
-pub returns-in_err-streams-clause-brings : goal.returns-in_err-streams-clause-brings
-returns-in_err-streams-clause-brings g c = (
-  on_err _ c.from_residual.result c.from_residual.ensures.0,
-  c.in_err-streams.ensures.first,
+pub returns-in-Err-clause-brings : goal.returns-in-Err-clause-brings
+returns-in-Err-clause-brings g c = (
+  tt,
+  c.in-Err.ensures.first,
   λ unit. rw (sym c.unit_of-unit.ensures)
       (over_none g.O.Open.opens g.O.Replies.Read.remaining c.args.self.now.tool c.unit_of-unit.result
       c.args.request.now c.args.self.now.opener c.opened.new.opener c.args.self.now.units c.replace-open.new.self c.replace-open.result
-      c.replace-open.ensures.was c.replace-open.ensures.now c.in_err-streams.field-0.0 c.from_residual.result c.opened.new.reply.items
-      c.from_residual.ensures.0 c.in_err-streams.ensures.ready),
+      c.replace-open.ensures.was c.replace-open.ensures.now c.in-Err.streams _ c.opened.new.reply.items
+      c.replace-in-Err.new.self refl c.in-Err.ensures.ready c.replace-in-Err.ensures.now),
   λ none. absurd (omega (arith, none, c.unit_of-unit.ensures)),
 )
