@@ -1,7 +1,8 @@
 -- What is handed to a tool's input, and the end of a reply in its output, which is read byte by byte.
-use Rattle.std.proofs.Common.{inl, inr, ◌≡◌, ◌≢◌, ◌∙◌, ap, sym, true≢false, IsErr, ℕ, Bool, true, false, Result, Ok, Err, nat_eq, ◌++◌, List, length, refl, codes, MatchBool}
+use Rattle.std.proofs.Common.{inl, inr, ◌≡◌, ◌≢◌, ◌∙◌, ap, sym, ℕ, Bool, true, false, Result, Ok, Err, nat_eq, ◌++◌, List, length, refl, codes, MatchBool}
 use Rattle.std.proofs.Math.Seq.{take-length}
 use Rattle.std.specs.List.{ends_with}
+use Rattle.std.specs.Result.{result_and}
 use Rattle.std.proofs.lemmas.Bool.Decides.{Decides-eqb}
 use Rattle.std.proofs.lemmas.Slice.Eq.{ends_is}
 use Rattle.ipmi_raw.specs.declared.tool.Tool.TheVariants.{Ipmitool}
@@ -13,12 +14,12 @@ pub hands_all : (came : Result (Unit {0}) Lost) (request old new : List ℕ) →
 hands_all (Ok done) request old new is = is
 hands_all (Err lost) request old new is = (length request, is ∙ ap (λ bytes. old ++ bytes) (sym (take-length request)))
 
--- a request is sent, and no reply comes
-pub hands_and_loses : (sent came : Result (Unit {0}) Lost) (request old new : List ℕ) → IsErr came
-    → HandsOver sent request old new → HandsOver came request old new
-hands_and_loses sent (Ok done) request old new is part = absurd (true≢false (sym is))
-hands_and_loses (Ok done) (Err lost) request old new is all = hands_all (Err lost) request old new all
-hands_and_loses (Err early) (Err lost) request old new is part = part
+-- a request is handed over, and perhaps no reply comes
+pub hands_and_reads : (read sent : Result (Unit {0}) Lost) (request old new : List ℕ)
+    → HandsOver sent request old new → HandsOver (result_and read sent) request old new
+hands_and_reads (Ok done) sent request old new handed = handed
+hands_and_reads (Err lost) (Ok done) request old new handed = hands_all (Err lost) request old new handed
+hands_and_reads (Err lost) (Err early) request old new handed = handed
 
 abbrev pub EndsWith : List ℕ → List ℕ → Type 0
 EndsWith text end = (front : List ℕ) × (text ≡ front ++ end)

@@ -97,7 +97,7 @@ impl<R: Read, W: Write> Streams<R, Written<W>> {
         ensures first { IsNotEndedWithin tool reply.new.items }
     {
         let sent = send(&mut self.requests, request);
-        read_reply(tool, &mut self.replies, reply)?;
-        sent
+        let read = read_reply(tool, &mut self.replies, reply);
+        read.and(sent)
     }
 }

@@ -1,5 +1,6 @@
 //! Reading the output of a tool up to the end of a reply.
 use crate::raw::tools::Wanted;
+use ipmi_output::Written;
 use ipmi_raw::{Lost, Piped, ReplyText, Streams, Tool};
 use std::alloc::Global;
 use std::io::{self, Error, ErrorKind, Read, Write};
@@ -18,7 +19,7 @@ fn assert_exchange(
 ) {
     let mut streams = Streams {
         replies: printed,
-        requests: Wanted(REQUEST, b""),
+        requests: Written::new(Wanted(REQUEST, b"")),
     };
     let mut reply = ReplyText::new();
     let result = streams.exchange(tool, REQUEST, &mut reply);
@@ -75,7 +76,7 @@ fn replies_are_read_one_by_one(rt: HostRuntime) {
     let printed = b" 34 12\n. \n 35 12\n. \n";
     let mut streams = Streams {
         replies: printed.as_slice(),
-        requests: Wanted(b"one\ntwo\n", b""),
+        requests: Written::new(Wanted(b"one\ntwo\n", b"")),
     };
     let mut reply = ReplyText::new();
     let first = streams.exchange(Tool::Ipmitool, b"one\n", &mut reply);
@@ -94,7 +95,7 @@ fn a_tool_that_takes_no_request_may_say_why(rt: HostRuntime) {
     let printed = b"Could not open device\n. \n";
     let mut streams = Streams {
         replies: printed.as_slice(),
-        requests: Wanted(b"", b""),
+        requests: Written::new(Wanted(b"", b"")),
     };
     let mut reply = ReplyText::new();
     let result = streams.exchange(Tool::Ipmitool, REQUEST, &mut reply);
@@ -121,7 +122,7 @@ fn a_request_that_is_not_handed_on_is_not_sent(rt: HostRuntime) {
     let printed = b" 34 12\n. \n";
     let mut streams = Streams {
         replies: printed.as_slice(),
-        requests: Stuck,
+        requests: Written::new(Stuck),
     };
     let mut reply = ReplyText::new();
     let result = streams.exchange(Tool::Ipmitool, REQUEST, &mut reply);
@@ -158,7 +159,7 @@ fn assert_halting_exchange(rt: &impl Abort, text: &'static [u8], wanted: Result<
     let reader = Halting { text, gives: false };
     let mut streams = Streams {
         replies: reader,
-        requests: Wanted(REQUEST, b""),
+        requests: Written::new(Wanted(REQUEST, b"")),
     };
     let mut reply = ReplyText::new();
     let result = streams.exchange(Tool::Ipmitool, REQUEST, &mut reply);
