@@ -1,6 +1,5 @@
 -- An exchange over the streams of one unit. The streams are taken out and then put back.
-use Rattle.std.proofs.Common.{◌≡◌, ◌≢◌, ◌==◌, inr, sym, true≢false, IsErr, if◌then◌else◌, ℕ, Bool, true, false, Option, None, Some, Result, Ok, Err, OnOk, List, refl, subst, ap, ◌∙◌, [], unwrap_or}
-use Rattle.std.specs.Io.KnownBytes.{Consumes}
+use Rattle.std.proofs.Common.{◌≡◌, ◌≢◌, ◌==◌, sym, IsErr, if◌then◌else◌, ℕ, Bool, true, false, Option, None, Some, Result, Ok, Err, List, refl, subst, ap, ◌∙◌, [], unwrap_or}
 use Rattle.std.specs.declared.io.traits.Write.{Ghosts}
 use Rattle.ipmi_output.specs.Writer.{taken_of, writer_of}
 use Rattle.ipmi_output.specs.declared.sink.Written.{Written}
@@ -8,6 +7,8 @@ use Rattle.ipmi_raw.specs.declared.peer.Lost.{Lost}
 use Rattle.ipmi_raw.specs.declared.piped.Units.{Units}
 use Rattle.ipmi_raw.specs.declared.streams.Streams.{Streams}
 use Rattle.ipmi_raw.specs.declared.tool.Tool.{Tool}
+use Rattle.ipmi_raw.specs.Heard.{given_of, reader_of}
+use Rattle.ipmi_raw.specs.declared.heard.Heard.{Heard}
 use Rattle.ipmi_raw.specs.Piped.{AreReady, IsExchange, IsFirst, IsOpened, IsOverUnit, Known, Openings, streams_of, with_streams}
 
 -- the streams put in last are there
@@ -29,36 +30,39 @@ last_put {R} {W} unit one other units = of (unit == 0) (unit == 1) (unit == 2) (
 
 -- no streams were open, so some were opened
 module _ {O R W : Type 0} {write : Ghosts W} (opens : Openings O R W) (remaining : Known R) (tool : Tool) (unit : ℕ)
-    (first : List ℕ) (opener opener' : O) (opened after : Streams R (Written W write))
+    (first : List ℕ) (opener opener' : O) (opened after : Streams (Heard R) (Written W write))
     (is_opened : IsOpened opens unit opener opener' opened) where
-  pub ready_after : (was_open : Option (Streams R (Written W write))) → ((s : Streams R (Written W write)) → was_open ≢ Some s)
+  pub ready_after : (was_open : Option (Streams (Heard R) (Written W write))) → ((s : Streams (Heard R) (Written W write)) → was_open ≢ Some s)
       → IsFirst remaining tool (Ok tt) first opened after
       → AreReady opens remaining tool unit was_open (Ok after) first opener opener'
   ready_after (Some s) none over = absurd (none s refl)
   ready_after None none over = (opened, is_opened, over)
 
-  pub lost_after : (was_open : Option (Streams R (Written W write))) (lost : Lost)
-      → ((s : Streams R (Written W write)) → was_open ≢ Some s) → IsFirst remaining tool (Err lost) first opened after
+  pub lost_after : (was_open : Option (Streams (Heard R) (Written W write))) (lost : Lost)
+      → ((s : Streams (Heard R) (Written W write)) → was_open ≢ Some s) → IsFirst remaining tool (Err lost) first opened after
       → AreReady opens remaining tool unit was_open (Err (Some after)) first opener opener'
   lost_after (Some s) lost none over = absurd (none s refl)
   lost_after None lost none over = (opened, is_opened, (lost, over))
 
--- a writer that was opened is as it was
-pub opened_so : {O R W : Type 0} {write : Ghosts W} (opens : Openings O R W) (unit : ℕ) (opener opener' : O) (replies : R) (writer : W)
-    (requests : Written W write) → opens opener opener' unit (Some (replies, writer)) → writer_of requests ≡ writer
+-- streams are as they were opened
+pub opened_so : {O R W : Type 0} {write : Ghosts W} (opens : Openings O R W) (unit : ℕ) (opener opener' : O) (reader : R) (writer : W)
+    (replies : Heard R) (requests : Written W write) → opens opener opener' unit (Some (reader, writer))
+    → reader_of replies ≡ reader → given_of replies ≡ [] → writer_of requests ≡ writer
     → taken_of requests ≡ unwrap_or (write.contents writer) []
     → IsOpened opens unit opener opener' (record { replies = replies; requests = requests })
-opened_so {write = write} opens unit opener opener' replies writer requests are same none = record {
-  are_opened = subst (λ w. opens opener opener' unit (Some (replies, w))) (sym same) are;
-  none_sent = none ∙ ap (λ w. unwrap_or (write.contents w) []) (sym same);
+opened_so {write = write} opens unit opener opener' reader writer replies requests are same none_given too none = record {
+  are_opened = subst (λ r. opens opener opener' unit (Some (r, writer_of requests))) (sym same)
+      (subst (λ w. opens opener opener' unit (Some (reader, w))) (sym too) are);
+  none_given = none_given;
+  none_sent = none ∙ ap (λ w. unwrap_or (write.contents w) []) (sym too);
 }
 
 module _ {O R W : Type 0} {write : Ghosts W} (opens : Openings O R W) (remaining : Known R) (tool : Tool) (unit : ℕ)
-    (request : List ℕ) (opener opener' : O) (old middle : Units R (Written W write)) (was_open : Option (Streams R (Written W write)))
+    (request : List ℕ) (opener opener' : O) (old middle : Units (Heard R) (Written W write)) (was_open : Option (Streams (Heard R) (Written W write)))
     (was : was_open ≡ streams_of unit old) (out : middle ≡ with_streams unit None old) where
   -- the request was exchanged over the streams
-  pub over_unit : (came : Result (Unit {0}) Lost) (first reply : List ℕ) (new : Units R (Written W write))
-      (before after : Streams R (Written W write))
+  pub over_unit : (came : Result (Unit {0}) Lost) (first reply : List ℕ) (new : Units (Heard R) (Written W write))
+      (before after : Streams (Heard R) (Written W write))
       → AreReady opens remaining tool unit was_open (Ok before) first opener opener'
       → IsExchange remaining request came reply before after → new ≡ with_streams unit (Some after) middle
       → IsOverUnit opens remaining tool unit request came reply opener opener' old new
@@ -72,8 +76,8 @@ module _ {O R W : Type 0} {write : Ghosts W} (opens : Openings O R W) (remaining
   }
 
   -- the connection was lost when the streams were opened
-  pub over_none : (lost : Option (Streams R (Written W write))) (came : Result (Unit {0}) Lost) (reply : List ℕ)
-      (new : Units R (Written W write)) → IsErr came
+  pub over_none : (lost : Option (Streams (Heard R) (Written W write))) (came : Result (Unit {0}) Lost) (reply : List ℕ)
+      (new : Units (Heard R) (Written W write)) → IsErr came
       → AreReady opens remaining tool unit was_open (Err lost) reply opener opener' → new ≡ with_streams unit lost middle
       → IsOverUnit opens remaining tool unit request came reply opener opener' old new
   over_none lost came reply new is ready put = record {

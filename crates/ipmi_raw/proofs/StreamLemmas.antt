@@ -1,11 +1,13 @@
 -- What is handed to a tool's input, and the end of a reply in its output, which is read byte by byte.
-use Rattle.std.proofs.Common.{inl, inr, ◌≡◌, ◌≢◌, ◌∙◌, ap, sym, ℕ, Bool, true, false, Result, Ok, Err, nat_eq, ◌++◌, List, length, refl, codes, MatchBool}
+use Rattle.std.proofs.Common.{arith, inl, inr, [], ◌∷◌, ◌≡◌, ◌≢◌, ◌∙◌, ap, sym, ℕ, Bool, true, false, Result, Ok, Err, nat_eq, ◌++◌, List, length, refl, codes, MatchBool}
 use Rattle.std.proofs.Math.Seq.{take-length}
 use Rattle.std.specs.List.{ends_with}
 use Rattle.std.specs.Result.{result_and}
+use Rattle.std.proofs.lemmas.Grind.{common_steps}
 use Rattle.std.proofs.lemmas.Bool.Decides.{Decides-eqb}
 use Rattle.std.proofs.lemmas.Slice.Eq.{ends_is}
-use Rattle.ipmi_raw.specs.declared.tool.Tool.TheVariants.{Ipmitool}
+use Rattle.ipmi_raw.specs.declared.tool.Tool.{Tool}
+use Rattle.ipmi_raw.specs.declared.tool.Tool.TheVariants.{FreeIpmi, Ipmitool}
 use Rattle.ipmi_raw.specs.declared.peer.Lost.{Lost}
 use Rattle.ipmi_raw.specs.Streams.{HandsOver, IsEnded}
 
@@ -37,3 +39,12 @@ pub ended_or_not : (text : List ℕ) (r : Bool) → text ≢ codes ". \n" → Ma
     → MatchBool r (IsEnded Ipmitool text) (¬ IsEnded Ipmitool text)
 ended_or_not text true no_mark e = inr e
 ended_or_not text false no_mark none = elim [ inl e ↦ no_mark e | inr e ↦ none e ]
+
+-- an empty text has not ended
+not_empty : (byte : ℕ) (front end : List ℕ) → [] ≢ front ++ byte ∷ end
+not_empty byte [] end e = grind (arith, common_steps)
+not_empty byte (x ∷ front) end e = grind (arith, common_steps)
+
+pub nothing_ended : (tool : Tool) → ¬ IsEnded tool []
+nothing_ended Ipmitool e = elim e [ inl same ↦ grind (arith, common_steps) | inr found ↦ not_empty 10 found.0 (codes ". \n") found.1 ]
+nothing_ended FreeIpmi e = not_empty 10 e.0 [] e.1

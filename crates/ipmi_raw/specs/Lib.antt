@@ -8,5 +8,6 @@ pub mod Laws
 pub mod Answer
 pub mod Peer
 pub mod Controller
+pub mod Heard
 pub mod Streams
 pub mod Piped

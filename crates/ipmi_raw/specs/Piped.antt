@@ -1,5 +1,5 @@
 -- The streams for the requests to a logical unit.
-use Rattle.std.specs.Prelude.{ℕ, ◌≡◌, ◌==◌, ◌⊎◌, if◌then◌else◌, codes, Option, None, Some, MatchResult, Result, Ok, Err, IsErr, List, [], unwrap_or}
+use Rattle.std.specs.Prelude.{ℕ, ◌≡◌, ◌==◌, if◌then◌else◌, codes, Option, None, Some, MatchResult, Result, Ok, Err, IsErr, List, [], ◌++◌, unwrap_or}
 use Rattle.std.specs.Io.KnownBytes.{Consumes}
 use Rattle.std.specs.declared.io.traits.Write.{Ghosts}
 use Rattle.ipmi_output.specs.Writer.{taken_of, writer_of}
@@ -9,6 +9,8 @@ use Rattle.ipmi_raw.specs.declared.piped.Units.{Units}
 use Rattle.ipmi_raw.specs.declared.streams.Streams.{Streams}
 use Rattle.ipmi_raw.specs.declared.tool.Tool.{Tool}
 use Rattle.ipmi_raw.specs.declared.tool.Tool.TheVariants.{Ipmitool, FreeIpmi}
+use Rattle.ipmi_raw.specs.Heard.{given_of, reader_of}
+use Rattle.ipmi_raw.specs.declared.heard.Heard.{Heard}
 use Rattle.ipmi_raw.specs.Streams.{HandsOver}
 
 -- the unit whose streams carry a request: each ipmitool sends all its requests to one unit, whereas a request to `ipmi-raw` names
@@ -33,11 +35,12 @@ with_streams unit streams units =
 abbrev pub Known : Type 0 → Type 0
 Known S = S → Option (List ℕ)
 
--- The tool is handed the request, as `HandsOver` says, and nothing else. The reply consists of the bytes read.
+-- The tool is handed the request, as `HandsOver` says, and nothing else. The reply consists of the bytes that the tool's output gave.
 pub record IsExchange {R W : Type 0} {write : Ghosts W} (remaining : Known R) (request : List ℕ) (came : Result (Unit {0}) Lost)
-    (reply : List ℕ) (old new : Streams R (Written W write)) : Type 0 where
+    (reply : List ℕ) (old new : Streams (Heard R) (Written W write)) : Type 0 where
   pub sent : HandsOver came request (taken_of old.requests) (taken_of new.requests)
-  pub read : Consumes (remaining old.replies) (remaining new.replies) reply
+  pub given : given_of new.replies ≡ given_of old.replies ++ reply
+  pub read : Consumes (remaining (reader_of old.replies)) (remaining (reader_of new.replies)) reply
 
 -- ---- streams that are opened
 
@@ -46,15 +49,16 @@ abbrev pub Openings : Type 0 → Type 0 → Type 0 → Type 1
 Openings O R W = O → O → ℕ → Option (R × W) → Type 0
 
 -- The streams of a unit just as they were opened. The tool was handed nothing yet: its input has taken only what the writer held
--- when it was opened.
+-- when it was opened. Its output gave nothing yet.
 pub record IsOpened {O R W : Type 0} {write : Ghosts W} (opens : Openings O R W) (unit : ℕ) (old new : O)
-    (opened : Streams R (Written W write)) : Type 0 where
-  pub are_opened : opens old new unit (Some (opened.replies, writer_of opened.requests))
+    (opened : Streams (Heard R) (Written W write)) : Type 0 where
+  pub are_opened : opens old new unit (Some (reader_of opened.replies, writer_of opened.requests))
+  pub none_given : given_of opened.replies ≡ []
   pub none_sent : taken_of opened.requests ≡ unwrap_or (write.contents (writer_of opened.requests)) []
 
 -- ipmitool is first sent a request that makes it open its session: Get Device ID (IPMI v2.0, section 20.1)
 abbrev pub IsFirst : {R W : Type 0} {write : Ghosts W} → Known R → Tool → Result (Unit {0}) Lost → List ℕ
-    → Streams R (Written W write) → Streams R (Written W write) → Type 0
+    → Streams (Heard R) (Written W write) → Streams (Heard R) (Written W write) → Type 0
 IsFirst remaining Ipmitool came reply old new = IsExchange remaining (codes "raw 0x06 0x01\necho .\n") came reply old new
 IsFirst remaining FreeIpmi came reply old new = (came ≡ Ok tt) × (reply ≡ []) × (new ≡ old)
 
@@ -63,19 +67,19 @@ abbrev pub Ready : Type 0 → Type 0
 Ready S = Result S (Option S)
 
 -- the streams opened for a unit, after the first request over them
-abbrev pub AreOpened : {O R W : Type 0} {write : Ghosts W} → Openings O R W → Known R → Tool → ℕ → Ready (Streams R (Written W write))
+abbrev pub AreOpened : {O R W : Type 0} {write : Ghosts W} → Openings O R W → Known R → Tool → ℕ → Ready (Streams (Heard R) (Written W write))
     → List ℕ → O → O → Type 0
 AreOpened {R = R} {W = W} {write = write} opens remaining tool unit (Ok streams) reply old new =
-    (opened : Streams R (Written W write)) × IsOpened opens unit old new opened
+    (opened : Streams (Heard R) (Written W write)) × IsOpened opens unit old new opened
     × IsFirst remaining tool (Ok tt) reply opened streams
 AreOpened {R = R} {W = W} {write = write} opens remaining tool unit (Err (Some streams)) reply old new =
-    (opened : Streams R (Written W write)) × IsOpened opens unit old new opened
+    (opened : Streams (Heard R) (Written W write)) × IsOpened opens unit old new opened
     × ((lost : Lost) × IsFirst remaining tool (Err lost) reply opened streams)
 AreOpened opens remaining tool unit (Err None) reply old new = opens old new unit None × (reply ≡ [])
 
 -- the streams for a request: those of the unit that are open; if there are none, some are opened
 abbrev pub AreReady : {O R W : Type 0} {write : Ghosts W} → Openings O R W → Known R → Tool → ℕ
-    → Option (Streams R (Written W write)) → Ready (Streams R (Written W write)) → List ℕ → O → O → Type 0
+    → Option (Streams (Heard R) (Written W write)) → Ready (Streams (Heard R) (Written W write)) → List ℕ → O → O → Type 0
 AreReady opens remaining tool unit (Some streams) ready reply old new = (ready ≡ Ok streams) × (new ≡ old)
 AreReady opens remaining tool unit None ready reply old new = AreOpened opens remaining tool unit ready reply old new
 
@@ -84,12 +88,12 @@ AreReady opens remaining tool unit None ready reply old new = AreOpened opens re
 -- handed nothing.
 pub record IsOverUnit {O R W : Type 0} {write : Ghosts W} (opens : Openings O R W) (remaining : Known R) (tool : Tool) (unit : ℕ)
     (request : List ℕ) (came : Result (Unit {0}) Lost) (reply : List ℕ) (opener opener' : O)
-    (old new : Units R (Written W write)) : Type 0 where
-  pub now : Option (Streams R (Written W write))
+    (old new : Units (Heard R) (Written W write)) : Type 0 where
+  pub now : Option (Streams (Heard R) (Written W write))
   pub others : new ≡ with_streams unit now old
-  pub ready : Ready (Streams R (Written W write))
+  pub ready : Ready (Streams (Heard R) (Written W write))
   pub first : List ℕ
   pub are_ready : AreReady opens remaining tool unit (streams_of unit old) ready first opener opener'
   pub over : MatchResult ready
-      (λ before. (after : Streams R (Written W write)) × (now ≡ Some after) × IsExchange remaining request came reply before after)
+      (λ before. (after : Streams (Heard R) (Written W write)) × (now ≡ Some after) × IsExchange remaining request came reply before after)
       (λ lost. (now ≡ lost) × IsErr came × (reply ≡ first))

@@ -8,6 +8,7 @@
 
 mod controller;
 pub mod freeipmi;
+mod heard;
 pub mod ipmitool;
 pub mod laws;
 mod line;
@@ -20,6 +21,7 @@ mod tool;
 pub mod words;
 
 pub use controller::RawController;
+pub use heard::Heard;
 pub use line::Line;
 pub use peer::{Lost, Peer, ReplyText};
 pub use piped::{Open, Piped};

@@ -8,6 +8,7 @@ ghost use Rattle.ipmi_raw.specs.Streams.{IsEnded, IsNotEndedWithin};
 ghost use Rattle.ipmi_raw.specs.Piped.{AreReady, IsFirst, IsOverUnit, streams_of, unit_of, with_streams};
 ghost use Rattle.ipmi_raw.specs.declared.request.Request.{Request};
 
+use crate::heard::Heard;
 use crate::peer::{Lost, Peer, ReplyText};
 use crate::streams::Streams;
 use crate::tool::Tool;
@@ -76,7 +77,7 @@ impl<R: Drop, W: Drop> Units<R, W> {
 pub struct Piped<O: Open> {
     tool: Tool,
     opener: O,
-    units: Units<O::Replies, Written<O::Requests>>,
+    units: Units<Heard<O::Replies>, Written<O::Requests>>,
 }
 
 impl<O: Open> Piped<O> {
@@ -109,7 +110,7 @@ fn unit_of(tool: Tool, lun: u8) -> u8
 
 /// Sends ipmitool its first request.
 fn begin<R: Read, W: Write>(
-    streams: &mut Streams<R, Written<W>>,
+    streams: &mut Streams<Heard<R>, Written<W>>,
     tool: Tool,
     reply: &mut ReplyText,
 ) -> Result<(), Lost>
@@ -124,12 +125,12 @@ fn begin<R: Read, W: Write>(
 }
 
 /// The streams for a request, or the streams that lost the connection when they were opened; none if the opening failed.
-type Ready<R, W> = Result<Streams<R, Written<W>>, Option<Streams<R, Written<W>>>>;
+type Ready<R, W> = Result<Streams<Heard<R>, Written<W>>, Option<Streams<Heard<R>, Written<W>>>>;
 
 /// The streams of the tool that sends requests to the unit. Opens them if they are not open. Then `reply` receives what
 /// ipmitool prints when it opens its session.
 fn opened<O: Open>(
-    streams: Option<Streams<O::Replies, Written<O::Requests>>>,
+    streams: Option<Streams<Heard<O::Replies>, Written<O::Requests>>>,
     opener: &mut O,
     tool: Tool,
     unit: u8,
@@ -145,6 +146,7 @@ fn opened<O: Open>(
     let Ok((replies, requests)) = opener.open(unit) else {
         return Err(None);
     };
+    let replies = Heard::new(replies);
     let requests = Written::new(requests);
     let mut streams = Streams { replies, requests };
     match begin(&mut streams, tool, reply) {

@@ -1,13 +1,15 @@
 //! The two streams of a tool: its input for requests and its output with replies.
-ghost use Rattle.std.specs.Prelude.{◌≡◌, [], ◌∷◌, MatchBool, MatchOption, OnOk};
+ghost use Rattle.std.specs.Prelude.{◌≡◌, ◌++◌, MatchBool, OnOk};
 ghost use Rattle.std.specs.Io.KnownBytes.{Consumes};
 ghost use Rattle.ipmi_output.specs.Writer.{taken_of};
+ghost use Rattle.ipmi_raw.specs.Heard.{given_of, reader_of};
 ghost use Rattle.ipmi_raw.specs.Streams.{HandsOver, IsEnded, IsNotEndedWithin};
 
+use crate::heard::Heard;
 use crate::peer::{Lost, REPLY_ROOM, ReplyText};
 use crate::tool::Tool;
 use ipmi_output::{Written, write_all};
-use std::io::{ErrorKind, Read, Write};
+use std::io::{Read, Write};
 
 /// ipmitool's output for the end mark of a reply.
 const MARK: &[u8] = b". \n";
@@ -22,33 +24,16 @@ fn is_ended(tool: Tool, text: &[u8]) -> bool
     }
 }
 
-/// The next byte. None at the end of the stream, or if reading fails.
-fn read_byte<R: Read>(reader: &mut R) -> Option<u8>
-    ensures { MatchOption result
-        (Consumes (R.remaining reader.old) (R.remaining reader.new) [])
-        (λ byte. Consumes (R.remaining reader.old) (R.remaining reader.new) (byte ∷ [])) }
-{
-    let mut byte = [0];
-    for _ in 0..u64::MAX {
-        match reader.read(&mut byte) {
-            Ok(0) => return None,
-            Ok(_) => return Some(byte[0]),
-            Err(error) if error.kind() == ErrorKind::Interrupted => {}
-            Err(_) => return None,
-        }
-    }
-    None
-}
-
 /// Reads the tool's output, up to the end of a reply.
-fn read_reply<R: Read>(tool: Tool, reader: &mut R, reply: &mut ReplyText) -> Result<(), Lost>
-    ensures read { Consumes (R.remaining reader.old) (R.remaining reader.new) reply.new.items }
+fn read_reply<R: Read>(tool: Tool, reader: &mut Heard<R>, reply: &mut ReplyText) -> Result<(), Lost>
+    ensures given { given_of reader.new ≡ given_of reader.old ++ reply.new.items }
+    ensures read { Consumes (R.remaining (reader_of reader.old)) (R.remaining (reader_of reader.new)) reply.new.items }
     ensures ended { OnOk result (IsEnded tool reply.new.items) }
     ensures first { IsNotEndedWithin tool reply.new.items }
 {
     reply.clear();
     for _ in 0..REPLY_ROOM {
-        let Some(byte) = read_byte(reader) else {
+        let Some(byte) = reader.read_byte() else {
             return Err(Lost);
         };
         reply.push(byte);
@@ -72,13 +57,13 @@ fn send<W: Write>(requests: &mut Written<W>, request: &[u8]) -> Result<(), Lost>
 /// The two streams of a tool.
 #[derive(Drop)]
 pub struct Streams<R, W> {
-    /// The tool's output. It is read byte by byte.
+    /// The tool's output, a `Heard`.
     pub replies: R,
     /// The tool's input, a `Written`.
     pub requests: W,
 }
 
-impl<R: Read, W: Write> Streams<R, Written<W>> {
+impl<R: Read, W: Write> Streams<Heard<R>, Written<W>> {
     /// Hands the text of a request to the tool, and stores the tool's output in `reply`, up to the end of a reply. The
     /// connection is lost if the tool does not accept the request, if its output ends, or if the output does not fit into
     /// `reply`. A tool that does not accept a request may have printed the reason.
@@ -92,7 +77,8 @@ impl<R: Read, W: Write> Streams<R, Written<W>> {
         reply: &mut ReplyText,
     ) -> Result<(), Lost>
         ensures sent { HandsOver result request.now (taken_of self.old.requests) (taken_of self.new.requests) }
-        ensures read { Consumes (R.remaining self.old.replies) (R.remaining self.new.replies) reply.new.items }
+        ensures given { given_of self.new.replies ≡ given_of self.old.replies ++ reply.new.items }
+        ensures read { Consumes (R.remaining (reader_of self.old.replies)) (R.remaining (reader_of self.new.replies)) reply.new.items }
         ensures ended { OnOk result (IsEnded tool reply.new.items) }
         ensures first { IsNotEndedWithin tool reply.new.items }
     {

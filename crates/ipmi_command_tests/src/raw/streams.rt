@@ -1,7 +1,7 @@
 //! Reading the output of a tool up to the end of a reply.
 use crate::raw::tools::Wanted;
 use ipmi_output::Written;
-use ipmi_raw::{Lost, Piped, ReplyText, Streams, Tool};
+use ipmi_raw::{Heard, Lost, Piped, ReplyText, Streams, Tool};
 use std::alloc::Global;
 use std::io::{self, Error, ErrorKind, Read, Write};
 use std::process::Abort;
@@ -18,7 +18,7 @@ fn assert_exchange(
     text: &[u8],
 ) {
     let mut streams = Streams {
-        replies: printed,
+        replies: Heard::new(printed),
         requests: Written::new(Wanted(REQUEST, b"")),
     };
     let mut reply = ReplyText::new();
@@ -75,7 +75,7 @@ fn no_more_than_there_is_room_for_is_read(rt: HostRuntime) {
 fn replies_are_read_one_by_one(rt: HostRuntime) {
     let printed = b" 34 12\n. \n 35 12\n. \n";
     let mut streams = Streams {
-        replies: printed.as_slice(),
+        replies: Heard::new(printed.as_slice()),
         requests: Written::new(Wanted(b"one\ntwo\n", b"")),
     };
     let mut reply = ReplyText::new();
@@ -94,7 +94,7 @@ fn replies_are_read_one_by_one(rt: HostRuntime) {
 fn a_tool_that_takes_no_request_may_say_why(rt: HostRuntime) {
     let printed = b"Could not open device\n. \n";
     let mut streams = Streams {
-        replies: printed.as_slice(),
+        replies: Heard::new(printed.as_slice()),
         requests: Written::new(Wanted(b"", b"")),
     };
     let mut reply = ReplyText::new();
@@ -121,7 +121,7 @@ impl Write for Stuck {
 fn a_request_that_is_not_handed_on_is_not_sent(rt: HostRuntime) {
     let printed = b" 34 12\n. \n";
     let mut streams = Streams {
-        replies: printed.as_slice(),
+        replies: Heard::new(printed.as_slice()),
         requests: Written::new(Stuck),
     };
     let mut reply = ReplyText::new();
@@ -158,7 +158,7 @@ impl Read for Halting {
 fn assert_halting_exchange(rt: &impl Abort, text: &'static [u8], wanted: Result<(), Lost>) {
     let reader = Halting { text, gives: false };
     let mut streams = Streams {
-        replies: reader,
+        replies: Heard::new(reader),
         requests: Written::new(Wanted(REQUEST, b"")),
     };
     let mut reply = ReplyText::new();

@@ -11,7 +11,7 @@ returns-in-Ok-clause-brings g c = (
       c.args.request.now c.args.self.now.opener c.opened.new.opener c.args.self.now.units c.replace-open.new.self c.replace-open.result
       c.replace-open.ensures.was c.replace-open.ensures.now c.exchange-came.result c.opened.new.reply.items c.exchange-came.new.reply.items
       c.replace.new.self c.in-Ok.streams c.exchange-came.new.self c.in-Ok.ensures.ready
-      (record { sent = c.exchange-came.ensures.sent; read = c.exchange-came.ensures.read }) c.replace.ensures.now),
+      (record { sent = c.exchange-came.ensures.sent; given = c.exchange-came.ensures.given; read = c.exchange-came.ensures.read }) c.replace.ensures.now),
   λ none. absurd (omega (arith, none, c.unit_of-unit.ensures)),
 )
 

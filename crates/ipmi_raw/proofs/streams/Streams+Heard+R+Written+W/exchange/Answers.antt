@@ -2,7 +2,7 @@ use Rattle.std.proofs.Common.{subst, sym}
 use Rattle.ipmi_output.specs.Writer.{taken_of}
 use Rattle.ipmi_raw.specs.Streams.{HandsOver}
 use Rattle.ipmi_raw.proofs.StreamLemmas.{hands_and_reads}
-use Rattle.ipmi_raw.proofs.streams.Streams+R+Written+W.exchange.Goals as goal
+use Rattle.ipmi_raw.proofs.streams.Streams+Heard+R+Written+W.exchange.Goals as goal
 
 pub returns-clause-sent : goal.returns-clause-sent
 returns-clause-sent g c =
