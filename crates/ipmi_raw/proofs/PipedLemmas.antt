@@ -9,7 +9,7 @@ use Rattle.ipmi_raw.specs.declared.streams.Streams.{Streams}
 use Rattle.ipmi_raw.specs.declared.tool.Tool.{Tool}
 use Rattle.ipmi_raw.specs.Heard.{given_of, reader_of}
 use Rattle.ipmi_raw.specs.declared.heard.Heard.{Heard}
-use Rattle.ipmi_raw.specs.Piped.{AreReady, IsExchange, IsFirst, IsOpened, IsOverUnit, Known, Openings, streams_of, with_streams}
+use Rattle.ipmi_raw.specs.Piped.{AreReady, IsExchange, IsFirst, IsOpened, IsOverUnit, Kept, Known, Openings, streams_of, with_streams}
 
 -- the streams put in last are there
 last_put : {R W : Type 0} (unit : ℕ) (one other : Option (Streams R W)) (units : Units R W)
@@ -30,16 +30,16 @@ last_put {R} {W} unit one other units = of (unit == 0) (unit == 1) (unit == 2) (
 
 -- no streams were open, so some were opened
 module _ {O R W : Type 0} {write : Ghosts W} (opens : Openings O R W) (remaining : Known R) (tool : Tool) (unit : ℕ)
-    (first : List ℕ) (opener opener' : O) (opened after : Streams (Heard R) (Written W write))
+    (first : List ℕ) (opener opener' : O) (opened after : Kept R W write)
     (is_opened : IsOpened opens unit opener opener' opened) where
-  pub ready_after : (was_open : Option (Streams (Heard R) (Written W write))) → ((s : Streams (Heard R) (Written W write)) → was_open ≢ Some s)
+  pub ready_after : (was_open : Option (Kept R W write)) → ((s : Kept R W write) → was_open ≢ Some s)
       → IsFirst remaining tool (Ok tt) first opened after
       → AreReady opens remaining tool unit was_open (Ok after) first opener opener'
   ready_after (Some s) none over = absurd (none s refl)
   ready_after None none over = (opened, is_opened, over)
 
-  pub lost_after : (was_open : Option (Streams (Heard R) (Written W write))) (lost : Lost)
-      → ((s : Streams (Heard R) (Written W write)) → was_open ≢ Some s) → IsFirst remaining tool (Err lost) first opened after
+  pub lost_after : (was_open : Option (Kept R W write)) (lost : Lost)
+      → ((s : Kept R W write) → was_open ≢ Some s) → IsFirst remaining tool (Err lost) first opened after
       → AreReady opens remaining tool unit was_open (Err (Some after)) first opener opener'
   lost_after (Some s) lost none over = absurd (none s refl)
   lost_after None lost none over = (opened, is_opened, (lost, over))
@@ -58,11 +58,11 @@ opened_so {write = write} opens unit opener opener' reader writer replies reques
 }
 
 module _ {O R W : Type 0} {write : Ghosts W} (opens : Openings O R W) (remaining : Known R) (tool : Tool) (unit : ℕ)
-    (request : List ℕ) (opener opener' : O) (old middle : Units (Heard R) (Written W write)) (was_open : Option (Streams (Heard R) (Written W write)))
+    (request : List ℕ) (opener opener' : O) (old middle : Units (Heard R) (Written W write)) (was_open : Option (Kept R W write))
     (was : was_open ≡ streams_of unit old) (out : middle ≡ with_streams unit None old) where
   -- the request was exchanged over the streams
   pub over_unit : (came : Result (Unit {0}) Lost) (first reply : List ℕ) (new : Units (Heard R) (Written W write))
-      (before after : Streams (Heard R) (Written W write))
+      (before after : Kept R W write)
       → AreReady opens remaining tool unit was_open (Ok before) first opener opener'
       → IsExchange remaining request came reply before after → new ≡ with_streams unit (Some after) middle
       → IsOverUnit opens remaining tool unit request came reply opener opener' old new
@@ -76,7 +76,7 @@ module _ {O R W : Type 0} {write : Ghosts W} (opens : Openings O R W) (remaining
   }
 
   -- the connection was lost when the streams were opened
-  pub over_none : (lost : Option (Streams (Heard R) (Written W write))) (came : Result (Unit {0}) Lost) (reply : List ℕ)
+  pub over_none : (lost : Option (Kept R W write)) (came : Result (Unit {0}) Lost) (reply : List ℕ)
       (new : Units (Heard R) (Written W write)) → IsErr came
       → AreReady opens remaining tool unit was_open (Err lost) reply opener opener' → new ≡ with_streams unit lost middle
       → IsOverUnit opens remaining tool unit request came reply opener opener' old new

@@ -31,13 +31,17 @@ with_streams unit streams units =
     if unit == 0 then record units { zero = streams } else if unit == 1 then record units { one = streams }
     else if unit == 2 then record units { two = streams } else if unit == 3 then record units { three = streams } else units
 
+-- the streams of a tool, which keep all that its output gave and all that its input was handed
+abbrev pub Kept : (R W : Type 0) → Ghosts W → Type 0
+Kept R W write = Streams (Heard R) (Written W write)
+
 -- the type of `remaining`: the bytes still to be read from a stream, if they are known
 abbrev pub Known : Type 0 → Type 0
 Known S = S → Option (List ℕ)
 
--- The tool is handed the request, as `HandsOver` says, and nothing else. The reply consists of the bytes that the tool's output gave.
+-- The tool is handed the request, as `HandsOver` says, and nothing else. The reply consists of the bytes that its output gave.
 pub record IsExchange {R W : Type 0} {write : Ghosts W} (remaining : Known R) (request : List ℕ) (came : Result (Unit {0}) Lost)
-    (reply : List ℕ) (old new : Streams (Heard R) (Written W write)) : Type 0 where
+    (reply : List ℕ) (old new : Kept R W write) : Type 0 where
   pub sent : HandsOver came request (taken_of old.requests) (taken_of new.requests)
   pub given : given_of new.replies ≡ given_of old.replies ++ reply
   pub read : Consumes (remaining (reader_of old.replies)) (remaining (reader_of new.replies)) reply
@@ -51,14 +55,14 @@ Openings O R W = O → O → ℕ → Option (R × W) → Type 0
 -- The streams of a unit just as they were opened. The tool was handed nothing yet: its input has taken only what the writer held
 -- when it was opened. Its output gave nothing yet.
 pub record IsOpened {O R W : Type 0} {write : Ghosts W} (opens : Openings O R W) (unit : ℕ) (old new : O)
-    (opened : Streams (Heard R) (Written W write)) : Type 0 where
+    (opened : Kept R W write) : Type 0 where
   pub are_opened : opens old new unit (Some (reader_of opened.replies, writer_of opened.requests))
   pub none_given : given_of opened.replies ≡ []
   pub none_sent : taken_of opened.requests ≡ unwrap_or (write.contents (writer_of opened.requests)) []
 
 -- ipmitool is first sent a request that makes it open its session: Get Device ID (IPMI v2.0, section 20.1)
 abbrev pub IsFirst : {R W : Type 0} {write : Ghosts W} → Known R → Tool → Result (Unit {0}) Lost → List ℕ
-    → Streams (Heard R) (Written W write) → Streams (Heard R) (Written W write) → Type 0
+    → Kept R W write → Kept R W write → Type 0
 IsFirst remaining Ipmitool came reply old new = IsExchange remaining (codes "raw 0x06 0x01\necho .\n") came reply old new
 IsFirst remaining FreeIpmi came reply old new = (came ≡ Ok tt) × (reply ≡ []) × (new ≡ old)
 
@@ -67,19 +71,19 @@ abbrev pub Ready : Type 0 → Type 0
 Ready S = Result S (Option S)
 
 -- the streams opened for a unit, after the first request over them
-abbrev pub AreOpened : {O R W : Type 0} {write : Ghosts W} → Openings O R W → Known R → Tool → ℕ → Ready (Streams (Heard R) (Written W write))
+abbrev pub AreOpened : {O R W : Type 0} {write : Ghosts W} → Openings O R W → Known R → Tool → ℕ → Ready (Kept R W write)
     → List ℕ → O → O → Type 0
 AreOpened {R = R} {W = W} {write = write} opens remaining tool unit (Ok streams) reply old new =
-    (opened : Streams (Heard R) (Written W write)) × IsOpened opens unit old new opened
+    (opened : Kept R W write) × IsOpened opens unit old new opened
     × IsFirst remaining tool (Ok tt) reply opened streams
 AreOpened {R = R} {W = W} {write = write} opens remaining tool unit (Err (Some streams)) reply old new =
-    (opened : Streams (Heard R) (Written W write)) × IsOpened opens unit old new opened
+    (opened : Kept R W write) × IsOpened opens unit old new opened
     × ((lost : Lost) × IsFirst remaining tool (Err lost) reply opened streams)
 AreOpened opens remaining tool unit (Err None) reply old new = opens old new unit None × (reply ≡ [])
 
 -- the streams for a request: those of the unit that are open; if there are none, some are opened
 abbrev pub AreReady : {O R W : Type 0} {write : Ghosts W} → Openings O R W → Known R → Tool → ℕ
-    → Option (Streams (Heard R) (Written W write)) → Ready (Streams (Heard R) (Written W write)) → List ℕ → O → O → Type 0
+    → Option (Kept R W write) → Ready (Kept R W write) → List ℕ → O → O → Type 0
 AreReady opens remaining tool unit (Some streams) ready reply old new = (ready ≡ Ok streams) × (new ≡ old)
 AreReady opens remaining tool unit None ready reply old new = AreOpened opens remaining tool unit ready reply old new
 
@@ -89,11 +93,11 @@ AreReady opens remaining tool unit None ready reply old new = AreOpened opens re
 pub record IsOverUnit {O R W : Type 0} {write : Ghosts W} (opens : Openings O R W) (remaining : Known R) (tool : Tool) (unit : ℕ)
     (request : List ℕ) (came : Result (Unit {0}) Lost) (reply : List ℕ) (opener opener' : O)
     (old new : Units (Heard R) (Written W write)) : Type 0 where
-  pub now : Option (Streams (Heard R) (Written W write))
+  pub now : Option (Kept R W write)
   pub others : new ≡ with_streams unit now old
-  pub ready : Ready (Streams (Heard R) (Written W write))
+  pub ready : Ready (Kept R W write)
   pub first : List ℕ
   pub are_ready : AreReady opens remaining tool unit (streams_of unit old) ready first opener opener'
   pub over : MatchResult ready
-      (λ before. (after : Streams (Heard R) (Written W write)) × (now ≡ Some after) × IsExchange remaining request came reply before after)
+      (λ before. (after : Kept R W write) × (now ≡ Some after) × IsExchange remaining request came reply before after)
       (λ lost. (now ≡ lost) × IsErr came × (reply ≡ first))

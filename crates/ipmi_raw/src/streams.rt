@@ -57,9 +57,9 @@ fn send<W: Write>(requests: &mut Written<W>, request: &[u8]) -> Result<(), Lost>
 /// The two streams of a tool.
 #[derive(Drop)]
 pub struct Streams<R, W> {
-    /// The tool's output, a `Heard`.
+    /// The tool's output, in a `Heard`.
     pub replies: R,
-    /// The tool's input, a `Written`.
+    /// The tool's input, in a `Written`.
     pub requests: W,
 }
 
