@@ -19,6 +19,10 @@ abbrev pub unit_of : Tool → ℕ → ℕ
 unit_of Ipmitool lun = lun
 unit_of FreeIpmi lun = 0
 
+-- no unit has streams
+abbrev pub no_units : {R W : Type 0} → Units R W
+no_units = record { zero = None; one = None; two = None; three = None }
+
 -- the streams of a unit, if they are open
 abbrev pub streams_of : {R W : Type 0} → ℕ → Units R W → Option (Streams R W)
 streams_of unit units =

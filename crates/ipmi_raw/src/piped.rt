@@ -5,7 +5,7 @@ ghost use Rattle.ipmi_bus.specs.Unclaimed.{calls_only};
 ghost use Rattle.ipmi_raw.specs.Peer.{Replies, request_text};
 ghost use Rattle.ipmi_raw.specs.Request.{IsRequest, lun_of};
 ghost use Rattle.ipmi_raw.specs.Streams.{IsEnded, IsNotEndedWithin};
-ghost use Rattle.ipmi_raw.specs.Piped.{AreReady, IsFirst, IsOverUnit, streams_of, unit_of, with_streams};
+ghost use Rattle.ipmi_raw.specs.Piped.{AreReady, IsFirst, IsOverUnit, no_units, streams_of, unit_of, with_streams};
 ghost use Rattle.ipmi_raw.specs.declared.request.Request.{Request};
 
 use crate::heard::Heard;
@@ -81,9 +81,11 @@ pub struct Piped<O: Open> {
 }
 
 impl<O: Open> Piped<O> {
-    /// A peer whose streams are opened by `opener`.
+    /// A peer whose streams are opened by `opener`. It opened none yet.
     pub fn new(tool: Tool, opener: O) -> Piped<O>
-        ensures { ⟦<Piped<O> as Peer>⟧.tool result ≡ tool }
+        ensures tool { ⟦<Piped<O> as Peer>⟧.tool result ≡ tool }
+        ensures opener { result.opener ≡ opener }
+        ensures units { result.units ≡ no_units }
     {
         Piped {
             tool,

@@ -1,5 +1,11 @@
-use Rattle.std.proofs.Common.{rules}
+use Rattle.std.proofs.Common.{refl}
 use Rattle.ipmi_raw.proofs.piped.Piped.new.Goals as goal
 
-pub returns : goal.returns
-returns g c = search rules
+pub returns-clause-tool : goal.returns-clause-tool
+returns-clause-tool g c = refl
+
+pub returns-clause-opener : goal.returns-clause-opener
+returns-clause-opener g c = refl
+
+pub returns-clause-units : goal.returns-clause-units
+returns-clause-units g c = refl
