@@ -8,35 +8,33 @@ use Rattle.hex.specs.declared.error.FromHexError.{FromHexError}
 use Rattle.hex.specs.Hex.{decode_of, is_hex_digit}
 use Rattle.hex.proofs.HexLemmas.{decode_of-ok}
 use Rattle.ipmi_image.specs.Below.{Shelf, Sdr, Sel}
-use Rattle.ipmi_image.specs.Prelude.{a_row, bytes_in, is_dash, LineFault, next_in, number_in, pieces, row_line, shelf_in, Line, with_two, with_three, line_of, the_end, Version}
+use Rattle.ipmi_image.specs.Prelude.{a_row, bytes_in, end_line, LineCause, is_dash, LineFault, next_in, number_in, pieces, row_line, shelf_in, Line, with_two, with_three, line_of_fields, Version}
 use Rattle.ipmi_image.proofs.TextLemmas.{Lacks, length_pieces, pieces-more, pieces-one}
 
 -- a third field is too many
-pub with_two_more : (line : List ℕ → List ℕ → Result Line LineFault) (a b rest : List ℕ)
-    → with_two line (a ∷ b ∷ pieces 32 rest) ≡ Err LineFault.Line
-with_two_more line a b rest = grind (arith, length_pieces 32 rest)
+pub with_two_more : (cause : LineCause) (line : List ℕ → List ℕ → Result Line LineFault) (a b rest : List ℕ)
+    → with_two cause line (a ∷ b ∷ pieces 32 rest) ≡ Err (LineFault.Line cause)
+with_two_more cause line a b rest = grind (arith, length_pieces 32 rest)
 
-pub with_three_two : (line : List ℕ → List ℕ → List ℕ → Result Line LineFault) (a : List ℕ)
-    (l : List (List ℕ)) → with_three line (a ∷ l) ≡ with_two (line a) l
-with_three_two line a [] = refl
-with_three_two line a (b ∷ []) = refl
-with_three_two line a (b ∷ c ∷ []) = refl
-with_three_two line a (b ∷ c ∷ d ∷ rest) = refl
+pub with_three_two : (cause : LineCause) (line : List ℕ → List ℕ → List ℕ → Result Line LineFault) (a : List ℕ)
+    (l : List (List ℕ)) → with_three cause line (a ∷ l) ≡ with_two cause (line a) l
+with_three_two cause line a [] = refl
+with_three_two cause line a (b ∷ []) = refl
+with_three_two cause line a (b ∷ c ∷ []) = refl
+with_three_two cause line a (b ∷ c ∷ d ∷ rest) = refl
 
--- a line with another first word is invalid
-pub line_of-other_word : (version : Version) (text word rest : List ℕ)
-    → pieces 32 text ≡ word ∷ pieces 32 rest → bytes_eq word (codes "sdr") ≡ false
-    → bytes_eq word (codes "sel") ≡ false → bytes_eq word (codes "fru") ≡ false
-    → bytes_eq word (codes "reading") ≡ false → bytes_eq word (codes "info") ≡ false
-    → line_of version text ≡ Err LineFault.Line
-unfolding line_of
-line_of-other_word version text word rest cut a b c d e = rw (cut, a, b, c, d, e) (by (bytes_eq word (codes "end")) (pieces 32 rest) (length_pieces 32 rest))
+-- a line `end` with fields is invalid
+pub end_has_fields : (rest : List ℕ) → end_line (pieces 32 rest) ≡ Err (LineFault.Line LineCause.EndFields)
+end_has_fields rest = by (pieces 32 rest) (length_pieces 32 rest)
   where
-    by : (t : Bool) (l : List (List ℕ)) → 0 < length l
-        → cond {A = Result Line LineFault} t (elim l [ [] ↦ Ok the_end | field ∷ more ↦ Err LineFault.Line ]) (Err LineFault.Line) ≡ Err LineFault.Line
-    by false l some = refl
-    by true [] some = absurd (omega (arith, some))
-    by true (field ∷ l) some = refl
+    by : (l : List (List ℕ)) → 0 < length l → end_line l ≡ Err (LineFault.Line LineCause.EndFields)
+    by [] some = absurd (omega (arith, some))
+    by (field ∷ l) some = refl
+
+-- with one empty field a line that is not `end` has the fault that it has with none
+pub with_empty_field : (version : Version) (word : List ℕ) → bytes_eq word (codes "end") ≡ false
+    → line_of_fields version (word ∷ pieces 32 []) ≡ line_of_fields version (word ∷ [])
+with_empty_field version word other = rw (pieces-one 32 [] (All-nil (λ (b : ℕ). nat_eq b 32 ≡ false)), other) refl
 
 -- ---- rows that are cut at the positions of their spaces
 
@@ -55,14 +53,14 @@ is_some-map f (Some x) some = refl
 is_some-map f None some = some
 
 -- the fields of a row that is read are present
-row_parts : (shelf : Shelf) (fit : Bool) (id : Option ℕ) (next : Option (Option ℕ)) (bytes : Option (List ℕ)) (line : Line)
-    → cond fit (ok_or (option_and_then (λ i. option_and_then (λ n. option_map (λ b. a_row shelf (record { id = i; next = n; bytes = b })) bytes) next) id) LineFault.Hex) (Err LineFault.Line) ≡ Ok line
+row_parts : (shelf : Shelf) (fit : Bool) (a b : LineFault) (id : Option ℕ) (next : Option (Option ℕ)) (bytes : Option (List ℕ)) (line : Line)
+    → cond fit (ok_or (option_and_then (λ i. option_and_then (λ n. option_map (λ b. a_row shelf (record { id = i; next = n; bytes = b })) bytes) next) id) a) (Err b) ≡ Ok line
     → (is_some id ≡ true) × (is_some next ≡ true) × (is_some bytes ≡ true)
-row_parts shelf true (Some i) (Some n) (Some b) line read = (refl, refl, refl)
-row_parts shelf true None n b line read = cc read
-row_parts shelf true (Some i) None b line read = cc read
-row_parts shelf true (Some i) (Some n) None line read = cc read
-row_parts shelf false i n b line read = cc read
+row_parts shelf true e e' (Some i) (Some n) (Some b) line read = (refl, refl, refl)
+row_parts shelf true e e' None n b line read = cc read
+row_parts shelf true e e' (Some i) None b line read = cc read
+row_parts shelf true e e' (Some i) (Some n) None line read = cc read
+row_parts shelf false e e' i n b line read = cc read
 
 next_lacks_space : (next : List ℕ) → is_some (next_in next) ≡ true → Lacks 32 next
 next_lacks_space next are = by (is_dash next) refl are
@@ -75,9 +73,9 @@ next_lacks_space next are = by (is_dash next) refl are
 -- a row that is read has three fields
 pub row_has_three : (version : Version) (shelf : Shelf) (id next hex : List ℕ) (line : Line)
     → row_line version shelf id next hex ≡ Ok line
-    → with_three (row_line version shelf) (pieces 32 (id ++ 32 ∷ (next ++ 32 ∷ hex))) ≡ Ok line
+    → with_three LineCause.RowFields (row_line version shelf) (pieces 32 (id ++ 32 ∷ (next ++ 32 ∷ hex))) ≡ Ok line
 row_has_three version shelf id next hex line read =
-    let parts = row_parts shelf _ (number_in 2 id) (next_in next) (bytes_in hex) line read in
+    let parts = row_parts shelf _ _ _ (number_in 2 id) (next_in next) (bytes_in hex) line read in
     rw (pieces-more 32 id (next ++ 32 ∷ hex) (lacks_space id (is_some-map _ (bytes_in id) parts.0)), pieces-more 32 next hex (next_lacks_space next parts.1), pieces-one 32 hex (lacks_space hex parts.2)) read
 
 -- ---- the first word of a row

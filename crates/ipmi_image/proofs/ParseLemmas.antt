@@ -11,7 +11,7 @@ use Rattle.byteorder.specs.Numbers.{length-bytes_high_first, big_number-reads_ba
 use Rattle.hex.specs.Hex.{IsBytes, encode_lower, encode_with, decode_pairs, lower_digits}
 use Rattle.hex.proofs.HexLemmas.{decode_of-encode_lower, length-encode_with}
 use Rattle.ipmi_image.specs.Below.{Shelf, Sdr, Sel, AreBytes, Row, whole_len, IsRow, SensorReading, IsInfo, IsSensorReading}
-use Rattle.ipmi_image.specs.Prelude.{pieces, SavedRow, a_row, an_inventory, a_reading, an_info, is_some_text, bytes_in, number_in, next_in, is_dash, row_line, LineFault, line_of_fields, line_of, hex_of, next_field, row_fields, part_fields, reading_fields, Version}
+use Rattle.ipmi_image.specs.Prelude.{pieces, SavedRow, a_row, an_inventory, a_reading, an_info, is_some_text, bytes_in, digits_fault, LineCause, number_in, next_in, is_dash, row_line, LineFault, line_of_fields, line_of, hex_of, next_field, row_fields, part_fields, reading_fields, Version}
 use Rattle.ipmi_image.proofs.RewriteLemmas.{of_lun, drop_hex_of_lun}
 use Rattle.ipmi_image.proofs.TextLemmas.{Lacks, pieces-one, pieces-more}
 
@@ -161,7 +161,7 @@ line_of_fields-info shelf bytes ok = let len = ok.len in by shelf ∙ rw (bytes_
   where
     by : (s : Shelf) → line_of_fields Version.Two (codes "info" ∷ word_of s ∷ encode_lower bytes ∷ [])
         ≡ (if is_some_text (encode_lower bytes)
-        then ok_or (option_map (λ b. an_info s b) (bytes_in (encode_lower bytes))) LineFault.Hex
-        else Err LineFault.Line)
+        then ok_or (option_map (λ b. an_info s b) (bytes_in (encode_lower bytes))) (digits_fault (encode_lower bytes))
+        else Err (LineFault.Line LineCause.InfoFields))
     by Sdr = refl
     by Sel = refl

@@ -13,7 +13,7 @@ use Rattle.hex.specs.declared.error.FromHexError.{FromHexError}
 use Rattle.hex.specs.Hex.{decode_of}
 use Rattle.hex.proofs.HexLemmas.{decode_of-ok}
 use Rattle.ipmi_image.specs.Below.{Shelf, Sdr, Sel, AreBytes, Store, Inventory, SensorReading, IsShelf, IsInfo, IsStore, info_of, inventory_in}
-use Rattle.ipmi_image.specs.Prelude.{LineFault, ImageFault, pieces, Line, a_row, an_inventory, a_reading, an_info, the_end, bytes_in, number_in, with_two, with_three, row_line, inventory_line, reading_line, info_line, line_of_fields, line_of, chained, row_on, info_on, info_fault, with_inventory_line, sensor_on, reading_of_bytes, store_of_lines, fault_in, line_judged, is_end, ends_here, store_after, store_of_pieces, store_of_image, StoredSensor, sensor_of, AreInventories, AreReadings, IsSaved, Version}
+use Rattle.ipmi_image.specs.Prelude.{LineCause, LineFault, ImageFault, pieces, Line, a_row, an_inventory, a_reading, an_info, the_end, bytes_in, end_line, number_in, with_two, with_three, row_line, inventory_line, reading_line, info_line, line_of_fields, line_of, chained, row_on, info_on, info_fault, with_inventory_line, sensor_on, reading_of_bytes, store_of_lines, fault_in, line_judged, is_end, ends_here, store_after, store_of_pieces, store_of_image, StoredSensor, sensor_of, AreInventories, AreReadings, IsSaved, Version}
 use Rattle.ipmi_image.proofs.ParseLemmas.{IsBytes-from_AreBytes}
 use Rattle.ipmi_image.proofs.ReadLemmas.{after_line}
 use Rattle.ipmi_image.proofs.ShelfLemmas.{shelf_with}
@@ -62,17 +62,17 @@ reading_line-said a b c = grind (arith, number_in-lt 1 (48 ∷ a), number_in-lt 
 info_line-said : (a b : List ℕ) → IfOk (info_line a b) IsSaid
 info_line-said a b = grind (arith, bytes_in-bytes b)
 
-with_two-said : (line : List ℕ → List ℕ → Result Line LineFault)
+with_two-said : (cause : LineCause) (line : List ℕ → List ℕ → Result Line LineFault)
     → ((a b : List ℕ) → IfOk (line a b) IsSaid) → (fields : List (List ℕ))
-    → IfOk (with_two line fields) IsSaid
-with_two-said line h (a ∷ b ∷ []) = h a b
-with_two-said line h _ = tt
+    → IfOk (with_two cause line fields) IsSaid
+with_two-said cause line h (a ∷ b ∷ []) = h a b
+with_two-said cause line h _ = tt
 
-with_three-said : (line : List ℕ → List ℕ → List ℕ → Result Line LineFault)
+with_three-said : (cause : LineCause) (line : List ℕ → List ℕ → List ℕ → Result Line LineFault)
     → ((a b c : List ℕ) → IfOk (line a b c) IsSaid) → (fields : List (List ℕ))
-    → IfOk (with_three line fields) IsSaid
-with_three-said line h (a ∷ b ∷ c ∷ []) = h a b c
-with_three-said line h _ = tt
+    → IfOk (with_three cause line fields) IsSaid
+with_three-said cause line h (a ∷ b ∷ c ∷ []) = h a b c
+with_three-said cause line h _ = tt
 
 line_of_fields-said : (version : Version) (fields : List (List ℕ))
     → IfOk (line_of_fields version fields) IsSaid
@@ -81,16 +81,16 @@ line_of_fields-said version (word ∷ fields) =
     by (bytes_eq word (codes "sdr")) (bytes_eq word (codes "sel")) (bytes_eq word (codes "fru"))
     (bytes_eq word (codes "reading")) (bytes_eq word (codes "info")) (bytes_eq word (codes "end"))
   where
-    by : (a b c d e f : Bool) → IfOk (cond a (with_three (row_line version Sdr) fields)
-        (cond b (with_three (row_line version Sel) fields)
-        (cond c (with_two inventory_line fields)
-        (cond d (with_three reading_line fields)
-        (cond e (with_two info_line fields) (cond f (elim fields [ [] ↦ Ok the_end | field ∷ more ↦ Err LineFault.Line ]) (Err LineFault.Line))))))) IsSaid
-    by true b c d e f = with_three-said (row_line version Sdr) (row_line-said version Sdr) fields
-    by false true c d e f = with_three-said (row_line version Sel) (row_line-said version Sel) fields
-    by false false true d e f = with_two-said inventory_line inventory_line-said fields
-    by false false false true e f = with_three-said reading_line reading_line-said fields
-    by false false false false true f = with_two-said info_line info_line-said fields
+    by : (a b c d e f : Bool) → IfOk (cond a (with_three LineCause.RowFields (row_line version Sdr) fields)
+        (cond b (with_three LineCause.RowFields (row_line version Sel) fields)
+        (cond c (with_two LineCause.InventoryFields inventory_line fields)
+        (cond d (with_three LineCause.ReadingFields reading_line fields)
+        (cond e (with_two LineCause.InfoFields info_line fields) (cond f (end_line fields) (Err (LineFault.Line LineCause.FirstWord)))))))) IsSaid
+    by true b c d e f = with_three-said LineCause.RowFields (row_line version Sdr) (row_line-said version Sdr) fields
+    by false true c d e f = with_three-said LineCause.RowFields (row_line version Sel) (row_line-said version Sel) fields
+    by false false true d e f = with_two-said LineCause.InventoryFields inventory_line inventory_line-said fields
+    by false false false true e f = with_three-said LineCause.ReadingFields reading_line reading_line-said fields
+    by false false false false true f = with_two-said LineCause.InfoFields info_line info_line-said fields
     by false false false false false f = grind arith
 
 line_of-said : (version : Version) (text : List ℕ) → IfOk (line_of version text) IsSaid

@@ -151,8 +151,8 @@ line_judged version before text =
 -- a line's fault with the line's number, counted from 1; out of memory has no number
 abbrev pub at_line : ℕ → LineFault → ImageFault
 at_line n LineFault.Memory = ImageFault.Memory
-at_line n LineFault.Line = ImageFault.Line n
-at_line n LineFault.Hex = ImageFault.Hex n
+at_line n (LineFault.Line cause) = ImageFault.Line n
+at_line n (LineFault.Hex cause) = ImageFault.Hex n
 at_line n LineFault.Id = ImageFault.Id n
 at_line n LineFault.Twice = ImageFault.Twice n
 at_line n LineFault.Length = ImageFault.Length n

@@ -1,5 +1,6 @@
 pub mod Below
 pub mod Built
+pub mod Cause
 pub mod Controllers
 pub mod Image
 pub mod Line

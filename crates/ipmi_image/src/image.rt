@@ -62,8 +62,8 @@ impl LineFault {
     {
         match self {
             LineFault::Memory => ImageFault::Memory,
-            LineFault::Line => ImageFault::Line(line),
-            LineFault::Hex => ImageFault::Hex(line),
+            LineFault::Line(_) => ImageFault::Line(line),
+            LineFault::Hex(_) => ImageFault::Hex(line),
             LineFault::Id => ImageFault::Id(line),
             LineFault::Twice => ImageFault::Twice(line),
             LineFault::Length => ImageFault::Length(line),

@@ -1,9 +1,11 @@
 //! Reads one line of an image.
+ghost use Rattle.ipmi_image.specs.declared.cause.LineCause.{LineCause};
 ghost use Rattle.ipmi_image.specs.declared.image_line.LineFault.{LineFault};
-ghost use Rattle.std.specs.Prelude.{◌≡◌, ℕ, List, ◌==◌, ◌&&◌, ◌||◌, [], ◌∷◌, ◌++◌, ◌≢◌, IfSome, MatchBool, MatchOption, IsTrue, Some, None, Ok, Err, ok_or, length};
-ghost use Rattle.ipmi_image.specs.Prelude.{pieces, is_dash, next_in, shelf_in, with_two, with_three, row_line, inventory_line, reading_line, info_line, line_of, is_end, said, IsRead};
+ghost use Rattle.std.specs.Prelude.{◌≡◌, ℕ, List, ◌==◌, ◌||◌, [], ◌∷◌, ◌++◌, ◌≢◌, IfSome, MatchBool, MatchOption, IsTrue, Some, None, Ok, Err, length};
+ghost use Rattle.ipmi_image.specs.Prelude.{pieces, is_dash, next_in, shelf_in, row_cause, with_two, with_three, row_line, inventory_line, reading_line, info_line, line_of, line_of_fields, is_end, said, IsRead};
 
-use crate::text::{cut, cut_at, read_bytes, read_digit, read_u8, read_u16};
+use crate::cause::LineCause;
+use crate::text::{cut, cut_at, digits_fault, read_bytes, read_digit, read_u8, read_u16};
 use crate::version::Version;
 use ipmi_bus::Shelf;
 use std::alloc::AllocError;
@@ -12,8 +14,8 @@ use std::alloc::AllocError;
 #[derive(Clone, Copy)]
 pub(crate) enum LineFault {
     Memory,
-    Line,
-    Hex,
+    Line(LineCause),
+    Hex(LineCause),
     Id,
     Twice,
     Length,
@@ -85,8 +87,9 @@ fn first_word(line: &[u8]) -> Option<(&[u8], &[u8])>
 
 /// The two fields, if there are exactly two.
 fn two(fields: &[u8]) -> Option<(&[u8], &[u8])>
-    ensures { MatchOption result ((line : _) → with_two line (pieces 32 fields.now) ≡ Err
-        LineFault.Line) (λ t. pieces 32 fields.now ≡ t.0.now ∷ t.1.now ∷ []) }
+    ensures { MatchOption result
+        ((cause : LineCause) (line : _) → with_two cause line (pieces 32 fields.now) ≡ Err (LineFault.Line cause))
+        (λ t. pieces 32 fields.now ≡ t.0.now ∷ t.1.now ∷ []) }
 {
     let (first, second) = cut(fields, b' ')?;
     match cut(second, b' ') {
@@ -98,8 +101,9 @@ fn two(fields: &[u8]) -> Option<(&[u8], &[u8])>
 /// The three fields, if there are exactly three.
 #[tactic(auto, using(crate::proofs::LineLemmas::with_three_two))]
 fn three(fields: &[u8]) -> Option<(&[u8], &[u8], &[u8])>
-    ensures { MatchOption result ((line : _) → with_three line (pieces 32 fields.now) ≡ Err
-        LineFault.Line) (λ t. pieces 32 fields.now ≡ t.0.now ∷ t.1.now ∷ t.2.now ∷ []) }
+    ensures { MatchOption result
+        ((cause : LineCause) (line : _) → with_three cause line (pieces 32 fields.now) ≡ Err (LineFault.Line cause))
+        (λ t. pieces 32 fields.now ≡ t.0.now ∷ t.1.now ∷ t.2.now ∷ []) }
 {
     let (first, rest) = cut(fields, b' ')?;
     let (second, third) = two(rest)?;
@@ -107,15 +111,15 @@ fn three(fields: &[u8]) -> Option<(&[u8], &[u8], &[u8])>
 }
 
 /// The next id; a dash means the id of the following row.
-fn parse_next(field: &[u8]) -> Result<Option<u16>, LineFault>
+fn parse_next(field: &[u8]) -> Option<Option<u16>>
     requires { IsTrue ((length field.now == 4) || is_dash field.now) }
-    ensures { result ≡ ok_or (next_in field.now) LineFault.Hex }
+    ensures { result ≡ next_in field.now }
 {
     if matches!(field, b"-") {
-        return Ok(None);
+        return Some(None);
     }
-    let id = read_u16(field).ok_or(LineFault::Hex)?;
-    Ok(Some(id))
+    let id = read_u16(field)?;
+    Some(Some(id))
 }
 
 /// The shelf named by a word.
@@ -138,6 +142,16 @@ fn three_at_places(fields: &[u8]) -> Option<(&[u8], &[u8], &[u8])>
     Some((first, second, third))
 }
 
+/// Why a row with this NEXT has a field of a wrong length.
+fn row_cause(version: Version, next: &[u8]) -> LineCause
+    ensures { result ≡ row_cause version next.now }
+{
+    if matches!(next, b"-") && !version.takes_dashes() {
+        return LineCause::Dash;
+    }
+    LineCause::RowNumbers
+}
+
 /// Reads `ID NEXT HEX`, cut at its spaces.
 // inlined for speed: most lines of an image are rows
 #[inline(always)]
@@ -153,10 +167,10 @@ fn read_row(
 {
     let is_next = next.len() == 4 || (version.takes_dashes() && matches!(next, b"-"));
     if id.len() != 4 || !is_next || hex.is_empty() {
-        return Err(LineFault::Line);
+        return Err(LineFault::Line(row_cause(version, next)));
     }
-    let id = read_u16(id).ok_or(LineFault::Hex)?;
-    let next = parse_next(next)?;
+    let id = read_u16(id).ok_or(digits_fault(hex))?;
+    let next = parse_next(next).ok_or(digits_fault(hex))?;
     read_bytes(bytes, hex)?;
     Ok(Line::Row { shelf, id, next })
 }
@@ -168,7 +182,7 @@ fn parse_row(
     shelf: Shelf,
     fields: &[u8],
 ) -> Result<Line, LineFault>
-    ensures { IsRead (with_three (row_line version shelf) (pieces 32 fields.now)) bytes.new.items result }
+    ensures { IsRead (with_three LineCause.RowFields (row_line version shelf) (pieces 32 fields.now)) bytes.new.items result }
 {
     if let Some((id, next, hex)) = three_at_places(fields) {
         match read_row(bytes, version, shelf, id, next, hex) {
@@ -179,66 +193,61 @@ fn parse_row(
             Err(_) => {}
         }
     }
-    let (id, next, hex) = three(fields).ok_or(LineFault::Line)?;
+    let (id, next, hex) = three(fields).ok_or(LineFault::Line(LineCause::RowFields))?;
     read_row(bytes, version, shelf, id, next, hex)
 }
 
 /// Reads `ID HEX` after `fru`.
 fn parse_inventory(bytes: &mut Vec<u8>, fields: &[u8]) -> Result<Line, LineFault>
-    ensures { IsRead (with_two inventory_line (pieces 32 fields.now)) bytes.new.items result }
+    ensures { IsRead (with_two LineCause.InventoryFields inventory_line (pieces 32 fields.now)) bytes.new.items result }
 {
-    let (id, hex) = two(fields).ok_or(LineFault::Line)?;
+    let (id, hex) = two(fields).ok_or(LineFault::Line(LineCause::InventoryFields))?;
     if id.len() != 2 || hex.is_empty() {
-        return Err(LineFault::Line);
+        return Err(LineFault::Line(LineCause::InventoryNumber));
     }
-    let id = read_u8(id).ok_or(LineFault::Hex)?;
+    let id = read_u8(id).ok_or(digits_fault(hex))?;
     read_bytes(bytes, hex)?;
     Ok(Line::Inventory(id))
 }
 
 /// Reads `LUN NUM HEX8` after `reading`.
 fn parse_reading(bytes: &mut Vec<u8>, fields: &[u8]) -> Result<Line, LineFault>
-    ensures { IsRead (with_three reading_line (pieces 32 fields.now)) bytes.new.items result }
+    ensures { IsRead (with_three LineCause.ReadingFields reading_line (pieces 32 fields.now)) bytes.new.items result }
 {
-    let (lun, number, hex) = three(fields).ok_or(LineFault::Line)?;
+    let (lun, number, hex) = three(fields).ok_or(LineFault::Line(LineCause::ReadingFields))?;
     if lun.len() != 1 || number.len() != 2 || hex.is_empty() {
-        return Err(LineFault::Line);
+        return Err(LineFault::Line(LineCause::ReadingNumbers));
     }
-    let lun = read_digit(lun).ok_or(LineFault::Hex)?;
-    let number = read_u8(number).ok_or(LineFault::Hex)?;
+    let lun = read_digit(lun).ok_or(digits_fault(hex))?;
+    let number = read_u8(number).ok_or(digits_fault(hex))?;
     read_bytes(bytes, hex)?;
     Ok(Line::Reading { lun, number })
 }
 
 /// Reads `sdr HEX28` or `sel HEX28` after `info`.
 fn parse_info(bytes: &mut Vec<u8>, fields: &[u8]) -> Result<Line, LineFault>
-    ensures { IsRead (with_two info_line (pieces 32 fields.now)) bytes.new.items result }
+    ensures { IsRead (with_two LineCause.InfoFields info_line (pieces 32 fields.now)) bytes.new.items result }
 {
-    let (word, hex) = two(fields).ok_or(LineFault::Line)?;
-    let shelf = parse_shelf(word).ok_or(LineFault::Line)?;
+    let fault = LineFault::Line(LineCause::InfoFields);
+    let (word, hex) = two(fields).ok_or(fault)?;
+    let shelf = parse_shelf(word).ok_or(fault)?;
     if hex.is_empty() {
-        return Err(LineFault::Line);
+        return Err(fault);
     }
     read_bytes(bytes, hex)?;
     Ok(Line::Info(shelf))
 }
 
-/// Reads a line (without its line feed), and stores the bytes of its last field in `bytes`. In version 2 a row's NEXT
-/// may be a dash.
-#[tactic(auto, using(crate::proofs::TextLemmas::length_pieces), unfolding(crate::specs::Line::line_of))]
-pub(crate) fn read_line(
+/// Reads a line with this first word and these fields, of which there is at least one.
+#[tactic(auto, using(crate::proofs::LineLemmas::end_has_fields))]
+fn parse_fields(
     bytes: &mut Vec<u8>,
     version: Version,
-    line: &[u8],
+    word: &[u8],
+    fields: &[u8],
 ) -> Result<Line, LineFault>
-    ensures { IsRead (line_of version line.now) bytes.new.items result }
+    ensures { IsRead (line_of_fields version (word.now ∷ pieces 32 fields.now)) bytes.new.items result }
 {
-    let Some((word, fields)) = first_word(line) else {
-        if matches!(line, b"end") {
-            return Ok(Line::End);
-        }
-        return Err(LineFault::Line);
-    };
     // a match on these words would have 18 default arms, each with its own goal
     if word == b"sdr".as_slice() {
         parse_row(bytes, version, Shelf::Sdr, fields)
@@ -250,7 +259,29 @@ pub(crate) fn read_line(
         parse_reading(bytes, fields)
     } else if word == b"info".as_slice() {
         parse_info(bytes, fields)
+    } else if word == b"end".as_slice() {
+        Err(LineFault::Line(LineCause::EndFields))
     } else {
-        Err(LineFault::Line)
+        Err(LineFault::Line(LineCause::FirstWord))
     }
+}
+
+/// Reads a line (without its line feed), and stores the bytes of its last field in `bytes`. In version 2 a row's NEXT
+/// may be a dash.
+#[tactic(auto, using(crate::proofs::LineLemmas::with_empty_field), unfolding(crate::specs::Line::line_of))]
+pub(crate) fn read_line(
+    bytes: &mut Vec<u8>,
+    version: Version,
+    line: &[u8],
+) -> Result<Line, LineFault>
+    ensures { IsRead (line_of version line.now) bytes.new.items result }
+{
+    if let Some((word, fields)) = first_word(line) {
+        return parse_fields(bytes, version, word, fields);
+    }
+    if line == b"end".as_slice() {
+        return Ok(Line::End);
+    }
+    // one empty field is as wrong as none
+    parse_fields(bytes, version, line, b"")
 }

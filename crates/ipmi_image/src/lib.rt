@@ -2,6 +2,7 @@
 #![tactic(auto)]
 
 mod builder;
+mod cause;
 mod contents;
 mod controller;
 mod digits;
@@ -21,6 +22,7 @@ mod text;
 mod version;
 
 pub use builder::ImageBuilder;
+pub use cause::{Beginning, FaultCause, LineCause, RuleCause, fault_cause};
 pub use controller::ImageController;
 pub use image::{Image, ImageFault};
 pub use line_buffer::{LineBuffer, record_line};

@@ -1,7 +1,8 @@
 //! Lines of a text and fields of a line, over the borrowed bytes, and numbers in hex.
 ghost use Rattle.std.specs.Prelude.{◌≡◌, ◌⊎◌, [], ◌∷◌, ◌++◌, ◌<◌, MatchOption, MatchResult, IfSome, Some, None, length};
-ghost use Rattle.ipmi_image.specs.Prelude.{pieces, bytes_in, number_in};
+ghost use Rattle.ipmi_image.specs.Prelude.{pieces, bytes_in, digits_fault, number_in};
 
+use crate::cause::LineCause;
 use crate::digits::read_pairs;
 use crate::image_line::LineFault;
 use memchr::memchr;
@@ -54,19 +55,30 @@ pub(crate) fn read_digit(digit: &[u8]) -> Option<u8>
     read_u8(&[b'0', digit[0]])
 }
 
+/// The fault of a line with this HEX if one of its fields is not read as hex.
+pub(crate) fn digits_fault(hex: &[u8]) -> LineFault
+    ensures { result ≡ digits_fault hex.now }
+{
+    if hex.len() % 2 == 0 {
+        LineFault::Hex(LineCause::NotHex)
+    } else {
+        LineFault::Hex(LineCause::OddDigits)
+    }
+}
+
 /// Reads bytes from pairs of hex digits.
 // inlined for speed: it reads most of an image
 #[inline(always)]
 pub(crate) fn read_bytes(bytes: &mut Vec<u8>, digits: &[u8]) -> Result<(), LineFault>
     ensures { MatchResult result (λ done. bytes_in digits.now ≡ Some bytes.new.items)
-        (λ e. (e ≡ LineFault.Memory) ⊎ ((e ≡ LineFault.Hex) × (bytes_in digits.now ≡ None))) }
+        (λ e. (e ≡ LineFault.Memory) ⊎ ((e ≡ digits_fault digits.now) × (bytes_in digits.now ≡ None))) }
 {
     if digits.len() % 2 != 0 {
-        return Err(LineFault::Hex);
+        return Err(digits_fault(digits));
     }
     bytes.resize(digits.len() / 2, 0)?;
     if !read_pairs(digits, bytes) {
-        return Err(LineFault::Hex);
+        return Err(digits_fault(digits));
     }
     Ok(())
 }
