@@ -1,6 +1,7 @@
 pub mod AgainLemmas
 pub mod AppendLemmas
 pub mod BuildLemmas
+pub mod CauseLemmas
 pub mod DigitLemmas
 pub mod LineLemmas
 pub mod ParseLemmas

@@ -41,7 +41,7 @@ pub lines_after : (version : Version) (before : List Line) (all text after : Lis
 lines_after version before all text after r given cut line was = sym was ∙ ap (store_after version before) cut ∙ store_after_line version before text after ∙ ap (after_line version before (pieces 10 after)) line
 
 -- the line if it has no fault, otherwise the fault
-abbrev unless_fault : Option LineFault → Line → Result Line LineFault
+abbrev pub unless_fault : Option LineFault → Line → Result Line LineFault
 unless_fault None line = Ok line
 unless_fault (Some fault) line = Err fault
 

@@ -1,5 +1,5 @@
 -- Which rule a faulty image breaks.
-use Rattle.std.specs.Prelude.{ℕ, ◌-◌, ◌==◌, ◌&&◌, ◌||◌, nat_eq, nat_lt, Bool, true, if◌then◌else◌, Option, Some, None, Result, Ok, Err, List, [], ◌∷◌, codes, length, option_map, slice_get, slice_index, unwrap_or}
+use Rattle.std.specs.Prelude.{◌≡◌, ℕ, ◌-◌, ◌==◌, ◌&&◌, ◌||◌, nat_eq, nat_lt, Bool, true, if◌then◌else◌, Option, Some, None, Result, Ok, Err, IfErr, is_some, List, [], ◌∷◌, codes, length, option_map, slice_get, slice_index, unwrap_or}
 use Rattle.std.specs.List.{ends_with, list_any, starts_with}
 use Rattle.ipmi_image.specs.Below.{Sdr, Sel}
 use Rattle.ipmi_image.specs.declared.cause.Beginning.{Beginning}
@@ -11,7 +11,7 @@ use Rattle.ipmi_image.specs.declared.image.ImageFault.{ImageFault}
 use Rattle.ipmi_image.specs.declared.version.Version.{Version}
 use Rattle.ipmi_image.specs.Text.{pieces}
 use Rattle.ipmi_image.specs.Line.{Line, a_row, an_inventory, a_reading, an_info, the_end, line_of}
-use Rattle.ipmi_image.specs.Image.{version_in}
+use Rattle.ipmi_image.specs.Image.{store_of_image, version_in}
 
 -- ---- no image at all
 
@@ -143,3 +143,10 @@ cause_of bytes (ImageFault.FirstId n) = Some (FaultCause.Rule RuleCause.FirstId)
 cause_of bytes ImageFault.NoEnd = Some (FaultCause.Rule (ending_cause bytes))
 cause_of bytes (ImageFault.AfterEnd n) = Some (FaultCause.Rule RuleCause.AfterEnd)
 cause_of bytes (ImageFault.TooMany n) = Some (FaultCause.Rule RuleCause.TooManyBytes)
+
+-- ---- a law
+
+-- each fault of an image has a cause
+abbrev pub EachFaultHasACause : Type 0
+EachFaultHasACause =
+    (bytes : List ℕ) → IfErr (store_of_image bytes) (λ fault. is_some (cause_of bytes fault) ≡ true)

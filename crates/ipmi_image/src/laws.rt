@@ -1,5 +1,5 @@
 //! Laws of images. Each law is the contract of an empty function.
-ghost use Rattle.ipmi_image.specs.Prelude.{ImagesGiveStores, OnlyAppendKeepsReservations, RewritingKeepsStores};
+ghost use Rattle.ipmi_image.specs.Prelude.{EachFaultHasACause, ImagesGiveStores, OnlyAppendKeepsReservations, RewritingKeepsStores};
 
 /// The store of an image's bytes is well formed.
 pub fn images_give_stores()
@@ -15,4 +15,10 @@ pub fn rewriting_keeps_stores()
 /// A mood that replaces the image of a `Scripted` cancels both reservations, unless it is `Append`.
 pub fn only_append_keeps_reservations()
     ensures { OnlyAppendKeepsReservations }
+{}
+
+/// Each fault of an image has a cause.
+#[tactic(auto, using(crate::proofs::CauseLemmas::image_has_cause))]
+pub fn each_fault_has_a_cause()
+    ensures { EachFaultHasACause }
 {}
