@@ -1,9 +1,9 @@
 pub mod Asked
 pub mod Captured
+pub mod Causes
 pub mod FaultLines
 pub mod Labels
 pub mod Live
-pub mod Looks
 pub mod Misplaced
 pub mod Objects
 pub mod Own

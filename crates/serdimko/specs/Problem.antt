@@ -17,11 +17,12 @@ use Rattle.ipmi_output.specs.declared.failure.Failure.{Failure}
 use Rattle.ipmi_program.specs.Input.{input_fault_words}
 use Rattle.ipmi_commands.specs.Prelude.{AnswersJob, change, job_of_command_in, Runs}
 use Rattle.ipmi_commands.specs.declared.job.Wording.{Wording}
+use Rattle.ipmi_image.specs.Cause.{cause_of}
+use Rattle.ipmi_image.specs.declared.cause.FaultCause.{FaultCause}
 use Rattle.ipmi_image.specs.Image.{store_of_image}
 use Rattle.ipmi_program.specs.Printing.{EndsBy, IsHandedOn}
 use Rattle.ipmi_program.specs.declared.input.InputFault.{InputFault}
-use Rattle.serdimko.specs.Looks.{explanation, looks_in}
-use Rattle.serdimko.specs.declared.looks.Looks.{Looks}
+use Rattle.serdimko.specs.Causes.{cause_words}
 use Rattle.serdimko.specs.declared.problem.Problem.{Problem}
 use Rattle.serdimko.specs.Watch.{faults_in, lines_in}
 use Rattle.serdimko.specs.declared.watch.Watch.{Watch}
@@ -33,21 +34,21 @@ abbrev pub output_problem : Bool → Problem
 output_problem true = Problem.Closed
 output_problem false = Problem.Failed Failure.WriteFault
 
--- the problem of a run, from its ending, the appearance of input that is not an image, whether it printed faults that matter, and
+-- the problem of a run, from its ending, the rule that input breaks which is not an image, whether it printed faults that matter, and
 -- whether the output was closed
-abbrev pub problem_of : Ending → Looks → Bool → Bool → Option Problem
-problem_of (Err Failure.WriteFault) looks faulty closed = Some (output_problem closed)
-problem_of (Err (Failure.Image ImageFault.Memory)) looks faulty closed =
+abbrev pub problem_of : Ending → Option FaultCause → Bool → Bool → Option Problem
+problem_of (Err Failure.WriteFault) cause faulty closed = Some (output_problem closed)
+problem_of (Err (Failure.Image ImageFault.Memory)) cause faulty closed =
     Some (Problem.Failed Failure.OutOfMemory)
-problem_of (Err (Failure.Image fault)) looks faulty closed = Some (Problem.NoImage fault looks)
-problem_of (Err failure) looks faulty closed = Some (Problem.Failed failure)
-problem_of (Ok done) looks true closed = Some Problem.Faulty
-problem_of (Ok done) looks false closed = None
+problem_of (Err (Failure.Image fault)) cause faulty closed = Some (Problem.NoImage fault cause)
+problem_of (Err failure) cause faulty closed = Some (Problem.Failed failure)
+problem_of (Ok done) cause true closed = Some Problem.Faulty
+problem_of (Ok done) cause false closed = None
 
--- what input looks like after a run with this ending, if it is no image
-abbrev pub looks_of : List ℕ → Ending → Looks
-looks_of bytes (Err (Failure.Image fault)) = looks_in bytes fault
-looks_of bytes ending = Looks.Unknown
+-- the rule that input breaks, after a run with this ending; None if it is an image, or if memory ran out
+abbrev pub IsCause : List ℕ → Ending → Option FaultCause → Type 0
+IsCause bytes (Err (Failure.Image fault)) cause = (cause ≡ None) ⊎ (cause ≡ cause_of bytes fault)
+IsCause bytes ending cause = cause ≡ None
 
 -- input that was not read
 abbrev pub unread : InputFault → Problem
@@ -82,8 +83,8 @@ unread_text name fault =
 
 abbrev pub problem_text : List ℕ → Bool → Problem → List ℕ
 problem_text name is_one (Problem.Unread fault) = unread_text name fault
-problem_text name is_one (Problem.NoImage fault looks) =
-    image_problem name (fault_line fault) (fault_words fault ++ explanation fault looks)
+problem_text name is_one (Problem.NoImage fault cause) =
+    image_problem name (fault_line fault) (fault_words fault ++ cause_words cause)
 problem_text name is_one (Problem.Failed Failure.WriteFault) = failure_text Failure.WriteFault
 problem_text name is_one (Problem.Failed failure) = named_text is_one name (failure_text failure)
 problem_text name is_one (Problem.Lost said) = codes "no reply from the controller: " ++ escaped_name (string_bytes said)
@@ -96,7 +97,7 @@ problem_text name is_one Problem.Faulty =
 abbrev pub status_of_problem : Option Problem → ℕ
 status_of_problem None = 0
 status_of_problem (Some (Problem.Unread fault)) = 3
-status_of_problem (Some (Problem.NoImage fault looks)) = 3
+status_of_problem (Some (Problem.NoImage fault cause)) = 3
 status_of_problem (Some (Problem.Failed failure)) = status_of_failure failure
 status_of_problem (Some (Problem.Lost said)) = 1
 status_of_problem (Some Problem.Faulty) = 1
@@ -158,7 +159,8 @@ abbrev pub Prints : (List ℕ → Ending → Type 0) → Type 0 → Bool → Boo
     → Option Problem → Type 0
 Prints Leaves Idle faulty closed (Err fault) problem = Idle × (problem ≡ Some (unread fault))
 Prints Leaves Idle faulty closed (Ok image) problem =
-    (ending : Ending) × Leaves image.items ending × (problem ≡ problem_of ending (looks_of image.items ending) faulty closed)
+    (ending : Ending) × (cause : Option FaultCause) × Leaves image.items ending × IsCause image.items ending cause
+    × (problem ≡ problem_of ending cause faulty closed)
 
 -- the output of a command over it
 abbrev pub PrintsInput : {W : Type 0} {inner : Ghosts W} {write : Ghosts (BufWriter (Watch W inner) Global)} → Wording
@@ -190,7 +192,7 @@ PrintsLive wording command old new problem =
     × EndsBy (λ done. Runs (job_of_command_in wording command) command.tries
     (change old.seen new.seen (taken_of old.out) (taken_of new.out)) done) ending
     × IsHandedOn (held_by new.out) ending × (new.lost ≡ None → said ≡ None)
-    × (problem ≡ lost_problem said (problem_of ending Looks.Unknown (is_faulty old.out new.out) (is_closed new.out)))
+    × (problem ≡ lost_problem said (problem_of ending None (is_faulty old.out new.out) (is_closed new.out)))
 
 -- ---- the report
 

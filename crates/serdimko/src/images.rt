@@ -5,21 +5,21 @@ ghost use Rattle.ipmi_output.specs.Sink.{TakesPart};
 ghost use Rattle.ipmi_output.specs.Writer.{flush_faults};
 ghost use Rattle.ipmi_program.specs.Input.{input_name};
 ghost use Rattle.serdimko.specs.Objects.{file_of, PrintsEach, PrintsImage, PrintsObjects, PrintsRun, PrintsRuns, PrintsTexts, text_wording};
-ghost use Rattle.serdimko.specs.Problem.{faults_of, faults_of_problem, handed_on, held_by, lines_seen, looks_of, PrintsInput, RunsEach, taken_of, Tells};
+ghost use Rattle.serdimko.specs.Problem.{faults_of, faults_of_problem, handed_on, held_by, IsCause, lines_seen, PrintsInput, RunsEach, taken_of, Tells};
 
 use crate::asked::Commands;
 use crate::labels::labels_of;
-use crate::looks::Looks;
 use crate::objects::end_run;
 use crate::own::Own;
 use crate::problem::{CLOSED, Problem};
 use crate::watch::Watch;
 use ipmi_command_line::{Command, Word};
 use ipmi_commands::Wording;
+use ipmi_image::{FaultCause, fault_cause};
 use ipmi_output::Part::{Name, Text};
 use ipmi_output::{Failure, MessageSink, Sink, SinkFault, Written, say_line};
 use ipmi_program::{InputFault, input_name, print, read_input};
-use std::alloc::Global;
+use std::alloc::{AllocError, Global};
 use std::io::{BufWriter, Write};
 
 /// The output: buffered, over a writer that counts the lines with faults.
@@ -40,13 +40,16 @@ pub(crate) fn file_of(image: Option<&Word>) -> Option<&Word>
     image.filter(|file| file.as_str() != "-")
 }
 
-/// The appearance of the input, if it is not an image.
-fn looks_of(image: &[u8], ending: &Result<(), Failure<'_>>) -> Looks
-    ensures { result ≡ looks_of image.now ending.now }
+/// Which rule the input breaks, if it is not an image; None also if out of memory.
+fn cause_in(alloc: Global, image: &[u8], ending: &Result<(), Failure<'_>>) -> Option<FaultCause>
+    ensures { IsCause image.now ending.now result }
 {
     match ending {
-        Err(Failure::Image(fault)) => Looks::of(image, *fault),
-        _ => Looks::Unknown,
+        Err(Failure::Image(fault)) => match fault_cause(alloc, image, *fault) {
+            Ok(cause) => cause,
+            Err(AllocError) => None,
+        },
+        _ => None,
     }
 }
 
@@ -72,8 +75,8 @@ fn print_input<'a, W: Write + Drop>(
     let watch = out.get_ref().get_ref();
     let has_faults = watch.faults() != before;
     let is_closed = watch.is_closed();
-    let looks = looks_of(image, &ending);
-    Problem::of(ending, looks, has_faults, is_closed)
+    let cause = cause_in(alloc, image, &ending);
+    Problem::of(ending, cause, has_faults, is_closed)
 }
 
 /// Runs the command over the input with this name, and prints the line at the end of objects. Returns the problem, if it did
@@ -218,7 +221,7 @@ fn print_named<W: Write + Drop, E: MessageSink>(
         Ok(()) => print_file(rt, commands, wording, file, false, out, err),
         Err(fault) => {
             let is_closed = out.get_ref().get_ref().is_closed();
-            let problem = Problem::of(Err(Failure::from(fault)), Looks::Unknown, false, is_closed);
+            let problem = Problem::of(Err(Failure::from(fault)), None, false, is_closed);
             (say_problem(&problem, name, false, err), false)
         }
     }

@@ -9,7 +9,6 @@ ghost use Rattle.serdimko.specs.Problem.{faults_of_problem, live_state, PrintsLi
 use crate::asked::Commands;
 use crate::images::{Output, lines_of, say_problem, wording_of};
 use crate::labels::labels_of;
-use crate::looks::Looks;
 use crate::objects::end_run;
 use crate::own::Own;
 use crate::problem::Problem;
@@ -139,7 +138,7 @@ fn print_over<'a, P: Peer + Drop, K: Clock + Drop, W: Write + Drop>(
     let watch = out.get_ref().get_ref();
     let has_faults = watch.faults() != before;
     let is_closed = watch.is_closed();
-    let problem = Problem::of(ending, Looks::Unknown, has_faults, is_closed);
+    let problem = Problem::of(ending, None, has_faults, is_closed);
     // if out of memory for the tool's output, the message is that of the refusal
     let said = controller
         .lost()

@@ -6,13 +6,13 @@ ghost use Rattle.std.specs.Prelude.{◌<◌, length};
 
 mod asked;
 mod capture;
+mod causes;
 mod fault_lines;
 mod grammar;
 mod help;
 mod images;
 mod labels;
 mod live;
-mod looks;
 mod misplaced;
 mod mistake;
 mod objects;

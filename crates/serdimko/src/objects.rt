@@ -7,7 +7,6 @@ ghost use Rattle.serdimko.specs.Objects.{EndsIn, IsEndLine, message_of, PrintsEn
 ghost use Rattle.serdimko.specs.Problem.{faults_of_problem, has_room, held_by, is_closed, lines_seen, problem_text, status_of_problem, taken_of};
 
 use crate::images::{Output, lines_of};
-use crate::looks::Looks;
 use crate::problem::Problem;
 use ipmi_commands::Wording;
 use ipmi_json::{Label, end_line};
@@ -120,7 +119,7 @@ fn print_end<'a, W: Write + Drop>(
         Ok(()) => problem,
         Err(fault) => {
             let is_closed = out.get_ref().get_ref().is_closed();
-            Problem::of(Err(Failure::from(fault)), Looks::Unknown, false, is_closed)
+            Problem::of(Err(Failure::from(fault)), None, false, is_closed)
         }
     }
 }

@@ -3,9 +3,9 @@ ghost use Rattle.std.specs.Prelude.{◌≡◌, Some, true};
 ghost use Rattle.ipmi_output.specs.Failure.{joined_parts, part_text};
 ghost use Rattle.serdimko.specs.Problem.{goes_on, has_room, lost_problem, named_text, problem_of, problem_text, status_of_problem, unread};
 
-use crate::looks::{Looks, explanation};
+use crate::causes::cause_words;
 use ipmi_bus::{Ended, FruEnded};
-use ipmi_image::ImageFault;
+use ipmi_image::{FaultCause, ImageFault};
 use ipmi_output::Part::{self, Name, Number, Text};
 use ipmi_output::{Failure, fault_line, fault_words};
 use ipmi_program::InputFault;
@@ -30,8 +30,8 @@ pub(crate) const CLOSED: u8 = 141;
 pub(crate) enum Problem<'a> {
     /// It was not read.
     Unread(InputFault),
-    /// It is not an image, and looks like this.
-    NoImage(ImageFault, Looks),
+    /// It is not an image, and breaks this rule, if known.
+    NoImage(ImageFault, Option<FaultCause>),
     /// The run did not finish.
     Failed(Failure<'a>),
     /// The connection to the controller was lost, with the last output of the tool.
@@ -56,16 +56,16 @@ impl<'a> Problem<'a> {
     /// The problem, if any, of a run with this ending.
     pub(crate) fn of(
         ending: Result<(), Failure<'a>>,
-        looks: Looks,
+        cause: Option<FaultCause>,
         has_faults: bool,
         is_closed: bool,
     ) -> Option<Problem<'a>>
-        ensures { result ≡ problem_of ending.entry looks has_faults is_closed }
+        ensures { result ≡ problem_of ending.entry cause has_faults is_closed }
     {
         match ending {
             Err(Failure::WriteFault) if is_closed => Some(Problem::Closed),
             Err(Failure::Image(ImageFault::Memory)) => Some(Problem::Failed(Failure::OutOfMemory)),
-            Err(Failure::Image(fault)) => Some(Problem::NoImage(fault, looks)),
+            Err(Failure::Image(fault)) => Some(Problem::NoImage(fault, cause)),
             Err(failure) => Some(Problem::Failed(failure)),
             Ok(()) if has_faults => Some(Problem::Faulty),
             Ok(()) => None,
@@ -146,7 +146,7 @@ impl<'a> Problem<'a> {
                     none,
                 ]
             }
-            Problem::NoImage(fault, looks) => of_image(*fault, *looks, name),
+            Problem::NoImage(fault, cause) => of_image(*fault, *cause, name),
             Problem::Lost(said) => {
                 [
                     Text("no reply from the controller: "),
@@ -168,11 +168,11 @@ impl<'a> Problem<'a> {
 }
 
 /// The parts of the message for input that is not an image.
-fn of_image<'a>(fault: ImageFault, looks: Looks, name: &'a str) -> [Part<'a>; 6]
-    ensures { joined_parts result ≡ problem_text name.entry.now true (Problem.NoImage fault looks) }
+fn of_image<'a>(fault: ImageFault, cause: Option<FaultCause>, name: &'a str) -> [Part<'a>; 6]
+    ensures { joined_parts result ≡ problem_text name.entry.now true (Problem.NoImage fault cause) }
 {
     let words = Text(fault_words(fault));
-    let (none, why) = (Text(""), Text(explanation(fault, looks)));
+    let (none, why) = (Text(""), Text(cause_words(cause)));
     match fault_line(fault) {
         Some(line) => [Name(name), Text(":"), Number(line), Text(": "), words, why],
         None => [Name(name), Text(": "), words, why, none, none],
