@@ -69,11 +69,11 @@ line_of-invalid version text = line_of_fields-invalid version (pieces 32 text)
 -- ---- a line that can be read
 
 -- the line tells the cause, or none is wanted of it
-abbrev is_known : ImageFault → Result Line LineFault → Bool
-is_known ImageFault.Memory read = false
-is_known (ImageFault.FirstId n) read = true
-is_known (ImageFault.TooMany n) read = true
-is_known fault read = is_some (read_cause fault read)
+abbrev is_known : ImageFault → List ℕ → Result Line LineFault → Bool
+is_known ImageFault.Memory text read = false
+is_known (ImageFault.FirstId n) text read = true
+is_known (ImageFault.TooMany n) text read = true
+is_known fault text read = is_some (read_cause fault text read)
 
 -- what a line that was read is after earlier lines
 abbrev judged : Store → Result Line LineFault → Result Line LineFault
@@ -89,9 +89,9 @@ judged_is version before text = by (line_of version text) refl
     by (Err fault) is = line_judged-err version before text fault is
     by (Ok line) is = line_judged-found version before text line (fault_in (store_of_lines before) line) is refl
 
-module _ (n : ℕ) where
+module _ (n : ℕ) (text : List ℕ) where
   abbrev IsKnown : Line → LineFault → Type 0
-  IsKnown line fault = is_known (at_line n fault) (Ok line) ≡ true
+  IsKnown line fault = is_known (at_line n fault) text (Ok line) ≡ true
 
   row_known : (shelf : Shelf) (row : SavedRow) (a b c d : Bool)
       → IfSome (first_fault ((a, LineFault.Id) ∷ (b, LineFault.Twice) ∷ (c, LineFault.Length) ∷ (d, LineFault.FirstId) ∷ [])) (IsKnown (a_row shelf row))
@@ -134,7 +134,7 @@ module _ (n : ℕ) where
   fault_known store the_end = tt
 
   judged_known : (store : Store) (read : Result Line LineFault) → IfErr read IsInvalid
-      → IfErr (judged store read) (λ fault. is_known (at_line n fault) read ≡ true)
+      → IfErr (judged store read) (λ fault. is_known (at_line n fault) text read ≡ true)
   judged_known store (Err (LineFault.Line cause)) is = refl
   judged_known store (Err (LineFault.Hex cause)) is = refl
   judged_known store (Err LineFault.Memory) is = absurd is
@@ -146,7 +146,7 @@ module _ (n : ℕ) where
   judged_known store (Ok line) is = by (fault_in store line) (fault_known store line)
     where
       by : (f : Option LineFault) → IfSome f (IsKnown line)
-          → IfErr (unless_fault f line) (λ fault. is_known (at_line n fault) (Ok line) ≡ true)
+          → IfErr (unless_fault f line) (λ fault. is_known (at_line n fault) text (Ok line) ≡ true)
       by None known = tt
       by (Some fault) known = known
 
@@ -154,12 +154,12 @@ module _ (n : ℕ) where
 
 module _ (bytes : List ℕ) (version : Version) (first : version_in (line_at bytes 1) ≡ Some version) where
   numbered_known : (fault : ImageFault) (n : ℕ)
-      → is_some (read_cause fault (line_of version (line_at bytes n))) ≡ true
+      → is_some (read_cause fault (line_at bytes n) (line_of version (line_at bytes n))) ≡ true
       → is_some (numbered_cause bytes fault n) ≡ true
   numbered_known fault n known = grind (arith, first, known)
 
   line_known : (fault : LineFault) (n : ℕ)
-      → is_known (at_line n fault) (line_of version (line_at bytes n)) ≡ true
+      → is_known (at_line n fault) (line_at bytes n) (line_of version (line_at bytes n)) ≡ true
       → is_some (cause_of bytes (at_line n fault)) ≡ true
   line_known LineFault.Memory n known = known
   line_known (LineFault.Line cause) n known = numbered_known (ImageFault.Line n) n known
@@ -187,7 +187,7 @@ module _ (bytes : List ℕ) (version : Version) (first : version_in (line_at byt
       by (λ line. known_after (done ++ text ∷ []) (before ++ line ∷ []) (following ∷ rest) (cut ∙ sym (append_assoc done (text ∷ []) (following ∷ rest)))
       (let a = length-append done (text ∷ []) in let b = length-append before (line ∷ []) in omega (arith, a, b, len)))
       (line_judged version before text)
-      (rw (judged_is version before text) (judged_known (length before + 2) (store_of_lines before) (line_of version text) (line_of-invalid version text)))
+      (rw (judged_is version before text) (judged_known (length before + 2) text (store_of_lines before) (line_of version text) (line_of-invalid version text)))
     where
       last : (line : Line)
           → IfErr (store_after version (before ++ line ∷ []) (following ∷ rest)) HasCause
@@ -201,7 +201,7 @@ module _ (bytes : List ℕ) (version : Version) (first : version_in (line_at byt
 
       by : ((line : Line) → IfErr (store_after version (before ++ line ∷ []) (following ∷ rest)) HasCause)
           → (r : Result Line LineFault)
-          → IfErr r (λ fault. is_known (at_line (length before + 2) fault) (line_of version text) ≡ true)
+          → IfErr r (λ fault. is_known (at_line (length before + 2) fault) text (line_of version text) ≡ true)
           → IfErr (after_line version before (following ∷ rest) r) HasCause
       by more (Err fault) known = line_known fault (length before + 2) (rw (line_is done text (following ∷ rest) (length before + 2) cut (omega (arith, len))) known)
       by more (Ok line) known = last line (more line) (is_end line) (ends_here (following ∷ rest))

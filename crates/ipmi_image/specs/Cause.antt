@@ -70,8 +70,13 @@ space_cause line =
     else (if list_any (λ byte. byte == 9) line then Some LineCause.Tab
     else (if is_empty line then Some LineCause.EmptyLine
     else (if starts_with nat_eq line (32 ∷ []) then Some LineCause.LeadingSpace
-    else (if list_any is_empty (pieces 32 line) then Some LineCause.EmptyField
-    else None))))
+    else None)))
+
+-- an empty field tells more than a wrong number or length of fields
+abbrev pub field_cause : List ℕ → LineCause → LineCause
+field_cause line LineCause.FirstWord = LineCause.FirstWord
+field_cause line LineCause.EndFields = LineCause.EndFields
+field_cause line cause = if list_any is_empty (pieces 32 line) then LineCause.EmptyField else cause
 
 -- lines that can be read, by their kind
 abbrev pub id_cause : Line → Option RuleCause
@@ -104,17 +109,17 @@ rule_cause (ImageFault.Length n) line = len_cause line
 rule_cause fault line = None
 
 -- what the reader of a line says of it, if the image has this fault there
-abbrev pub read_cause : ImageFault → Result Line LineFault → Option FaultCause
-read_cause fault (Ok line) = option_map (λ cause. FaultCause.Rule cause) (rule_cause fault line)
-read_cause fault (Err (LineFault.Line cause)) = Some (FaultCause.Line cause)
-read_cause fault (Err (LineFault.Hex cause)) = Some (FaultCause.Line cause)
-read_cause fault (Err e) = None
+abbrev pub read_cause : ImageFault → List ℕ → Result Line LineFault → Option FaultCause
+read_cause fault text (Ok line) = option_map (λ cause. FaultCause.Rule cause) (rule_cause fault line)
+read_cause fault text (Err (LineFault.Line cause)) = Some (FaultCause.Line (field_cause text cause))
+read_cause fault text (Err (LineFault.Hex cause)) = Some (FaultCause.Line cause)
+read_cause fault text (Err e) = None
 
 abbrev pub line_cause : Version → ImageFault → List ℕ → Option FaultCause
 line_cause version fault text =
     elim (space_cause text) [
       | Some cause ↦ Some (FaultCause.Line cause)
-      | None ↦ read_cause fault (line_of version text)
+      | None ↦ read_cause fault text (line_of version text)
     ]
 
 -- a line, counted from 1; empty if there are not so many

@@ -1,6 +1,6 @@
 -- Re-exports the definitions of this crate that its code and proofs use. Declares nothing.
 pub use Rattle.ipmi_image.specs.Built.{empty_store, HaveNext, IsBuilt, may_follow, rows_and, saved_row, with_info, with_inventory, with_reading, with_rows}
-pub use Rattle.ipmi_image.specs.Cause.{beginning_cause, cause_of, EachFaultHasACause, ending_cause, id_cause, is_compressed, is_empty, is_raw_record, is_wide, len_cause, line_at, line_cause, numbered_cause, read_cause, rule_cause, space_cause, twice_cause}
+pub use Rattle.ipmi_image.specs.Cause.{beginning_cause, cause_of, EachFaultHasACause, ending_cause, field_cause, id_cause, is_compressed, is_empty, is_raw_record, is_wide, len_cause, line_at, line_cause, numbered_cause, read_cause, rule_cause, space_cause, twice_cause}
 pub use Rattle.ipmi_image.specs.Controllers.{after_mood, last_number, mood_turn, moods_left, next_mood, ReservesAfterMood, script_answer, script_last_number, script_seen, seen_after_mood, seen_of, StaysAfterMood, TurnCounts, Turns, OnlyAppendKeepsReservations}
 pub use Rattle.ipmi_image.specs.Image.{at_line, begins_with_another, chained, ends_here, fault_in, first_fault, first_id, first_of, ImagesGiveStores, info_fault, info_on, inventory_fault, is_end, is_no_id, is_no_record, line_judged, reading_fault, reading_of_bytes, row_fault, row_on, sensor_on, store_of_image, store_of_lines, store_of_pieces, version_in, with_bytes, with_inventory_line}
 unfoldable pub use Rattle.ipmi_image.specs.Image.{store_after}

@@ -1,7 +1,7 @@
 //! Which rule a faulty image breaks.
 ghost use Rattle.std.specs.Prelude.{◌≡◌, ℕ, List, IfOk};
 ghost use Rattle.std.specs.List.{list_any};
-ghost use Rattle.ipmi_image.specs.Prelude.{beginning_cause, cause_of, ending_cause, id_cause, is_compressed, is_empty, is_raw_record, is_wide, len_cause, line_at, line_cause, numbered_cause, pieces, rule_cause, said, space_cause, twice_cause};
+ghost use Rattle.ipmi_image.specs.Prelude.{beginning_cause, cause_of, ending_cause, field_cause, id_cause, is_compressed, is_empty, is_raw_record, is_wide, len_cause, line_at, line_cause, numbered_cause, pieces, rule_cause, said, space_cause, twice_cause};
 
 use crate::image::ImageFault;
 use crate::image_line::{Line, LineFault, read_line};
@@ -215,11 +215,21 @@ fn space_cause(line: &[u8]) -> Option<LineCause>
         Some(LineCause::EmptyLine)
     } else if line.starts_with(b" ") {
         Some(LineCause::LeadingSpace)
-    } else if has_empty_field(line) {
-        Some(LineCause::EmptyField)
     } else {
         None
     }
+}
+
+/// Why a line is invalid that the reader refuses for this cause: an empty field tells more than a wrong number or length of
+/// fields.
+fn field_cause(line: &[u8], cause: LineCause) -> LineCause
+    ensures { result ≡ field_cause line.now cause }
+{
+    let is_word = matches!(cause, LineCause::FirstWord | LineCause::EndFields);
+    if !is_word && has_empty_field(line) {
+        return LineCause::EmptyField;
+    }
+    cause
 }
 
 /// Why the line may not have its id.
@@ -292,7 +302,8 @@ fn line_cause(
     }
     match read_line(&mut Vec::new(alloc), version, line) {
         Ok(line) => Ok(rule_cause(fault, line).map(FaultCause::Rule)),
-        Err(LineFault::Line(cause) | LineFault::Hex(cause)) => Ok(Some(FaultCause::Line(cause))),
+        Err(LineFault::Line(cause)) => Ok(Some(FaultCause::Line(field_cause(line, cause)))),
+        Err(LineFault::Hex(cause)) => Ok(Some(FaultCause::Line(cause))),
         Err(LineFault::Memory) => Err(AllocError),
         Err(_) => Ok(None),
     }
