@@ -2,6 +2,7 @@
 mod answers;
 mod builders;
 mod calls;
+mod causes;
 mod faults;
 mod images;
 mod lengths;

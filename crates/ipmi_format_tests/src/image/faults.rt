@@ -17,7 +17,7 @@ fn push_lines(rt: &impl Abort, image: &mut Vec<u8>, text: &str) {
 }
 
 /// The image of two texts, one after the other.
-fn image_of(rt: &impl Abort, alloc: Global, first: &str, second: &str) -> Vec<u8> {
+pub fn image_of(rt: &impl Abort, alloc: Global, first: &str, second: &str) -> Vec<u8> {
     let mut image = Vec::new(alloc);
     push_lines(rt, &mut image, first);
     push_lines(rt, &mut image, second);
