@@ -73,6 +73,8 @@ impl<R: Drop, W: Drop> Units<R, W> {
 ///
 /// A request to `ipmi-raw` names its logical unit. `ipmitool exec` sends all its requests to one unit, so there is
 /// one such tool for each unit used. There is none for a unit above 3: a request to it loses the connection.
+///
+/// Streams stay open, even if the connection is lost over them.
 #[derive(Drop)]
 pub struct Piped<O: Open> {
     tool: Tool,
