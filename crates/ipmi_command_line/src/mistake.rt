@@ -3,7 +3,7 @@ ghost use Rattle.std.specs.Prelude.{◌≡◌};
 
 use crate::commands::{COMMANDS, CommandRow, Operand};
 use crate::error::{Hint, UsageError, next_word};
-use crate::number::digits;
+use crate::number::{digits, number};
 use clap::Error;
 use std::alloc::{AllocError, Global};
 use std::convert::AsStr;
@@ -143,7 +143,7 @@ pub(crate) fn unknown_word<'a>(
 ) -> Result<UsageError<'a>, AllocError> {
     match words {
         [] => Ok(UsageError::Missing(&[], Operand::Topic)),
-        ["image"] => Ok(UsageError::UnknownWord("", &GROUP, Hint::Word("rewrite"))),
+        ["image"] => Ok(UsageError::Missing(&GROUP, Operand::Topic)),
         ["image", word, ..] => unknown(alloc, word, &GROUP),
         [word, ..] => unknown(alloc, word, &[]),
     }
@@ -164,25 +164,50 @@ fn unknown_kind<'a>(alloc: Global, word: &'a str) -> Result<UsageError<'a>, Allo
 
 /// The word is no number that the operand may be.
 fn wrong_number<'a>(operand: Operand, word: &'a str) -> UsageError<'a> {
-    let digits_ = bare_digits(word);
-    let is_id = operand != Operand::Count
-        && digits_.len() <= 4
-        && digits(digits_, 16, 0, 0xFFFE).is_some();
-    let hint = if is_id {
-        Hint::HexId(digits_, operand)
+    let bare = bare_digits(word);
+    let id = match operand {
+        Operand::EntryId => digits(bare, 16, 1, 0xFFFE),
+        Operand::DeviceId => digits(bare, 16, 0, 0xFE),
+        _ => None,
+    };
+    let hint = if bare.len() <= 4 && id.is_some() {
+        Hint::HexId(bare, operand)
     } else {
         Hint::None
     };
     UsageError::Number(word, operand, hint)
 }
 
+/// The word before a number of entries is neither `first` nor `last`.
+fn unknown_end<'a>(
+    alloc: Global,
+    row: &CommandRow,
+    word: &'a str,
+) -> Result<UsageError<'a>, AllocError> {
+    for end in ["first", "last"] {
+        if is_near(alloc, word, end)? {
+            return Ok(UsageError::UnknownWord(word, row.0, Hint::Word(end)));
+        }
+    }
+    Ok(UsageError::Extra(word, row.0, Hint::None))
+}
+
 /// What is wrong with the number of `sel list`.
-fn count_error<'a>(row: &CommandRow, words: &[&'a str]) -> UsageError<'a> {
-    match words {
-        [] | ["first" | "last"] => UsageError::Missing(row.0, row.2),
-        ["first" | "last", _, word, ..] => UsageError::Extra(word, row.0, Hint::None),
-        ["first" | "last", word] | [word] => wrong_number(row.2, word),
-        [_, word, ..] => UsageError::Extra(word, row.0, Hint::None),
+fn count_error<'a>(
+    alloc: Global,
+    row: &CommandRow,
+    words: &[&'a str],
+) -> Result<UsageError<'a>, AllocError> {
+    let (word, rest) = match words {
+        [] | ["first" | "last"] => return Ok(UsageError::Missing(row.0, row.2)),
+        ["first" | "last", word, rest @ ..] => (word, rest),
+        [word, rest @ ..] => (word, rest),
+    };
+    let is_number = number(word, 0, u16::MAX).is_some();
+    match rest {
+        [extra, ..] if is_number => Ok(UsageError::Extra(extra, row.0, Hint::None)),
+        [_, ..] if words.first() == Some(word) => unknown_end(alloc, row, word),
+        _ => Ok(wrong_number(row.2, word)),
     }
 }
 
@@ -207,7 +232,7 @@ pub(crate) fn word_error<'a>(
     let (own, _, operand, ..) = *row;
     let after = words.get(own.len()..).unwrap_or(&[]);
     match (operand, after) {
-        (Operand::Count, _) => Ok(count_error(row, after)),
+        (Operand::Count, _) => count_error(alloc, row, after),
         (Operand::EntryId | Operand::DeviceId, _) => Ok(id_error(row, after, id)),
         (_, []) => Ok(UsageError::Missing(own, operand)),
         (Operand::Kind, [word]) => unknown_kind(alloc, word),
