@@ -1,11 +1,8 @@
-pub mod AskedLemmas
 pub mod CapturedLemmas
 pub mod FaultLemmas
 pub mod ImageLemmas
 pub mod LabelLemmas
 pub mod ObjectLemmas
-pub mod OwnLemmas
 pub mod ProblemLemmas
 pub mod RunLemmas
-pub mod ScanLemmas
 pub mod WatchLemmas

@@ -1,10 +1,9 @@
 -- The labels of objects: the name of an image that is one of several, and those of `--label`.
-use Rattle.std.specs.Prelude.{ℕ, ◌==◌, ◌∷◌, [], ◌++◌, List, Option, Some, None, codes, fold, length, option_map, if◌then◌else◌, bytes_eq}
-use Rattle.std.specs.List.{list_any}
+use Rattle.std.specs.Prelude.{ℕ, ◌==◌, ◌∷◌, [], ◌++◌, List, Option, Some, None, codes, fold, length, nat_lt, option_map, if◌then◌else◌, bytes_eq}
+use Rattle.std.specs.List.{after_first, before_first, list_any, position_or_len}
 use Rattle.ipmi_json.specs.declared.object.Label.{Label}
 use Rattle.ipmi_output.specs.Failure.{escaped_name}
 use Rattle.serdimko.specs.declared.labels.TheConstants.{KEYS}
-use Rattle.serdimko.specs.Scan.{name_in, value_in}
 
 pub record KeyValue : Type 0 where
   pub key : List ℕ
@@ -12,6 +11,15 @@ pub record KeyValue : Type 0 where
 
 abbrev pub key_value : Label → KeyValue
 key_value label = record { key = label.key.now; value = label.value.now }
+
+-- the key, and the value after `=`
+abbrev pub name_in : List ℕ → List ℕ
+name_in text = before_first (λ byte. byte == 61) text
+
+abbrev pub value_in : List ℕ → Option (List ℕ)
+value_in text =
+    if nat_lt (position_or_len (λ byte. byte == 61) text) (length text) then Some (after_first (λ byte. byte == 61) text)
+    else None
 
 -- KEY=VALUE; None: it has no `=`, or nothing before it
 abbrev pub label_of : List ℕ → Option KeyValue

@@ -4,9 +4,6 @@ pub mod Causes
 pub mod FaultLines
 pub mod Labels
 pub mod Live
-pub mod Misplaced
 pub mod Objects
-pub mod Own
 pub mod Problem
-pub mod Scan
 pub mod Watch

@@ -1,4 +1,6 @@
 //! The output of `--help`, `help` and `--version`.
+use ipmi_command_line::{COMMANDS, Topic};
+use std::alloc::{AllocError, Global};
 
 /// The version of this program, as in the file VERSION.
 pub(crate) const VERSION: &str = "serdimko 0.3.0
@@ -10,30 +12,18 @@ pub(crate) const SHORT: &str =
     "usage: serdimko [OPTIONS] COMMAND, for example: serdimko --image FILE sdr list
 Commands: sdr, sensor, sel, fru, capture, image, help. More: serdimko --help";
 
-const GENERAL: &str = "Prints what a management controller holds: sensors, event log and hardware
+/// The general help before the commands.
+const BEFORE_COMMANDS: &str =
+    "Prints what a management controller holds: sensors, event log and hardware
 inventory. It reads a saved image, or asks a live controller (serdimko-live).
 
 Usage: serdimko [OPTIONS] [COMMAND]
 
 Commands (more on each: serdimko COMMAND --help):
-  sdr, sdr list [KIND]    a line for each sensor: name, reading, status
-  sdr elist [KIND]        the same with number and entity
-  sdr get NAME            all about the sensor of this name
-  sdr info                a summary of the sensor data repository
-  sdr hex                 each sensor data record as an image line (the default)
-  sensor, sensor list     a line for each sensor: states in words, thresholds
-  sensor get NAME..       all about the sensors of these names, in words
-  sel, sel info           a summary of the event log
-  sel list [[first] N]    a line for each event, or for the N oldest
-  sel list last N         a line for each of the N newest events
-  sel elist ..            the same as sel list .., with names and in words
-  sel get ID              all about one event
-  fru, fru print [ID]     the inventory of each device, or of one
-  fru list                a line for each device: name, product, part, serial
-  capture                 a live controller as an image (serdimko-live)
-  image rewrite           the image as version 2, in a fixed order and spelling
-  help [COMMAND]          this help, or more on a command
+";
 
+/// The general help after the commands.
+const AFTER_COMMANDS: &str = "
 Options, anywhere, also after the command:
   --image FILE    the image is in this file; - or no option: standard input;
                   several: one after another, texts after a line '== FILE'
@@ -136,19 +126,28 @@ standard output gets what came, without the last line, 'end'.
 --part N and --tries N are those of the listings; --quiet shows no progress.
 ";
 
-/// The help on the command in the first word, or after `help`; otherwise the general help.
-pub(crate) fn help_on(words: &[&str]) -> &'static str {
-    let command = match words {
-        ["help", command, ..] | [command, ..] => *command,
-        [] => "",
-    };
-    match command {
-        "sdr" => SDR,
-        "sensor" => SENSOR,
-        "sel" => SEL,
-        "fru" => FRU,
-        "capture" => CAPTURE,
-        "image" => IMAGE,
-        _ => GENERAL,
+/// The general help, with a line for each command of the table.
+fn general(alloc: Global) -> Result<String, AllocError> {
+    let mut text = String::from_str(alloc, BEFORE_COMMANDS)?;
+    for (.., help) in COMMANDS.iter() {
+        text.push_str(help)?;
     }
+    text.push_str(AFTER_COMMANDS)?;
+    Ok(text)
+}
+
+/// The help text on a topic.
+pub(crate) fn help_on(alloc: Global, topic: Topic) -> Result<String, AllocError> {
+    String::from_str(
+        alloc,
+        match topic {
+            Topic::General => return general(alloc),
+            Topic::Sdr => SDR,
+            Topic::Sensor => SENSOR,
+            Topic::Sel => SEL,
+            Topic::Fru => FRU,
+            Topic::Capture => CAPTURE,
+            Topic::Image => IMAGE,
+        },
+    )
 }

@@ -2,11 +2,10 @@
 ghost use Rattle.std.specs.List.{list_any};
 ghost use Rattle.std.specs.Prelude.{◌≡◌, [], bytes_eq, IfOk, map, OnOk, option_map};
 ghost use Rattle.ipmi_output.specs.Failure.{joined_parts};
-ghost use Rattle.serdimko.specs.Labels.{fault_of_label, key_value, label_of, labels_of, with_label, wrong_label};
+ghost use Rattle.serdimko.specs.Labels.{fault_of_label, key_value, label_of, labels_of, name_in, value_in, with_label, wrong_label};
 
 use crate::mistake::{Line, line};
 use crate::own::Own;
-use crate::scan::name_and_value;
 use ipmi_json::Label;
 use ipmi_output::Part::{Name, Text};
 use std::alloc::{AllocError, Global};
@@ -86,6 +85,17 @@ const KEYS: [&str; 69] = [
     "count",
     "image",
 ];
+
+/// A key and the value after `=`, if there is one.
+fn name_and_value(word: &str) -> (&str, Option<&str>)
+    ensures name { result.0.now ≡ name_in word.entry.now }
+    ensures value { option_map (λ value. value.now) result.1 ≡ value_in word.entry.now }
+{
+    match word.split_once('=') {
+        Some((option, value)) => (option, Some(value)),
+        None => (word, None),
+    }
+}
 
 /// The label in the value of `--label`. None if it is malformed.
 fn label_of(text: &str) -> Option<Label<'_>>

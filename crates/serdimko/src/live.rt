@@ -2,7 +2,7 @@
 ghost use Rattle.std.specs.Prelude.{◌≡◌, ◌+◌, ℕ, ⊤, Bool, codes, List, None, Option, option_map, true};
 ghost use Rattle.ipmi_bus.specs.Seen.{Seen};
 ghost use Rattle.ipmi_raw.specs.Controller.{last_words, seen_of};
-ghost use Rattle.serdimko.specs.Live.{live_of, tool_of};
+ghost use Rattle.serdimko.specs.Live.{tool_of};
 ghost use Rattle.serdimko.specs.Objects.{PrintsLiveObjects, PrintsLiveRun, PrintsLiveRuns, text_wording};
 ghost use Rattle.serdimko.specs.Problem.{faults_of_problem, live_state, PrintsLive, RunsEach, Tells};
 
@@ -12,7 +12,7 @@ use crate::labels::labels_of;
 use crate::objects::end_run;
 use crate::own::Own;
 use crate::problem::Problem;
-use ipmi_command_line::Command;
+use ipmi_command_line::{Command, LiveTool};
 use ipmi_commands::Wording;
 use ipmi_output::{Failure, MessageSink, Sink};
 use ipmi_program::print_live;
@@ -40,30 +40,24 @@ pub(crate) struct Live<'a> {
     folder: &'a str,
 }
 
-/// The tool with this name.
-fn tool_of(name: &str) -> Option<Tool>
-    ensures { result ≡ tool_of name.now }
+/// The dialect of a tool.
+fn tool_of(tool: LiveTool) -> Tool
+    ensures { result ≡ tool_of tool }
 {
-    match name {
-        "ipmitool" => Some(Tool::Ipmitool),
-        "freeipmi" => Some(Tool::FreeIpmi),
-        _ => None,
+    match tool {
+        LiveTool::Ipmitool => Tool::Ipmitool,
+        LiveTool::FreeIpmi => Tool::FreeIpmi,
     }
 }
 
 impl<'a> Live<'a> {
-    /// The value of `--live`: the tool and the folder of its pipes, which is not empty.
-    pub(crate) fn of(value: &'a str) -> Option<Live<'a>>
-        ensures { option_map (λ live. (live.tool, live.folder.now)) result ≡ live_of value.entry.now }
+    /// The controller of this tool, whose pipes are in this folder.
+    pub(crate) fn new(tool: LiveTool, folder: &'a str) -> Live<'a>
+        ensures tool { result.tool ≡ tool_of tool }
+        ensures folder { result.folder.now ≡ folder.entry.now }
     {
-        let (tool, folder) = value.split_once(':')?;
-        if folder.is_empty() {
-            return None;
-        }
-        Some(Live {
-            tool: tool_of(tool)?,
-            folder,
-        })
+        let tool = tool_of(tool);
+        Live { tool, folder }
     }
 
     /// Whether its pipes are there: each tool is asked for logical unit 0.

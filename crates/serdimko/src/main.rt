@@ -2,42 +2,40 @@
 //! help, and with messages that say what is wrong and where. It also saves a live controller as an image, and rewrites images.
 #![tactic(auto)]
 
-ghost use Rattle.std.specs.Prelude.{◌<◌, length};
+ghost use Rattle.std.specs.Prelude.{◌≤◌, IfSome};
+ghost use Rattle.ipmi_command_line.specs.Request.{IsAction, IsRequest};
 
 mod asked;
 mod capture;
 mod causes;
 mod fault_lines;
-mod grammar;
 mod help;
 mod images;
 mod labels;
 mod live;
-mod misplaced;
 mod mistake;
 mod objects;
 mod own;
 mod problem;
-mod scan;
-mod suggestion;
 mod watch;
 
-use asked::{Commands, command_of_options, commands_of};
+use asked::{Commands, commands_of, part_of};
 use capture::capture_live;
 use help::{SHORT, VERSION, help_on};
 use images::print_images;
-use ipmi_command_line::{Command, UsageFault, Word, Words};
+use ipmi_command_line::{
+    Action, Command, Format, Limits, LiveTool, Request, Source, Task, UsageError, UsageFault, Word,
+    Words, request_of,
+};
 use ipmi_commands::report;
 use ipmi_output::Part::{self, Name, Number, Text};
 use ipmi_output::{Failure, MessageSink, Written, say_line};
 use ipmi_program::read_words;
 use labels::wrong_label;
 use live::{Live, print_live_objects, print_live_texts};
-use misplaced::{goes_with_capture, input_rule, json_rule, misplaced};
-use mistake::{Line, line, maybe_unquoted, mistake, no_value_of, too_many};
-use own::{Own, own_of};
+use mistake::maybe_unquoted;
+use own::Own;
 use problem::{CLOSED, INCOMPLETE};
-use scan::{Scan, told_apart};
 use std::alloc::{AllocError, Global};
 use std::env::{Env, FillError};
 use std::io::{self, BufWriter, ErrorKind, IsTerminal, Write};
@@ -87,166 +85,189 @@ fn program<E: MessageSink>(rt: &HostRuntime, err: &mut E) -> Result<u8, AllocErr
 }
 
 /// Runs a command line, unless it has no words and no image comes from standard input.
-fn run_line<E: MessageSink>(rt: &HostRuntime, words: &Words, err: &mut E) -> Result<u8, AllocError>
-    requires { 0 < length words.now }
-{
+fn run_line<E: MessageSink>(
+    rt: &HostRuntime,
+    words: &Words,
+    err: &mut E,
+) -> Result<u8, AllocError> {
     if words.as_slice().len() < 2 && rt.stdin().is_terminal() {
         return Ok(refuse(&[Text(SHORT)], err));
     }
-    let own = own_of(rt.alloc(), words)?;
-    run_rest(rt, &own, err)
-}
-
-/// Prints what the options or the remaining words ask for: the version, a help text, or a command's output.
-fn run_rest<E: MessageSink>(rt: &HostRuntime, own: &Own, err: &mut E) -> Result<u8, AllocError>
-    requires { 0 < length own.now.rest }
-{
-    if own.version && !own.help {
-        return print_text(rt, VERSION, err);
-    }
-    match told_apart(rt.alloc(), &own.rest)? {
-        Ok(scanned) if own.help || is_for_help(&scanned.words) => {
-            print_text(rt, help_on(&scanned.words), err)
+    match request_of(rt.alloc(), words.as_slice()) {
+        Ok(request) => run(rt, request, err),
+        Err(UsageError::Memory) => Err(AllocError),
+        Err(error) => {
+            let text = format!(in rt.alloc(); "{error}")?;
+            // what the user typed is escaped in it
+            Ok(refuse(&[Text(text.as_str())], err))
         }
-        Ok(scanned) => run(rt, own, &scanned, err),
-        Err(_) if own.help => print_text(rt, help_on(&[]), err),
-        Err(line) => Ok(refuse(&line, err)),
     }
 }
 
-/// Whether the words ask for a help text.
-fn is_for_help(words: &[&str]) -> bool {
-    match words {
-        ["help"] => true,
-        ["help", word, ..] => matches!(
-            *word,
-            "sdr" | "sensor" | "sel" | "fru" | "image" | "capture" | "help"
+/// Does what a request asks for.
+fn run<E: MessageSink>(rt: &HostRuntime, request: Request, err: &mut E) -> Result<u8, AllocError>
+    requires { IsRequest request }
+{
+    let Request {
+        action,
+        source,
+        limits,
+        format,
+        strict,
+    } = request;
+    match action {
+        Action::Help(topic) => print_text(rt, help_on(rt.alloc(), topic)?.as_str(), err),
+        Action::Version => print_text(rt, VERSION, err),
+        Action::Capture(output, quiet) => run_capture(
+            rt,
+            &source,
+            &limits,
+            output.as_ref(),
+            quiet,
+            err,
         ),
-        _ => false,
+        action => run_action(rt, action, &source, &limits, format, strict, err),
     }
 }
 
-/// Runs the command of the remaining words.
-fn run<E: MessageSink>(
+/// Copies of all words but the first.
+fn after_first(alloc: Global, words: &[Word]) -> Result<Words, AllocError> {
+    let mut rest = Words::new(alloc);
+    for word in words.get(1..).unwrap_or(&[]) {
+        rest.push(word.as_str())?;
+    }
+    Ok(rest)
+}
+
+/// Prints what an action asks for, from each input.
+fn run_action<E: MessageSink>(
     rt: &HostRuntime,
-    own: &Own,
-    scanned: &Scan<'_>,
+    action: Action,
+    source: &Source,
+    limits: &Limits,
+    format: Format,
+    strict: bool,
     err: &mut E,
 ) -> Result<u8, AllocError>
-    requires { 0 < length own.now.rest }
+    requires action { IsAction action }
+    requires part { IfSome limits.now.part (λ n. (1 ≤ n) × (n ≤ 254)) }
 {
-    let words = scanned.plain.as_slice();
-    if let Some(rule) = misplaced(own, words).or(json_rule(own, words)) {
+    let in_words = matches!(format, Format::Descriptive);
+    let (json, labels) = match format {
+        Format::Json(labels) => (true, labels),
+        Format::Plain | Format::Descriptive => (false, Words::new(rt.alloc())),
+    };
+    if json && strict {
+        // faults are counted in lines of text
+        let rule = "--strict does not go with --json: each object names its faults";
         return Ok(refuse(&[Text(rule)], err));
     }
-    if let Some(line) = wrong_label(rt.alloc(), own)? {
+    let images = match source {
+        Source::Images(images) => after_first(rt.alloc(), images.as_slice())?,
+        Source::Live(..) => Words::new(rt.alloc()),
+    };
+    let own = Own {
+        strict,
+        json,
+        labels,
+        images,
+    };
+    if let Some(line) = wrong_label(rt.alloc(), &own)? {
         return Ok(refuse(&line, err));
     }
-    if let ["capture", ..] = scanned.words.as_slice() {
-        return run_capture(rt, own, scanned, err);
+    let is_of_names = matches!(action, Action::GetSensors(..));
+    let all = commands_of(rt.alloc(), action, limits)?;
+    let commands = Commands { all, in_words };
+    let status = run_commands(rt, &commands, source, &own, err)?;
+    if is_of_names {
+        advise(rt, status, &commands, err);
     }
-    match commands_of(rt.alloc(), &own.rest, scanned) {
-        Ok(commands) => {
-            let status = run_commands(rt, &commands, own, err)?;
-            advise(rt, status, scanned, err);
-            Ok(status)
-        }
-        Err(UsageFault::Memory) => Err(AllocError),
-        Err(fault) => Ok(refuse(&mistake(rt.alloc(), own, scanned, fault)?, err)),
-    }
+    Ok(status)
 }
 
 /// Runs the commands, all over the same images or the same controller.
 fn run_commands<E: MessageSink>(
     rt: &HostRuntime,
     commands: &Commands,
+    source: &Source,
     own: &Own,
     err: &mut E,
 ) -> Result<u8, AllocError> {
-    let [command, ..] = commands.all.as_slice() else {
-        return Ok(0);
-    };
-    if let Some(rule) = input_rule(command, own) {
-        return Ok(refuse(&[Text(rule)], err));
-    }
-    let image = command.image();
-    let Some(live) = &own.live else {
-        return print_commands(rt, commands, image, own, None, err);
-    };
-    match live_of(rt, live.as_str())? {
-        Ok(live) => print_commands(rt, commands, image, own, Some(live), err),
-        Err(line) => Ok(refuse(&line, err)),
+    match source {
+        Source::Images(images) => print_commands(
+            rt,
+            commands,
+            images.as_slice().first(),
+            own,
+            None,
+            err,
+        ),
+        Source::Live(tool, folder) => match live_of(rt, *tool, folder.as_str(), err)? {
+            Some(live) => print_commands(rt, commands, None, own, Some(live), err),
+            None => Ok(USAGE),
+        },
     }
 }
 
 /// Says, after a run that lacks something, that the words may be one name.
-fn advise<E: MessageSink>(rt: &HostRuntime, status: u8, scanned: &Scan<'_>, err: &mut E) {
+fn advise<E: MessageSink>(rt: &HostRuntime, status: u8, commands: &Commands, err: &mut E) {
     if status != INCOMPLETE {
         return;
     }
     // without memory there is no advice
-    if let Ok(Some(line)) = maybe_unquoted(rt.alloc(), scanned.words.as_slice()) {
+    if let Ok(Some(line)) = maybe_unquoted(rt.alloc(), commands.all.as_slice()) {
         let _ = say_line(err, &line);
     }
 }
 
-/// The live controller of the value of `--live`, or why there is none.
-fn live_of<'a>(rt: &HostRuntime, value: &'a str) -> Result<Result<Live<'a>, Line<'a>>, AllocError> {
-    let Some(live) = Live::of(value) else {
-        return Ok(Err(no_value_of(rt.alloc(), "--live", value)?));
-    };
+/// The live controller, unless its pipes are not there, which is reported.
+fn live_of<'a, E: MessageSink>(
+    rt: &HostRuntime,
+    tool: LiveTool,
+    folder: &'a str,
+    err: &mut E,
+) -> Result<Option<Live<'a>>, AllocError> {
+    let live = Live::new(tool, folder);
     if live.has_pipes(rt)? {
-        return Ok(Ok(live));
+        return Ok(Some(live));
     }
-    let why = "': cannot open the pipes there; use serdimko-live";
-    let parts = [Text("--live '"), Name(value), Text(why)];
-    Ok(Err(line(rt.alloc(), &parts)?))
+    let why = "': use serdimko-live";
+    refuse(
+        &[
+            Text("--live: cannot open the pipes in '"),
+            Name(folder),
+            Text(why),
+        ],
+        err,
+    );
+    Ok(None)
 }
 
 /// Saves the contents of a live controller.
 fn run_capture<E: MessageSink>(
     rt: &HostRuntime,
-    own: &Own,
-    scanned: &Scan<'_>,
+    source: &Source,
+    limits: &Limits,
+    output: Option<&Word>,
+    quiet: bool,
     err: &mut E,
-) -> Result<u8, AllocError> {
-    let Some(live) = &own.live else {
-        let rule = "'capture' needs a live controller: see serdimko-live --help";
-        return Ok(refuse(&[Text(rule)], err));
+) -> Result<u8, AllocError>
+    requires { IfSome limits.now.part (λ n. (1 ≤ n) × (n ≤ 254)) }
+{
+    let Source::Live(tool, folder) = source else {
+        return Ok(refuse(&[Text("'capture' needs a live controller")], err));
     };
-    if scanned.words.as_slice().len() > 1 {
-        return Ok(refuse(&too_many(rt.alloc(), scanned.words.as_slice(), 1)?, err));
-    }
-    if !goes_with_capture(own, scanned) {
-        let rule = "'capture' takes only --part, --tries, --output (-o) and --quiet";
-        return Ok(refuse(&[Text(rule)], err));
-    }
-    match command_of_options(rt.alloc(), scanned) {
-        Ok(command) => capture_of(rt, &command, live.as_str(), own, err),
-        Err(UsageFault::Memory) => Err(AllocError),
-        Err(fault) => Ok(refuse(&mistake(rt.alloc(), own, scanned, fault)?, err)),
-    }
-}
-
-/// Saves the contents of the controller of this value of `--live`.
-fn capture_of<E: MessageSink>(
-    rt: &HostRuntime,
-    command: &Command,
-    value: &str,
-    own: &Own,
-    err: &mut E,
-) -> Result<u8, AllocError> {
-    let live = match live_of(rt, value)? {
-        Ok(live) => live,
-        Err(line) => return Ok(refuse(&line, err)),
+    let Some(live) = live_of(rt, *tool, folder.as_str(), err)? else {
+        return Ok(USAGE);
     };
-    let is_shown = !own.quiet && rt.stderr().is_terminal();
+    let command = Command::new(Task::Hex, None, part_of(limits), limits.tries, None);
+    let is_shown = !quiet && rt.stderr().is_terminal();
     let terminal = if is_shown { Some(rt.stderr()) } else { None };
     capture_live(
         rt,
-        command,
+        &command,
         live,
-        own.output.as_ref(),
+        output,
         terminal,
         &mut io::writer(rt),
         err,
