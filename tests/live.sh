@@ -149,9 +149,9 @@ TOOL_TROUBLES=
 : > "$TOOL_LOG"
 live --freeipmi -- --part 254 capture
 if [ "$(grep -c -E '^0 0a (22|42)' "$TOOL_LOG")" -ne 2 ]; then fault 'capture: reservations'; fi
-says 2 "'capture' takes only --part, --tries, --output (-o) and --quiet" -- --strict capture
-says 2 "unexpected word 'all' after 'capture'" -- capture all
-says 2 "--output (-o) and --quiet go only with 'capture'" -- -o x sdr
+says 2 "--strict does not go with 'capture'" -- --strict capture
+says 2 "unexpected word 'all' with 'capture'" -- capture all
+says 2 "--output does not go with 'sdr'" -- -o x sdr
 
 # ipmitool has one session for each unit used.
 : > "$TOOL_LOG"
@@ -163,7 +163,7 @@ if [ "$(grep -c '^0 0a 22' "$TOOL_LOG")" -ne 1 ]; then fault 'reservations'; fi
 # A wrong command line starts no session, and is reported.
 says 2 "unknown command 'srd': did you mean 'sdr'?" -- srd
 says 2 '--image does not go with a live controller' -- --image x sdr
-says 2 "'image rewrite' needs a saved image" -- image rewrite
+says 2 "--live does not go with 'image rewrite'" -- image rewrite
 says 2 'live: -- is missing before the command, as in: live -I open -- sdr list' sdr list
 says 2 'live: all users would see the password of -P: use -E with IPMI_PASSWORD, or -f FILE' -P secret -- sdr
 says 2 'live: all users would see the key of -k or -y: use -K with IPMI_KGKEY, or -Y' -k secret -- sdr
@@ -191,10 +191,10 @@ says_of() {
   status=$?
   if [ "$status" -ne "$2" ] || [ "$(cat "$work/err")" != "$3" ]; then fault "--live $1: status $status, $(cat "$work/err")"; fi
 }
-says_of "ipmitool:$work/plain" 2 "--live 'ipmitool:$work/plain': cannot open the pipes there; use serdimko-live"
+says_of "ipmitool:$work/plain" 2 "--live: cannot open the pipes in '$work/plain': use serdimko-live"
 touch "$work/plain/requests.0" "$work/plain/replies.0"
 says_of "ipmitool:$work/plain" 1 'no reply from the controller: the tool said nothing'
-says_of "$work/plain" 2 "--live '$work/plain' is not TOOL:FOLDER: use serdimko-live"
+says_of "$work/plain" 2 "--live '$work/plain' is not TOOL:FOLDER, which serdimko-live gives"
 
 # When ended by a signal, it leaves no process and no folder. A shell makes its background processes ignore SIGINT.
 for signal in INT TERM HUP; do

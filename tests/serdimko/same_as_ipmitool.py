@@ -99,7 +99,7 @@ def generated_line(rng, images):
 
 # ---- comparing the two programs
 
-OWN = {"-h", "--help", "-V", "--version", "--strict", "--id", "help", "sensor"}
+OWN = {"-h", "--help", "-V", "--version", "--strict", "--json", "--label", "--id", "help", "sensor"}
 USAGE = b"usage: ipmitool [--image FILE] [--from HEX4] [--part N] [--tries N] fru|sdr|sel WORDS\n"
 WHY_NOT_READ = b": (no such file|is a directory|part of its path is not a directory|too many symbolic links|file name too long|permission denied|longer than 64 MiB|input/output error)"
 EXPLANATION = rb" \([^\n]+\)"
