@@ -133,7 +133,7 @@ fn unknown<'a>(
     Ok(UsageError::UnknownWord(word, after, Hint::None))
 }
 
-/// The first words of the commands that have two words alone.
+/// The first words of the commands that always have two words.
 const GROUP: [&str; 1] = ["image"];
 
 /// No command begins with these words.

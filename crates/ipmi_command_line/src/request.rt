@@ -22,7 +22,7 @@ use ipmi_bus::LARGEST_PART;
 use std::alloc::{AllocError, Global};
 use std::convert::AsStr;
 
-/// The command on which help is wanted.
+/// What a help text describes.
 #[derive(Clone, Copy, Debug, PartialEq, Eq)]
 pub enum Topic {
     /// All commands.

@@ -68,7 +68,7 @@ line_of-invalid version text = line_of_fields-invalid version (pieces 32 text)
 
 -- ---- a line that can be read
 
--- the line tells the cause, or none is wanted of it
+-- the line has a cause for this fault, or the fault has one whatever its line is
 abbrev is_known : ImageFault → List ℕ → Result Line LineFault → Bool
 is_known ImageFault.Memory text read = false
 is_known (ImageFault.FirstId n) text read = true

@@ -2,7 +2,7 @@
 use Rattle.std.specs.Prelude.{ℕ, List}
 use Rattle.ipmi_raw.specs.declared.heard.Heard.{Heard}
 
--- the reader behind it
+-- the reader that it reads from
 abbrev pub reader_of : {R : Type 0} → Heard R → R
 reader_of heard = heard.reader
 
