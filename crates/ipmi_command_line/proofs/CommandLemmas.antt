@@ -8,7 +8,7 @@ use Rattle.ipmi_command_line.specs.Table.{entries_of, oldest, task_of_four}
 use Rattle.ipmi_command_line.specs.declared.request.Topic.{Topic}
 use Rattle.ipmi_command_line.specs.declared.task.Count.{Count}
 use Rattle.ipmi_command_line.specs.declared.task.Task.{Task}
-use Rattle.ipmi_command_line.specs.Commands.{CommandState, Row, begins_with, row_among, row_state, texts}
+use Rattle.ipmi_command_line.specs.Commands.{RowState, Row, begins_with, row_among, row_state, texts}
 
 pub begins_with_is : (words own : List (Bor Text)) → starts_with (λ a b. bytes_eq a.now b.now) words own ≡ begins_with (texts words) (texts own)
 begins_with_is words [] = refl
@@ -23,7 +23,7 @@ pub row_found : (r : Option (Bor Row)) (words : List Text) (table : List Row)
     → option_map (λ row. row.now) r ≡ find (λ row. begins_with words (row_state row).words) table
     → option_map (λ row. row_state row.now) r ≡ row_among (map row_state table) words
 row_found r words table found = state_of_found r ∙ ap (option_map row_state) found
-    ∙ find-map (λ (row : CommandState). begins_with words row.words) row_state table
+    ∙ find-map (λ (row : RowState). begins_with words row.words) row_state table
 
 -- `contains` of a text among texts
 pub has_option_is : (options : List (Bor Text)) (name : Text)

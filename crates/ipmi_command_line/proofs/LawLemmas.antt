@@ -20,7 +20,7 @@ use Rattle.ipmi_command_line.specs.declared.request.Request.{Request}
 use Rattle.ipmi_command_line.specs.declared.request.Source.{Source}
 use Rattle.ipmi_bus.specs.declared.controller.Shelf.{Shelf}
 use Rattle.ipmi_command_line.specs.Command.{CommandState, command_of_task, meaning_of, number_or, start_of_text, with_options}
-use Rattle.ipmi_command_line.specs.Commands.{CommandState as RowState, commands, row_of}
+use Rattle.ipmi_command_line.specs.Commands.{RowState, commands, row_of}
 use Rattle.ipmi_command_line.specs.Number.{digits_of, number_of, within}
 use Rattle.ipmi_command_line.specs.Request.{entry_of, format_of, has_option, limits_of, misplaced, part_of_text, printed_of, request_of, request_of_found, request_of_words, rewrite_of, source_of, text_format, with_parts}
 use Rattle.ipmi_command_line.specs.Table.{are, entries_of, inventory_of, kind_of, newest, oldest, task_of, task_of_four, task_of_one, task_of_three, task_of_two}

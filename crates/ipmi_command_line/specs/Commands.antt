@@ -8,7 +8,7 @@ use Rattle.ipmi_command_line.specs.declared.commands.Verb.{Verb}
 use Rattle.ipmi_command_line.specs.declared.commands.TheConstants.{COMMANDS}
 
 -- a command: its words, what it does, and the options that go with it
-pub record CommandState : Type 0 where
+pub record RowState : Type 0 where
   pub words : List Text
   pub verb : Verb
   pub options : List Text
@@ -21,11 +21,11 @@ texts words = map (λ word. word.now) words
 abbrev pub Row : Type 0
 Row = Bor (List (Bor Text)) × Verb × Operand × Bor (List (Bor Text)) × Bor Text
 
-abbrev pub row_state : Row → CommandState
+abbrev pub row_state : Row → RowState
 row_state row = record { words = texts row.0.now; verb = row.1; options = texts row.3.now }
 
 -- the table
-unfoldable pub commands : List CommandState
+unfoldable pub commands : List RowState
 commands = map (λ row. record {
   words = map (λ word. word.now) row.0.now;
   verb = row.1;
@@ -39,7 +39,7 @@ begins_with [] (first ∷ more) = false
 begins_with (word ∷ words) (first ∷ more) = bytes_eq first word && begins_with words more
 
 -- the first command of a table that the words begin with
-abbrev pub row_among : List CommandState → List Text → Option CommandState
+abbrev pub row_among : List RowState → List Text → Option RowState
 row_among table words = find (λ row. begins_with words row.words) table
 
 -- no words mean `sdr hex`
@@ -48,5 +48,5 @@ or_default [] = codes "sdr" ∷ codes "hex" ∷ []
 or_default (word ∷ words) = word ∷ words
 
 -- the command that the words begin with
-unfoldable pub row_of : List Text → Option CommandState
+unfoldable pub row_of : List Text → Option RowState
 row_of words = row_among commands (or_default words)

@@ -5,7 +5,7 @@ use Rattle.std.specs.List.{after_first, before_first, find, list_any, position_o
 use Rattle.clap.specs.Words.{Row, Text, first_of}
 use Rattle.ipmi_command_line.specs.Arguments.{free_words, has_value, is_given, is_taken, rows_of_words, values_of}
 use Rattle.ipmi_command_line.specs.Command.{IsTask, number_or, start_of_text}
-use Rattle.ipmi_command_line.specs.Commands.{CommandState, row_of}
+use Rattle.ipmi_command_line.specs.Commands.{RowState, row_of}
 use Rattle.ipmi_command_line.specs.Number.{decimal_of, hex_of, within}
 use Rattle.ipmi_command_line.specs.Table.{entries_of, oldest, task_of, task_of_four}
 use Rattle.ipmi_command_line.specs.Task.{takes_from}
@@ -133,7 +133,7 @@ task_of_verb Verb.DescribeSensors whole words id = if whole then Some (Task.List
 task_of_verb Verb.ListDevices whole words id = if whole then Some (Task.Fru None) else None
 task_of_verb _ whole words id = None
 
-abbrev pub task_of_row : CommandState → List Text → Option Text → Option Task
+abbrev pub task_of_row : RowState → List Text → Option Text → Option Task
 task_of_row row words id = task_of_verb row.verb (length words == length row.words) words id
 
 -- only a task that takes an id to start from may have one
@@ -156,13 +156,13 @@ rewrite_of whole rows = if whole && (not (has_value (codes "from") rows)
     && nat_le (length (values_of (codes "image") rows)) 1)
     then Some Action.Rewrite else None
 
-abbrev pub action_of_verb : Verb → CommandState → List Text → List Row → Option Action
+abbrev pub action_of_verb : Verb → RowState → List Text → List Row → Option Action
 action_of_verb Verb.GetSensors row words rows = named_of words (start_of rows)
 action_of_verb Verb.Capture row words rows = capture_of (length words == 1) rows
 action_of_verb Verb.Rewrite row words rows = rewrite_of (length words == 2) rows
 action_of_verb _ row words rows = printed_of (start_of rows) (task_of_row row words (first_of (codes "id") rows))
 
-abbrev pub action_of : CommandState → List Text → List Row → Option Action
+abbrev pub action_of : RowState → List Text → List Row → Option Action
 action_of row words rows = action_of_verb row.verb row words rows
 
 -- ---- options
@@ -218,7 +218,7 @@ with_parts (Some action) (Some source) (Some limits) (Some format) strict =
 with_parts action source limits format strict = None
 
 -- each option that is given goes with the command
-abbrev pub request_of_row : CommandState → List Text → List Row → Option Request
+abbrev pub request_of_row : RowState → List Text → List Row → Option Request
 request_of_row row words rows =
     if is_some (misplaced row.options rows) then None
     else with_parts (action_of row words rows)
@@ -228,14 +228,14 @@ request_of_row row words rows =
 abbrev pub request_of_help : List Text → Option Request
 request_of_help words = option_map (λ topic. short_request (Action.Help topic)) (help_of words)
 
-abbrev pub request_of_verb : Verb → CommandState → List Text → List Row → Option Request
+abbrev pub request_of_verb : Verb → RowState → List Text → List Row → Option Request
 request_of_verb Verb.Help row words rows = request_of_help words
 request_of_verb verb row words rows = request_of_row row words rows
 
-abbrev pub request_of_command : CommandState → List Text → List Row → Option Request
+abbrev pub request_of_command : RowState → List Text → List Row → Option Request
 request_of_command row words rows = request_of_verb row.verb row words rows
 
-abbrev pub request_of_found : Option CommandState → List Text → List Row → Option Request
+abbrev pub request_of_found : Option RowState → List Text → List Row → Option Request
 request_of_found None words rows = None
 request_of_found (Some row) words rows = request_of_command row words rows
 
