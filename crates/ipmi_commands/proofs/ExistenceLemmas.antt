@@ -3,7 +3,8 @@ use Rattle.std.proofs.Common.{◌≡◌, ℕ, suc, Bool, true, false, cond, nat_
 use Rattle.ipmi_bus.specs.Store.{Inventory, IsInventory, inventory_in}
 use Rattle.ipmi_records.specs.declared.sel.SelView.{SelView}
 use Rattle.ipmi_commands.specs.Below.{AreBytes, EventInWordsExists, SensorBlockExists, SensorLineExists, fru_of, Reading, Row, Store, IsStore, Kind, inventory_of, Shelf, IsExtendedLine, IsFruLine, IsFruText, IsInfoBlock, IsSdrBlock, IsSdrLine, IsSelBlock, IsSelLine, SdrFault, SdrView, printed_name, sdr_view_of, sel_view_of}
-use Rattle.ipmi_commands.specs.Prelude.{Detail, Entries, Form, IfChosen, IsBlockIn, IsBlockOfName, IsDevicePiece, IsElsewhereIn, IsEntryLine, IsInfoIn, IsInventoryIn, IsInventoryText, IsInText, IsOfText, IsRecordLine, IsLocatorPiece, IsRowInText, IsRowText, IsTextOver, ItemsHaveAText, OfImage, OfInfo, OfInventory, OfRow, reading_for, row_is_of_kind, Subject, Wording}
+use Rattle.ipmi_commands.specs.Prelude.{Detail, Entries, Form, IfChosen, IsBlockIn, IsBlockOfName, IsDevicePiece, IsElsewhereIn, IsEntryLine, IsInfoIn, IsInventoryIn, IsInventoryText, IsInText, IsOfText, IsRecordLine, IsLocatorPiece, IsRowInText, IsRowText, IsTextOver, is_faulty, ItemsHaveAText, OfImage, OfInfo, OfInventory, OfRow, reading_for, row_is_of_kind, Subject, Wording}
+use Rattle.ipmi_commands.specs.Output.{no_output, piece_of}
 
 -- there is such a text
 abbrev HasText : (List ℕ → Type 0) → Type 0
@@ -126,8 +127,14 @@ module _ (line : (view : SdrView) (reading : Option Reading) → HasText (IsSdrL
   has_item store OfImage ok in_text = (_, refl)
 
   pub has_texts : ItemsHaveAText
-  has_texts store [] ok in_text = ([], refl)
+  has_texts store [] ok in_text = (no_output, refl)
   has_texts store (item ∷ items) ok in_text =
       let first = has_item store item.subject ok in_text.0 in
       let rest = has_texts store items ok in_text.1 in
-      (_, record { first = first.0; rest = rest.0; is_first = first.1; is_rest = rest.1; joined = refl })
+      (_, record {
+        first = piece_of first.0 (is_faulty store item.subject);
+        rest = rest.0;
+        is_first = record { is_text = first.1; counted = refl };
+        is_rest = rest.1;
+        joined = refl;
+      })

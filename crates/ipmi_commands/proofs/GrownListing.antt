@@ -6,6 +6,7 @@ use Rattle.ipmi_commands.specs.Below.{AllFollowOrStop, WasLog, AreSteps, asked_a
 use Rattle.ipmi_commands.specs.Meanwhile.{IsTextWhile, KeepsFor, OnGrowingListing}
 use Rattle.ipmi_commands.specs.Traced.{EndsTrace, IsListed, IsWithin, PrintsSteps, ReturnsLast, Traces, TracesListing}
 use Rattle.ipmi_commands.specs.Prelude.{AtEnd, AtRecord, cause_of, Change, ending_of, first_end, first_rows, Form, HasFirstItems, IsAllowed, IsAmong, IsFresh, Item, listing, listing_plan, next_spots, Plan, Printed, row_items, rows_end, shelf_of, Spot, spots_at_walk_end, StopsAt, Subject}
+use Rattle.ipmi_commands.specs.Output.{Output}
 use Rattle.ipmi_commands.proofs.CallLemmas.{none_left, place_after_rows-append}
 use Rattle.ipmi_commands.proofs.ItemLemmas.{cut_after, row_item, row_items-append, row_items-split, stops_after}
 use Rattle.ipmi_commands.proofs.ListingLemmas.{may_later, take_used}
@@ -162,7 +163,7 @@ module _ (begun : CursorState) (s : Seen) (start : Place) (first : List Row) (ho
   abbrev p : Plan
   p = listing_plan (listing form place most) left Done
 
-  abbrev W : Subject → List ℕ → Type 0
+  abbrev W : Subject → Output → Type 0
   W = IsTextWhile c.seen c.seen'
 
   abbrev Allowed : Type 0
@@ -300,7 +301,7 @@ module _ (begun : CursorState) (s : Seen) (start : Place) (first : List Row) (ho
     from_here : StaysHonest c.seen step.seen
     from_here = stays_trans c.seen step.before step.seen (stays_trans c.seen (seen_after c.seen done) step.before (steps_stay (cursor_after begun pre) c.seen done since.honest parts.0) parts.1) made_step
 
-    abbrev before_it : (text : List ℕ) → PrintsSteps form done step.before c.old text → HasFirstItems W p c.old text
+    abbrev before_it : (text : Output) → PrintsSteps form done step.before c.old text → HasFirstItems W p c.old text
     before_it text printed = record {
       done = row_items form place hd;
       rest = item ∷ row_items form (place_after row.next) rest;

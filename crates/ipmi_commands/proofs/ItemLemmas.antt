@@ -1,7 +1,9 @@
 -- The items of a plan, their texts, and the output if a run stops before or at one of them.
-use Rattle.std.proofs.Common.{◌≡◌, ℕ, ◌+◌, ◌<◌, List, [], ◌∷◌, ◌++◌, length, take, drop, refl, sym, ap, ◌∙◌, append_assoc, append-nil, take-add, take-append-drop}
-use Rattle.ipmi_commands.specs.Below.{Place, Row, place_after, place_after_rows, asked_at, TakesPart, Ending}
+use Rattle.std.proofs.Common.{◌≡◌, ℕ, ◌+◌, ◌<◌, List, [], ◌∷◌, ◌++◌, length, take, drop, refl, sym, ap, ◌∙◌, append_assoc, take-add, take-append-drop}
+use Rattle.ipmi_commands.specs.Below.{Place, Row, place_after, place_after_rows, asked_at, Ending}
 use Rattle.ipmi_commands.specs.Prelude.{AreTexts, AtEnd, AtRecord, Cause, Dishonest, Form, GaveUp, HasFirstItems, IsAmong, Item, Leaves, IsStopAmong, NoMemory, NoOutput, OfRow, Plan, Printed, PrintsAll, Refused, row_items, Spot, spots_because_of, next_spots, Subject}
+use Rattle.ipmi_commands.specs.Output.{and_then, IsCut, no_output, Output}
+use Rattle.ipmi_commands.proofs.OutputLemmas.{then_assoc, then_nothing}
 
 -- ---- items and rows
 
@@ -38,42 +40,42 @@ row_items-split form at rows count =
 abbrev pub after_items : List Item → Plan → Plan
 after_items first p = record { items = first ++ p.items; end = p.end; end_spots = p.end_spots }
 
-module _ (IsText : Subject → List ℕ → Type 0) where
-  pub texts_joined : (items more : List Item) (a b : List ℕ) → AreTexts IsText items a
-      → AreTexts IsText more b → AreTexts IsText (items ++ more) (a ++ b)
+module _ (IsText : Subject → Output → Type 0) where
+  pub texts_joined : (items more : List Item) (a b : Output) → AreTexts IsText items a
+      → AreTexts IsText more b → AreTexts IsText (items ++ more) (and_then a b)
   texts_joined [] more a b are rest = rw are rest
   texts_joined (item ∷ items) more a b are rest = record {
     first = are.first;
-    rest = are.rest ++ b;
+    rest = and_then are.rest b;
     is_first = are.is_first;
     is_rest = texts_joined items more are.rest b are.is_rest rest;
-    joined = rw are.joined (append_assoc are.first are.rest b);
+    joined = ap (λ (o : Output). and_then o b) are.joined ∙ then_assoc are.first are.rest b;
   }
 
   -- printing some items, then more
-  pub printed_joined : (items more : List Item) (old text new : List ℕ)
+  pub printed_joined : (items more : List Item) (old text new : Output)
       → Printed IsText items old text → Printed IsText more text new
       → Printed IsText (items ++ more) old new
   printed_joined items more old text new one two = record {
-    text = one.text ++ two.text;
+    text = and_then one.text two.text;
     are = texts_joined items more one.text two.text one.are two.are;
-    new_is = two.new_is ∙ rw one.new_is (append_assoc old one.text two.text);
+    new_is = two.new_is ∙ ap (λ (o : Output). and_then o two.text) one.new_is ∙ then_assoc old one.text two.text;
   }
 
-  pub none_printed : (old new : List ℕ) → new ≡ old → Printed IsText [] old new
-  none_printed old new same = record { text = []; are = refl; new_is = same ∙ sym (append-nil old) }
+  pub none_printed : (old new : Output) → new ≡ old → Printed IsText [] old new
+  none_printed old new same = record { text = no_output; are = refl; new_is = same ∙ sym (then_nothing old) }
 
-  pub one_printed : (item : Item) (text old new : List ℕ) → IsText item.subject text
-      → new ≡ old ++ text → Printed IsText (item ∷ []) old new
-  one_printed item text old new is new_is = record { text = text; are = record { first = text; rest = []; is_first = is; is_rest = refl; joined = sym (append-nil text) }; new_is = new_is }
+  pub one_printed : (item : Item) (text old new : Output) → IsText item.subject text
+      → new ≡ and_then old text → Printed IsText (item ∷ []) old new
+  one_printed item text old new is new_is = record { text = text; are = record { first = text; rest = no_output; is_first = is; is_rest = refl; joined = sym (then_nothing text) }; new_is = new_is }
 
-  abbrev pub no_items : (p : Plan) (old new : List ℕ) → new ≡ old → HasFirstItems IsText p old new
+  abbrev pub no_items : (p : Plan) (old new : Output) → new ≡ old → HasFirstItems IsText p old new
   no_items p old new same = record { done = []; rest = p.items; items_are = refl; printed = none_printed old new same }
 
   -- ---- a run that stops
 
   -- after some items, the run gives up, is refused, or is out of memory
-  pub stops_after : (p : Plan) (old new : List ℕ) (ending : Ending) (cause : Cause)
+  pub stops_after : (p : Plan) (old new : Output) (ending : Ending) (cause : Cause)
       (first : HasFirstItems IsText p old new) → IsStopAmong (next_spots first.rest p.end_spots) cause
       → Leaves IsText p old new ending cause
   stops_after p old new ending (GaveUp spot) first may = record { first = first; there = may }
@@ -82,17 +84,17 @@ module _ (IsText : Subject → List ℕ → Type 0) where
   stops_after p old new ending _ first may = absurd may
 
   -- a part of the next item's text was written
-  pub cut_after : (p : Plan) (old whole new : List ℕ) (ending : Ending)
-      (first : HasFirstItems IsText p old whole) (item : Item) (later : List Item) (text : List ℕ)
-      → first.rest ≡ item ∷ later → IsText item.subject text → 0 < length text
-      → TakesPart whole new text → Leaves IsText p old new ending NoOutput
+  pub cut_after : (p : Plan) (old whole new : Output) (ending : Ending)
+      (first : HasFirstItems IsText p old whole) (item : Item) (later : List Item) (text : Output)
+      → first.rest ≡ item ∷ later → IsText item.subject text → 0 < length text.bytes
+      → IsCut whole new text → Leaves IsText p old new ending NoOutput
   cut_after p old whole new ending first item later text next is some part =
       record { whole = whole; first = first; item = item; later = later; next = next; text = text; is_text = is; some = some; part = part }
 
 -- ---- each text of one kind is a text of another
 
-module _ (A B : Subject → List ℕ → Type 0) (keep : (subject : Subject) (text : List ℕ) → A subject text → B subject text) where
-  texts_map : (items : List Item) (text : List ℕ) → AreTexts A items text → AreTexts B items text
+module _ (A B : Subject → Output → Type 0) (keep : (subject : Subject) (text : Output) → A subject text → B subject text) where
+  texts_map : (items : List Item) (text : Output) → AreTexts A items text → AreTexts B items text
   texts_map [] text are = are
   texts_map (item ∷ items) text are = record {
     first = are.first;
@@ -102,13 +104,13 @@ module _ (A B : Subject → List ℕ → Type 0) (keep : (subject : Subject) (te
     joined = are.joined;
   }
 
-  pub printed_map : (items : List Item) (old new : List ℕ) → Printed A items old new → Printed B items old new
+  pub printed_map : (items : List Item) (old new : Output) → Printed A items old new → Printed B items old new
   printed_map items old new printed = record { text = printed.text; are = texts_map items printed.text printed.are; new_is = printed.new_is }
 
-  abbrev first_map : (p : Plan) (old new : List ℕ) → HasFirstItems A p old new → HasFirstItems B p old new
+  abbrev first_map : (p : Plan) (old new : Output) → HasFirstItems A p old new → HasFirstItems B p old new
   first_map p old new first = record { done = first.done; rest = first.rest; items_are = first.items_are; printed = printed_map first.done old new first.printed }
 
-  pub leaves_map : (p : Plan) (old new : List ℕ) (ending : Ending) (cause : Cause) → Leaves A p old new ending cause
+  pub leaves_map : (p : Plan) (old new : Output) (ending : Ending) (cause : Cause) → Leaves A p old new ending cause
       → Leaves B p old new ending cause
   leaves_map p old new ending AtEnd leaves = (printed_map p.items old new leaves.0, leaves.1)
   leaves_map p old new ending (GaveUp spot) leaves = record { first = first_map p old new leaves.first; there = leaves.there }
@@ -131,19 +133,19 @@ module _ (A B : Subject → List ℕ → Type 0) (keep : (subject : Subject) (te
 
 -- if the first items of the one plan were printed, so were the first items of the other, and the next item has at least these
 -- spots and texts
-pub record IsCarried (IsText : Subject → List ℕ → Type 0) (p q : Plan) (old new : List ℕ)
+pub record IsCarried (IsText : Subject → Output → Type 0) (p q : Plan) (old new : Output)
     (rest : List Item) : Type 0 where
   pub first : HasFirstItems IsText q old new
   pub spots : (spot : Spot) → IsAmong (next_spots rest p.end_spots) spot
       → IsAmong (next_spots first.rest q.end_spots) spot
-  pub next : (item : Item) (later : List Item) (text : List ℕ) → rest ≡ item ∷ later
-      → IsText item.subject text → 0 < length text
+  pub next : (item : Item) (later : List Item) (text : Output) → rest ≡ item ∷ later
+      → IsText item.subject text → 0 < length text.bytes
       → (item' : Item) × (later' : List Item) × (first.rest ≡ item' ∷ later')
       × IsText item'.subject text
 
-pub leaves_carried : (IsText : Subject → List ℕ → Type 0) (p q : Plan) (old old' new : List ℕ)
+pub leaves_carried : (IsText : Subject → Output → Type 0) (p q : Plan) (old old' new : Output)
     (ending ending' : Ending) (cause : Cause)
-    → ((whole : List ℕ) (first : HasFirstItems IsText p old whole)
+    → ((whole : Output) (first : HasFirstItems IsText p old whole)
     → IsCarried IsText p q old' whole first.rest)
     → (cause ≡ AtEnd → PrintsAll IsText p old new ending → PrintsAll IsText q old' new ending')
     → Leaves IsText p old new ending cause → Leaves IsText q old' new ending' cause
@@ -158,8 +160,8 @@ leaves_carried IsText p q old old' new ending ending' NoOutput carry all leaves 
 leaves_carried IsText p q old old' new ending ending' Dishonest carry all leaves = absurd leaves
 
 -- a plan after items that were printed
-pub leaves_joined : (IsText : Subject → List ℕ → Type 0) (done : List Item) (p : Plan)
-    (old text new : List ℕ) (ending : Ending) (cause : Cause) → Printed IsText done old text
+pub leaves_joined : (IsText : Subject → Output → Type 0) (done : List Item) (p : Plan)
+    (old text new : Output) (ending : Ending) (cause : Cause) → Printed IsText done old text
     → Leaves IsText p text new ending cause → Leaves IsText
     (after_items done p) old new ending cause
 leaves_joined IsText done p old text new ending cause before leaves = leaves_carried IsText p (after_items done p) text old new ending ending cause
@@ -176,11 +178,11 @@ leaves_joined IsText done p old text new ending cause before leaves = leaves_car
     (λ is all. (printed_joined IsText done p.items old text new before all.0, all.1)) leaves
 
 -- a longer plan with at least the same spots after each of the items
-pub leaves_longer : (IsText : Subject → List ℕ → Type 0) (p q : Plan) (more : List Item)
+pub leaves_longer : (IsText : Subject → Output → Type 0) (p q : Plan) (more : List Item)
     → q.items ≡ p.items ++ more
     → ((spot : Spot) (rest : List Item) → IsAmong (next_spots rest p.end_spots) spot
     → IsAmong (next_spots (rest ++ more) q.end_spots) spot)
-    → (old new : List ℕ) (ending : Ending) (cause : Cause)
+    → (old new : Output) (ending : Ending) (cause : Cause)
     → (cause ≡ AtEnd → PrintsAll IsText p old new ending → PrintsAll IsText q old new ending)
     → Leaves IsText p old new ending cause → Leaves IsText q old new ending cause
 leaves_longer IsText p q more items_are spots_are old new ending cause whole leaves = leaves_carried IsText p q old old new ending ending cause

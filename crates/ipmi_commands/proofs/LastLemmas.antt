@@ -4,7 +4,8 @@ use Rattle.std.proofs.lemmas.List.{nil_from_length}
 use Rattle.std.proofs.Math.Seq.{drop-nil}
 use Rattle.ipmi_commands.specs.Below.{handed_out, IsLog, OnlyGrew, Shelf, stays_refl, WasLog, Place, Sel, Row, Store, rows_of, WalkEnd, Done, place_after, place_after_rows, Seen, IsHonest, StaysHonest, CommandState, CursorState, StandsAt, start_of, Ending, Failure}
 use Rattle.ipmi_commands.specs.Traced.{EndsTrace}
-use Rattle.ipmi_commands.specs.Prelude.{AreTexts, calls_for, Cause, cause_of, Change, change, Counted, CountsEntries, spots_at_walk_end, end_spots_of_last, ending_of, EndsListing, Entries, first_end, first_rows, Form, IsAllowed, IsAmong, IsFresh, IsTextOver, IsTextWhile, OfRow, OnGrowingLast, TracesListing, Item, Job, last_plan, Leaves, listing, listing_plan, ListsAfter, ListsHonestly, ListsAlong, Plan, Printed, Prints, row_items, rows_end, second_walk_bound, Spot, spots_of_rows, next_spots, spots_of_walk, Subject, walk_call_bound, with_first_spots}
+use Rattle.ipmi_commands.specs.Prelude.{AreTexts, calls_for, Cause, cause_of, Change, change, Counted, CountsEntries, spots_at_walk_end, end_spots_of_last, ending_of, EndsListing, Entries, first_end, first_rows, Form, IsAllowed, IsAmong, IsFresh, IsPieceOver, IsTextWhile, OfRow, OnGrowingLast, TracesListing, Item, Job, last_plan, Leaves, listing, listing_plan, ListsAfter, ListsHonestly, ListsAlong, Plan, Printed, Prints, row_items, rows_end, second_walk_bound, Spot, spots_of_rows, next_spots, spots_of_walk, Subject, walk_call_bound, with_first_spots}
+use Rattle.ipmi_commands.specs.Output.{and_then, no_output, Output, piece_of}
 use Rattle.ipmi_commands.proofs.CallLemmas.{calls_split}
 use Rattle.ipmi_commands.proofs.CountLemmas.{between, ends_here, ends_since}
 use Rattle.ipmi_bus.proofs.HeldLemmas.{begins_length, grew_first, grew_second}
@@ -13,6 +14,7 @@ use Rattle.ipmi_commands.proofs.MeanwhileLemmas.{log_again, log_first, log_later
 use Rattle.ipmi_commands.proofs.ItemLemmas.{IsCarried, leaves_carried, leaves_map, no_items, none_printed, row_item, texts_joined}
 use Rattle.ipmi_commands.proofs.ListingLemmas.{fresh_along, fresh_ends, holds_none}
 use Rattle.ipmi_commands.proofs.SpotLemmas.{among_after, quiet_there, spots_at_walk_end-joined, spots_of_rows-split}
+use Rattle.ipmi_commands.proofs.OutputLemmas.{then_nothing}
 
 -- a new cursor is at the place where it starts
 pub starts_at : {command : CommandState} {form : Form} {from : Option ℕ} {cursor : CursorState}
@@ -30,13 +32,13 @@ first_there entries start (row ∷ rows) ends spot among = grind arith
 
 -- ---- plans whose first item has other spots
 
-module _ (IsText : Subject → List ℕ → Type 0) (spots : List Spot) (p : Plan) (at_end : List Spot)
+module _ (IsText : Subject → Output → Type 0) (spots : List Spot) (p : Plan) (at_end : List Spot)
     (end : Ending) (ends_are : p.end_spots ≡ at_end)
     (wide : (spot : Spot) → IsAmong (next_spots p.items p.end_spots) spot → IsAmong spots spot) where
   abbrev q : Plan
   q = record { items = with_first_spots spots p.items; end = end; end_spots = end_spots_of_last spots p.items at_end }
 
-  widened : (old new : List ℕ) (done rest : List Item) → p.items ≡ done ++ rest
+  widened : (old new : Output) (done rest : List Item) → p.items ≡ done ++ rest
       → Printed IsText done old new → IsCarried IsText p q old new rest
   widened old new [] rest is printed = record {
     first = record { done = []; rest = with_first_spots spots p.items; items_are = refl; printed = printed };
@@ -54,7 +56,7 @@ module _ (IsText : Subject → List ℕ → Type 0) (spots : List Spot) (p : Pla
     next = λ item later text next is_text some. (item, later, next, is_text);
   }
 
-  pub leaves_wide : (old new : List ℕ) (ending ending' : Ending) (cause : Cause)
+  pub leaves_wide : (old new : Output) (ending ending' : Ending) (cause : Cause)
       → (ending ≡ p.end → ending' ≡ end)
       → Leaves IsText p old new ending cause → Leaves IsText q old new ending' cause
   leaves_wide old new ending ending' cause ends leaves = leaves_carried IsText p q old old new ending ending' cause
@@ -62,8 +64,8 @@ module _ (IsText : Subject → List ℕ → Type 0) (spots : List Spot) (p : Pla
       (λ is all. (grind (arith, all.0), ends all.1)) leaves
 
 -- the plan allows the output of the listing of the last entries
-last_leaves : (IsText : Subject → List ℕ → Type 0) (entries : Entries) (n k : ℕ) (start : Place)
-    (walk : List Row) (old new : List ℕ) (ending : Ending) → k ≡ length walk - n
+last_leaves : (IsText : Subject → Output → Type 0) (entries : Entries) (n k : ℕ) (start : Place)
+    (walk : List Row) (old new : Output) (ending : Ending) → k ≡ length walk - n
     → IsAllowed IsText (listing_plan (listing (Form.EntryLine entries) (place_after_rows start (take k walk)) None) (drop k walk) Done) old new ending
     → IsAllowed IsText (last_plan entries n start walk Done) old new ending
 last_leaves IsText entries n k start walk old new ending is allowed =
@@ -82,19 +84,19 @@ calls_for-named entries store tries [] = refl
 calls_for-named entries store tries (row ∷ rows) = rw (calls_for-named entries store tries rows) refl
 
 -- a skipped entry has no text
-abbrev AreNoTexts : (Subject → List ℕ → Type 0) → Type 0
-AreNoTexts IsText = (row : Row) (text : List ℕ) → IsText (OfRow Form.Passed row) text → text ≡ []
+abbrev AreNoTexts : (Subject → Output → Type 0) → Type 0
+AreNoTexts IsText = (row : Row) (text : Output) → IsText (OfRow Form.Passed row) text → text ≡ no_output
 
-none_over : (store : Store) → AreNoTexts (IsTextOver store)
-none_over store row text is = is
+none_over : (store : Store) → AreNoTexts (IsPieceOver store)
+none_over store row text is = is.counted ∙ ap (λ (b : Output). piece_of b false) is.is_text
 
 none_while : (s s' : Seen) → AreNoTexts (IsTextWhile s s')
-none_while s s' row text is = is.is
+none_while s s' row text is = none_over is.store row text is.is
 
 -- nothing is printed for skipped entries
-no_text : (IsText : Subject → List ℕ → Type 0) → AreNoTexts IsText → (rows : List Row) (start : Place) (done rest : List Item) (text : List ℕ)
+no_text : (IsText : Subject → Output → Type 0) → AreNoTexts IsText → (rows : List Row) (start : Place) (done rest : List Item) (text : Output)
     → row_items Form.Passed start rows ≡ done ++ rest → AreTexts IsText done text
-    → text ≡ []
+    → text ≡ no_output
 no_text IsText none rows start [] rest text is are = are
 no_text IsText none [] start (d ∷ done) rest text is are = cc is
 no_text IsText none (row ∷ rows) start (d ∷ done) rest text is are =
@@ -103,15 +105,15 @@ no_text IsText none (row ∷ rows) start (d ∷ done) rest text is are =
     grind (arith, are.joined, first, no_text IsText none rows (place_after row.next) done rest are.rest (cc is) are.is_rest)
 
 -- the first entries were skipped
-nothing : (IsText : Subject → List ℕ → Type 0) → AreNoTexts IsText → (most : Option ℕ) (start : Place) (walk : List Row)
-    (done rest : List Item) (old new : List ℕ)
+nothing : (IsText : Subject → Output → Type 0) → AreNoTexts IsText → (most : Option ℕ) (start : Place) (walk : List Row)
+    (done rest : List Item) (old new : Output)
     → row_items Form.Passed start (first_rows most walk) ≡ done ++ rest
     → Printed IsText done old new → new ≡ old
-nothing IsText none most start walk done rest old new is printed = printed.new_is ∙ rw (no_text IsText none (first_rows most walk) start done rest printed.text is printed.are) (append-nil old)
+nothing IsText none most start walk done rest old new is printed = printed.new_is ∙ rw (no_text IsText none (first_rows most walk) start done rest printed.text is printed.are) (then_nothing old)
 
 -- a run that ends while entries are skipped
-module _ (IsText : Subject → List ℕ → Type 0) (none : AreNoTexts IsText) (entries : Entries) (n : ℕ) (most : Option ℕ) (start : Place)
-    (walk : List Row) (end : WalkEnd) (end_is : first_end most walk end ≡ end) (old new : List ℕ) (failure : Failure) where
+module _ (IsText : Subject → Output → Type 0) (none : AreNoTexts IsText) (entries : Entries) (n : ℕ) (most : Option ℕ) (start : Place)
+    (walk : List Row) (end : WalkEnd) (end_is : first_end most walk end ≡ end) (old new : Output) (failure : Failure) where
   abbrev passing : Plan
   passing = listing_plan (listing Form.Passed start most) walk end
 
@@ -123,9 +125,9 @@ module _ (IsText : Subject → List ℕ → Type 0) (none : AreNoTexts IsText) (
         spots = λ spot among. grind (arith, quiet_there Form.Passed (λ row. refl) most start walk first.done first.rest (spots_at_walk_end start walk end) spot first.items_are (rw end_is at among));
         next = λ item later text next is_text some.
             let is : row_items Form.Passed start (first_rows most walk) ≡ (first.done ++ item ∷ []) ++ later = first.items_are ∙ rw next (sym (append_assoc first.done (item ∷ []) later)) in
-            let one : AreTexts IsText (item ∷ []) text = record { first = text; rest = []; is_first = is_text; is_rest = refl; joined = sym (append-nil text) } in
-            let empty = no_text IsText none (first_rows most walk) start (first.done ++ item ∷ []) later (first.printed.text ++ text) is (texts_joined IsText first.done (item ∷ []) first.printed.text text first.printed.are one) in
-            absurd (omega (arith, some, ap length empty, length-append first.printed.text text));
+            let one : AreTexts IsText (item ∷ []) text = record { first = text; rest = no_output; is_first = is_text; is_rest = refl; joined = sym (then_nothing text) } in
+            let empty = no_text IsText none (first_rows most walk) start (first.done ++ item ∷ []) later (and_then first.printed.text text) is (texts_joined IsText first.done (item ∷ []) first.printed.text text first.printed.are one) in
+            absurd (omega (arith, some, ap (λ (o : Output). length o.bytes) empty, length-append first.printed.text.bytes text.bytes));
       })
       (λ is all. grind (arith, none_printed, rw end_is at all.1, nothing IsText none most start walk _ [] old new (sym (append-nil _)) all.0)) leaves
 
@@ -149,9 +151,9 @@ module _ {command : CommandState} {from : Option ℕ} {tries : ℕ} {begun now :
     (fresh : IsFresh command Form.Passed from begun) where
   counts : (result : Result ℕ Failure) (walk : List Row) (end : WalkEnd)
       → ListsAlong Form.Passed tries None begun now c result (start_of from) walk end 0
-      → Counted (IsTextOver c.seen.store) (start_of from) walk end c.old c.new result
-  counts (Ok count) walk end along = (along.all.count_is, grind (arith, along.leaves.1), nothing (IsTextOver c.seen.store) (none_over c.seen.store) None (start_of from) walk _ [] c.old c.new (sym (append-nil _)) along.leaves.0)
-  counts (Err failure) walk end along = λ entries n. passing_failed (IsTextOver c.seen.store) (none_over c.seen.store) entries n None (start_of from) walk end refl c.old c.new failure (cause_of (Err failure)) along.leaves
+      → Counted (IsPieceOver c.seen.store) (start_of from) walk end c.old c.new result
+  counts (Ok count) walk end along = (along.all.count_is, grind (arith, along.leaves.1), nothing (IsPieceOver c.seen.store) (none_over c.seen.store) None (start_of from) walk _ [] c.old c.new (sym (append-nil _)) along.leaves.0)
+  counts (Err failure) walk end along = λ entries n. passing_failed (IsPieceOver c.seen.store) (none_over c.seen.store) entries n None (start_of from) walk end refl c.old c.new failure (cause_of (Err failure)) along.leaves
 
   pub counted : (result : Result ℕ Failure) → IsHonest c.seen
       → ListsHonestly Form.Passed tries None begun now c result
@@ -166,11 +168,11 @@ module _ {command : CommandState} {from : Option ℕ} {tries : ℕ} {begun now :
         (g.log, g.was, counts_grown from result lists.traces first g lists.traces.ends);
   }
 
-pub counted_without_memory : (tries : ℕ) (start : Place) (s : Seen) (text : List ℕ) → IsHonest s
+pub counted_without_memory : (tries : ℕ) (start : Place) (s : Seen) (text : Output) → IsHonest s
     → CountsEntries start tries (change s s text text) (Err Failure.OutOfMemory)
 counted_without_memory tries start s text honest = record {
   ends = ends_here honest refl tt;
-  along = λ same walk end w ends. (λ entries n. no_items (IsTextOver s.store) (last_plan entries n start walk end) text text refl, omega arith);
+  along = λ same walk end w ends. (λ entries n. no_items (IsPieceOver s.store) (last_plan entries n start walk end) text text refl, omega arith);
   grows = λ first log grew.
       (first, log_now s s (stays_refl s honest).store honest first log, λ entries n. no_items (IsTextWhile s s) (last_plan entries n start first Done) text text refl);
 }
@@ -178,11 +180,11 @@ counted_without_memory tries start s text honest = record {
 -- ---- skipping entries, and listing those after them
 
 pub after_without_memory : (entries : Entries) (tries : ℕ) (start : Place) (passed : ℕ)
-    (s : Seen) (text : List ℕ) → IsHonest s
+    (s : Seen) (text : Output) → IsHonest s
     → ListsAfter entries start passed tries (change s s text text) (Err Failure.OutOfMemory)
 after_without_memory entries tries start passed s text honest = record {
   ends = ends_here honest refl tt;
-  along = λ same walk end w ends n done is. (no_items (IsTextOver s.store) (last_plan entries n start walk end) text text refl, omega arith);
+  along = λ same walk end w ends n done is. (no_items (IsPieceOver s.store) (last_plan entries n start walk end) text text refl, omega arith);
   grows = λ first few log grew. (
     first,
     log_now s s (stays_refl s honest).store honest first log,
@@ -191,7 +193,7 @@ after_without_memory entries tries start passed s text honest = record {
 }
 
 module _ (entries : Entries) {command : CommandState} {from : Option ℕ}
-    {tries passed : ℕ} {begun mid : CursorState} {s s' : Seen} {old text : List ℕ} (fresh : IsFresh command Form.Passed from begun) where
+    {tries passed : ℕ} {begun mid : CursorState} {s s' : Seen} {old text : Output} (fresh : IsFresh command Form.Passed from begun) where
   -- skipping failed
   pub after_failed : (failure : Failure) → IsHonest s
       → ListsHonestly Form.Passed tries (Some passed) begun mid (change s s' old text) (Err failure)
@@ -200,7 +202,7 @@ module _ (entries : Entries) {command : CommandState} {from : Option ℕ}
     ends = fresh_ends fresh lists;
     along = λ same walk end w ends n done is.
         let along = fresh_along fresh lists same walk end w ends in (
-          passing_failed (IsTextOver s.store) (none_over s.store) entries n (Some passed) (start_of from) walk end (grind (arith, done)) old text failure (cause_of (Err failure)) along.0.leaves,
+          passing_failed (IsPieceOver s.store) (none_over s.store) entries n (Some passed) (start_of from) walk end (grind (arith, done)) old text failure (cause_of (Err failure)) along.0.leaves,
           omega (arith, along.1, calls_split Form.Passed s.store tries passed walk),
         );
     grows = λ first few log grew.
@@ -232,7 +234,7 @@ module _ (entries : Entries) {command : CommandState} {from : Option ℕ}
   }
 
   -- of a log that only grew, all after the first ones
-  after_grown : (now : CursorState) (s'' : Seen) (new : List ℕ) (result : Result ℕ Failure) → IsHonest s
+  after_grown : (now : CursorState) (s'' : Seen) (new : Output) (result : Result ℕ Failure) → IsHonest s
       → ListsHonestly Form.Passed tries (Some passed) begun mid (change s s' old text) (Ok passed)
       → ListsHonestly (Form.EntryLine entries) tries None mid now (change s' s'' text new) result
       → (first : List Row) → IsLog Sel (start_of from) s.store first → OnlyGrew Sel (start_of from) s s''
@@ -259,11 +261,11 @@ module _ (entries : Entries) {command : CommandState} {from : Option ℕ}
         g.log,
         subst (λ (x : Shelf). WasLog x (start_of from) s s'' first g.log) shelf_is g.was,
         last_leaves (IsTextWhile s s'') entries (length g.log - passed) passed (start_of from) g.log old new (ending_of result) k
-            (subst (λ (l : List ℕ). IsAllowed (IsTextWhile s s'') (plan (place_after_rows (start_of from) (take passed g.log)) passed) l new (ending_of result)) nothing_yet wide),
+            (subst (λ (l : Output). IsAllowed (IsTextWhile s s'') (plan (place_after_rows (start_of from) (take passed g.log)) passed) l new (ending_of result)) nothing_yet wide),
       )
 
   -- the entries after them were listed
-  pub after_passed : (now : CursorState) (s'' : Seen) (new : List ℕ) (result : Result ℕ Failure)
+  pub after_passed : (now : CursorState) (s'' : Seen) (new : Output) (result : Result ℕ Failure)
       → 0 < mid.part → IsHonest s → ListsHonestly Form.Passed tries (Some passed) begun mid
       (change s s' old text) (Ok passed)
       → ListsHonestly (Form.EntryLine entries) tries None mid now (change s' s'' text new) result
@@ -277,8 +279,8 @@ module _ (entries : Entries) {command : CommandState} {from : Option ℕ}
         let here : 0 + passed ≡ passed = omega arith in
         let stands : StandsAt (rows_of Sel s.store) (start_of from) walk passed mid = rw here at first.all.stands in
         let later = (rw stays at (lists.along since.1 (start_of from) walk end passed)) (record { walks = w; ends = ends; stands = stands }) in
-        let none = nothing (IsTextOver s.store) (none_over s.store) (Some passed) (start_of from) walk _ [] old text (sym (append-nil _)) first.leaves.0 in (
-          rw done (last_leaves (IsTextOver s.store) entries n passed (start_of from) walk old new (ending_of result) is (rw (done, none) at later.leaves)),
+        let none = nothing (IsPieceOver s.store) (none_over s.store) (Some passed) (start_of from) walk _ [] old text (sym (append-nil _)) first.leaves.0 in (
+          rw done (last_leaves (IsPieceOver s.store) entries n passed (start_of from) walk old new (ending_of result) is (rw (done, none) at later.leaves)),
           omega (arith, rw (calls_for-named entries s.store tries (drop passed walk)) at (later.calls some), first.all.calls refl, fresh.falls, calls_split Form.Passed s.store tries passed walk),
         );
     grows = λ first few log grew. after_grown now s'' new result honest passes lists first log grew;
@@ -296,7 +298,7 @@ second_walk_bound-some : (bound : ℕ) (rows : List Row) → 0 < length rows
 second_walk_bound-some bound rows some = grind arith
 
 module _ (entries : Entries) (n : ℕ) (from : Option ℕ) (tries : ℕ) (some : 1 ≤ n) (s s' : Seen)
-    (old text : List ℕ) where
+    (old text : Output) where
   -- counting failed, or there are no entries
   pub last_prints_none : (result : Result ℕ Failure) → IfOk result (λ count. count ≡ 0)
       → s'.stores_added ≡ s.stores_added → CountsEntries (start_of from) tries
@@ -305,12 +307,12 @@ module _ (entries : Entries) (n : ℕ) (from : Option ℕ) (tries : ℕ) (some :
   last_prints_none (Ok count) none same counts = λ walk end w ends.
       let along = counts.along same walk end w ends in
       let empty = nil_from_length walk (sym along.0.0 ∙ none) in
-      (rw (along.0.1, empty, drop-nil) (none_printed (IsTextOver s.store) old text along.0.2, refl), omega (arith, along.1))
+      (rw (along.0.1, empty, drop-nil) (none_printed (IsPieceOver s.store) old text along.0.2, refl), omega (arith, along.1))
   last_prints_none (Err failure) none same counts = λ walk end w ends.
       let along = counts.along same walk end w ends in (along.0 entries n, omega (arith, along.1))
 
   -- the entries after the skipped ones were listed
-  pub last_prints : (s'' : Seen) (new : List ℕ) (count : ℕ) (ending : Ending) → (count ≡ 0 → ⊥)
+  pub last_prints : (s'' : Seen) (new : Output) (count : ℕ) (ending : Ending) → (count ≡ 0 → ⊥)
       → StaysHonest s s' → s'.stores_added ≡ s.stores_added → s''.stores_added ≡ s'.stores_added
       → CountsEntries (start_of from) tries (change s s' old text) (Ok count)
       → ListsAfter entries (start_of from) (count - n) tries (change s' s'' text new) ending
@@ -335,7 +337,7 @@ module _ (entries : Entries) (n : ℕ) (from : Option ℕ) (tries : ℕ) (some :
       (c.0, c.1, (c.0, log_again s s' c.0 c.1, c.2 entries (length c.0 - (length c.0 - n))))
 
   -- the entries after the skipped ones were listed
-  pub last_grown : (s'' : Seen) (new : List ℕ) (count : ℕ) (ending : Ending) → StaysHonest s s' → StaysHonest s' s''
+  pub last_grown : (s'' : Seen) (new : Output) (count : ℕ) (ending : Ending) → StaysHonest s s' → StaysHonest s' s''
       → CountsEntries (start_of from) tries (change s s' old text) (Ok count)
       → ListsAfter entries (start_of from) (count - n) tries (change s' s'' text new) ending
       → OnGrowingLast entries n from s s'' (λ plan. IsAllowed (IsTextWhile s s'') plan old new ending)
@@ -353,7 +355,7 @@ module _ (entries : Entries) (n : ℕ) (from : Option ℕ) (tries : ℕ) (some :
         (
           later.0,
           log_second s s' s'' a b c.0 now.0 later.0 now.1 later.1,
-          subst (λ (l : List ℕ). IsAllowed (IsTextWhile s s'') (last_plan entries (length later.0 - (length c.0 - n)) (start_of from) later.0 Done) l new ending) c.2.2
+          subst (λ (l : Output). IsAllowed (IsTextWhile s s'') (last_plan entries (length later.0 - (length c.0 - n)) (start_of from) later.0 Done) l new ending) c.2.2
               (subst (λ (m : ℕ). IsAllowed (IsTextWhile s s'') (last_plan entries m (start_of from) later.0 Done) text new ending) size wide),
         ),
       )

@@ -10,6 +10,7 @@ mod MeanwhileLemmas
 mod NameLemmas
 mod NamedLemmas
 mod NamedPages
+mod OutputLemmas
 mod PageLemmas
 mod PagesLaw
 mod PerformLemmas

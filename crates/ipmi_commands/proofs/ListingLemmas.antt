@@ -4,8 +4,9 @@ use Rattle.std.proofs.lemmas.List.{drop-drop, take-take}
 use Rattle.std.specs.FinSet as set
 use Rattle.std.specs.FinSet.{len-empty}
 use Rattle.std.specs.Ordering.{nat_cmp}
-use Rattle.ipmi_commands.specs.Below.{step_call_bound, digits, End, First, first_row, KeepsReservations, len_of, look, Shelf, current, Place, Ended, Row, Store, rows_of, MayFail, WalkEnd, WalkStep, Done, CycleAt, MissingAt, place_after, place_after_rows, Seen, IsHonest, AsksNothing, CursorState, CursorHoldsCurrent, StandsAt, FailsAt, IsStep, NotGivenUpOrRefused, StepAnswers, StepIsHonest, StepLeaves, asked_at, TakesPart, Ending, Failure, CommandState, start_of}
-use Rattle.ipmi_commands.specs.Prelude.{AsksAt, AtEnd, AtRecord, CallsAlong, calls_for, Cause, cause_of, cause_of_unread, Change, change, CountsSo, end_of, spots_at_walk_end, ending_of, EndsFor, failure_of, FindsIt, FindsNone, first_end, first_rows, Form, HasFirstItems, IsAllowed, IsAmong, IsFine, IsFresh, IsOnWalk, is_reached, OnWalk, walk_call_bound, IsTextOver, IsRowText, listing, listing_plan, Lists, ListsAlong, ListsHonestly, Item, IsStopAmong, most_after, most_for_one, IsWithin, OnEachWalk, Plan, Printed, row_items, rows_end, shelf_of, Spot, spots_because_of, StopsAt, TracesListing, Unread}
+use Rattle.ipmi_commands.specs.Below.{step_call_bound, digits, End, First, first_row, KeepsReservations, len_of, look, Shelf, current, Place, Ended, Row, Store, rows_of, MayFail, WalkEnd, WalkStep, Done, CycleAt, MissingAt, place_after, place_after_rows, Seen, IsHonest, AsksNothing, CursorState, CursorHoldsCurrent, StandsAt, FailsAt, IsStep, NotGivenUpOrRefused, StepAnswers, StepIsHonest, StepLeaves, asked_at, Ending, Failure, CommandState, start_of}
+use Rattle.ipmi_commands.specs.Prelude.{AsksAt, AtEnd, AtRecord, CallsAlong, calls_for, Cause, cause_of, cause_of_unread, Change, change, CountsSo, end_of, spots_at_walk_end, ending_of, EndsFor, failure_of, FindsIt, FindsNone, first_end, first_rows, Form, HasFirstItems, IsAllowed, IsAmong, IsFine, IsFresh, IsOnWalk, is_reached, OnWalk, walk_call_bound, IsPieceOver, listing, listing_plan, Lists, ListsAlong, ListsHonestly, Item, IsStopAmong, most_after, most_for_one, IsWithin, OnEachWalk, Plan, Printed, row_items, rows_end, OfRow, shelf_of, Spot, spots_because_of, StopsAt, TracesListing, Unread}
+use Rattle.ipmi_commands.specs.Output.{and_then, IsCut, Output}
 use Rattle.ipmi_commands.proofs.AskLemmas.{asks_as}
 use Rattle.ipmi_commands.proofs.CallLemmas.{HasCalled, at_limit, called_ended, called_more, called_stopped, calls_ended, digits_some, first_end-all, first_end-none, first_row-first_rows, first_rows-all, next_calls, next_one, none_left, not_at_limit, place_after_rows-append, within_more}
 use Rattle.ipmi_commands.proofs.CountLemmas.{between, ends_since}
@@ -45,7 +46,7 @@ pub record WentAlong (form : Form) (tries : ℕ) (most : Option ℕ) (passed pri
   pub stands : StandsAt (rows_of (shelf_of form) c.seen.store) start walk (k + passed) now
   pub calls : c.seen'.calls + digits now.part + calls_left
       ≤ c.seen.calls + calls_for form c.seen.store tries (used most walk k) + digits begun.part
-  pub are_printed : Printed (IsTextOver c.seen.store)
+  pub are_printed : Printed (IsPieceOver c.seen.store)
       (row_items form (from_here start walk k) (take printed (used most walk k))) c.old c.new
 
 -- the rows within the limit that were not returned yet
@@ -71,7 +72,7 @@ pub record Listed (form : Form) (tries : ℕ) (most : Option ℕ) (count : ℕ) 
   pub tries_are : now.tries ≡ tries
   pub called : HasCalled (most_for_one form tries) count begun now c.seen c.seen'
   pub within : IsWithin most count
-  pub has_written : Wrote wrote c.old c.new
+  pub has_written : Wrote wrote c.old.bytes c.new.bytes
   pub went : IsHonest c.seen → Went form tries most count begun now c
 
 -- ---- a step
@@ -124,20 +125,20 @@ may_later first spots cause may = grind arith
 abbrev plan_here : Form → Option ℕ → Place → List Row → WalkEnd → ℕ → Plan
 plan_here form most start walk end k = listing_plan (listing form (from_here start walk k) most) (drop k walk) end
 
-abbrev LeavesHere : Store → Form → Option ℕ → Place → List Row → WalkEnd → ℕ → List ℕ → List ℕ
+abbrev LeavesHere : Store → Form → Option ℕ → Place → List Row → WalkEnd → ℕ → Output → Output
     → Ending
     → Type 0
-LeavesHere store form most start walk end k old new ending = IsAllowed (IsTextOver store) (plan_here form most start walk end k) old new ending
+LeavesHere store form most start walk end k old new ending = IsAllowed (IsPieceOver store) (plan_here form most start walk end k) old new ending
 
 -- the first `count` rows were printed
-abbrev PrintsFirst : Store → Form → Option ℕ → ℕ → Place → List Row → ℕ → List ℕ → List ℕ → Type 0
-PrintsFirst store form most count start walk k old new = Printed (IsTextOver store) (row_items form (from_here start walk k) (take count (used most walk k))) old new
+abbrev PrintsFirst : Store → Form → Option ℕ → ℕ → Place → List Row → ℕ → Output → Output → Type 0
+PrintsFirst store form most count start walk k old new = Printed (IsPieceOver store) (row_items form (from_here start walk k) (take count (used most walk k))) old new
 
 -- the items of the first rows, and those of the other rows
 abbrev first_items : (form : Form) (store : Store) (most : Option ℕ) (count : ℕ) (start : Place)
-    (walk : List Row) (end : WalkEnd) (k : ℕ) (old new : List ℕ)
+    (walk : List Row) (end : WalkEnd) (k : ℕ) (old new : Output)
     → PrintsFirst store form most count start walk k old new
-    → HasFirstItems (IsTextOver store) (plan_here form most start walk end k) old new
+    → HasFirstItems (IsPieceOver store) (plan_here form most start walk end k) old new
 first_items form store most count start walk end k old new printed = record {
   done = row_items form (from_here start walk k) (take count (used most walk k));
   rest = row_items form (place_after_rows (from_here start walk k) (take count (used most walk k))) (left_rows most count walk k);
@@ -154,7 +155,7 @@ pub ok_end : {T : Type 0} (P : T → Type 0) (form : Form) (wrote : Bool) (value
 ok_end P form wrote value holds = grind arith
 
 module _ {form : Form} {tries : ℕ} {most : Option ℕ} {count : ℕ} {wrote : Bool}
-    {begun now : CursorState} {s s' : Seen} {old new : List ℕ}
+    {begun now : CursorState} {s s' : Seen} {old new : Output}
     (kept : Listed form tries most count wrote begun now (change s s' old new)) where
   -- all rows within the limit were listed
   all_listed : (store : Store) (start : Place) (walk : List Row) (end : WalkEnd) (k : ℕ)
@@ -163,7 +164,7 @@ module _ {form : Form} {tries : ℕ} {most : Option ℕ} {count : ℕ} {wrote : 
       → first_end most (drop k walk) end ≡ e
       → cause_of (ending_of result) ≡ AtEnd
       → ((rows : List Row)
-      → Printed (IsTextOver store) (row_items form (from_here start walk k) rows) old new
+      → Printed (IsPieceOver store) (row_items form (from_here start walk k) rows) old new
       → ending_of result ≡ rows_end form rows e)
       → PrintsFirst store form most count start walk k old new
       → LeavesHere store form most start walk end k old new (ending_of result)
@@ -171,7 +172,7 @@ module _ {form : Form} {tries : ℕ} {most : Option ℕ} {count : ℕ} {wrote : 
       let all = rw (take_all count (used most walk k) (omega (arith, count_is))) at printed in rw (cause, end_is) (all, ends_so (used most walk k) all)
 
   ends_by_name : (store : Store) (start : Place) (rows : List Row)
-      → Printed (IsTextOver store) (row_items form start rows) old new
+      → Printed (IsPieceOver store) (row_items form start rows) old new
       → ending_of (end_of form wrote count) ≡ rows_end form rows Done
   ends_by_name store start rows printed = end_of-wrote form wrote count store start rows old new printed kept.has_written
 
@@ -269,7 +270,7 @@ module _ {form : Form} {tries : ℕ} {most : Option ℕ} {count : ℕ} {wrote : 
       at_its_end : (e : WalkEnd) (listed : Result ℕ Failure) → k + count ≡ length walk → end ≡ e
           → cause_of (ending_of listed) ≡ AtEnd
           → ((rows : List Row)
-          → Printed (IsTextOver s.store) (row_items form (from_here start walk k) rows) old new
+          → Printed (IsPieceOver s.store) (row_items form (from_here start walk k) rows) old new
           → ending_of listed ≡ rows_end form rows e)
           → LeavesHere s.store form most start walk end k old new (ending_of listed)
       at_its_end e listed all is cause ends_so =
@@ -278,7 +279,7 @@ module _ {form : Form} {tries : ℕ} {most : Option ℕ} {count : ℕ} {wrote : 
 
       -- the step returned no record
       where_asked : (n : ℕ) → FailsAt n now next → (k + count ≡ length walk → MayFail end now.place)
-          → StopsAt (AtRecord n) (IsTextOver s.store) (plan_here form most start walk end k) old new
+          → StopsAt (AtRecord n) (IsPieceOver s.store) (plan_here form most start walk end k) old new
       where_asked n fails may =
           let rows = rows_of (shelf_of form) s.store in
           let at = from_here start walk k in
@@ -383,7 +384,7 @@ module _ {form : Form} {tries : ℕ} {most : Option ℕ} {count : ℕ} {wrote : 
               ]
 
           -- the output before it
-          abbrev before : HasFirstItems (IsTextOver s.store)
+          abbrev before : HasFirstItems (IsPieceOver s.store)
               (plan_here form most start walk end k) old new
           before = first_items form s.store most count start walk end k old new (there wanted step h (apart same).0 on).are_printed
 
@@ -393,12 +394,12 @@ module _ {form : Form} {tries : ℕ} {most : Option ℕ} {count : ℕ} {wrote : 
           at_item = rw row_is refl
 
       -- the listing stops at it
-      stopped : (failure : Failure) (text : List ℕ) → (IsHonest s''
+      stopped : (failure : Failure) (text : Output) → (IsHonest s''
           → AsksAt (spots_because_of form row) tries s'' last (cause_of (Err failure)))
           → (IsHonest s → last.stores_added ≡ s.stores_added → (p : Plan)
-          (first : HasFirstItems (IsTextOver s.store) p old new) (place : Place) (later : List Item)
+          (first : HasFirstItems (IsPieceOver s.store) p old new) (place : Place) (later : List Item)
           → first.rest ≡ row_item form place row ∷ later
-          → IsAllowed (IsTextOver s.store) p old text (Err failure))
+          → IsAllowed (IsPieceOver s.store) p old text (Err failure))
           → (IsHonest s → TracesListing form most begun next (change s last old text) (Err failure))
           → Lists form tries most begun next (change s last old text) (Err failure)
       stopped failure text asks leaves traces = record {
@@ -422,17 +423,17 @@ module _ {form : Form} {tries : ℕ} {most : Option ℕ} {count : ℕ} {wrote : 
           → FindsNone (spots_because_of form row) tries s'' last (cause_of_unread unread))
           → Lists form tries most begun next (change s last old new) (Err (failure_of unread))
       listing_none unread none = stopped (failure_of unread) new (λ h. (none h).asks) (λ h same p first place later at.
-          stops_after (IsTextOver s.store) p old new (Err (failure_of unread)) (cause_of_unread unread) first
+          stops_after (IsPieceOver s.store) p old new (Err (failure_of unread)) (cause_of_unread unread) first
           (rw at (may_later (AtRecord (asked_at place)) (spots_because_of form row) (cause_of_unread unread) (none (honest_step wanted step h).stays.honest).there)))
           (λ h.
           let lost = none (honest_step wanted step h).stays.honest in
           traced_lost most (kept.went h).tracing step last lost.asks.ends.stays (below wanted step) unread lost.there)
 
-      module _ (piece_text : List ℕ) (finds : IsHonest s''
-          → FindsIt (λ store. IsRowText store form row piece_text)
+      module _ (piece_text : Output) (finds : IsHonest s''
+          → FindsIt (λ store. IsPieceOver store (OfRow form row) piece_text)
           (spots_because_of form row) tries s'' last) where
         is_text : IsHonest s → last.stores_added ≡ s.stores_added
-            → IsRowText s.store form row piece_text
+            → IsPieceOver s.store (OfRow form row) piece_text
         is_text h same =
             let found = finds (honest_step wanted step h).stays.honest in
             let none = (apart (λ h. (finds h).asks) h same).1 in
@@ -440,24 +441,24 @@ module _ {form : Form} {tries : ℕ} {most : Option ℕ} {count : ℕ} {wrote : 
             rw (stays.stays none ∙ store_is (λ h. (finds h).asks) h same) at (found.is (keeps_at_same (spots_because_of form row) s'' last stays none))
 
         -- a part of the piece was written
-        pub listing_cut : (text : List ℕ) → 0 < length piece_text → TakesPart new text piece_text
+        pub listing_cut : (text : Output) → 0 < length piece_text.bytes → IsCut new text piece_text
             → Lists form tries most begun next (change s last old text) (Err Failure.WriteFault)
         listing_cut text some part = stopped Failure.WriteFault text (λ h. asks_as (finds h).asks (finds h).asks.ends.counts tt) (λ h same p first place later at.
-            cut_after (IsTextOver s.store) p old new text (Err Failure.WriteFault) first (row_item form place row) later piece_text at (is_text h same) some part)
+            cut_after (IsPieceOver s.store) p old new text (Err Failure.WriteFault) first (row_item form place row) later piece_text at (is_text h same) some part)
             (λ h.
             let found = finds (honest_step wanted step h).stays.honest in
             traced_cut most (kept.went h).tracing step last found.asks.ends.stays (below wanted step) text piece_text found.is some part)
 
         -- the piece was written
-        pub listing_more : (text : List ℕ) → text ≡ new ++ piece_text
-            → Listed form tries most (count + 1) (wrote || not (length piece_text == 0)) begun next
+        pub listing_more : (text : Output) → text ≡ and_then new piece_text
+            → Listed form tries most (count + 1) (wrote || not (length piece_text.bytes == 0)) begun next
             (change s last old text)
         listing_more text is = record {
           shelf = step.same.shelf ∙ kept.shelf;
           tries_are = step.same.tries ∙ kept.tries_are;
           called = more_called;
           within = below wanted step;
-          has_written = wrote_more wrote old new text piece_text kept.has_written is;
+          has_written = wrote_more wrote old.bytes new.bytes text.bytes piece_text.bytes kept.has_written (ap (λ (o : Output). o.bytes) is);
           went = λ h.
               let asks = λ (h' : IsHonest s''). (finds h').asks in
               record {
@@ -471,9 +472,9 @@ module _ {form : Form} {tries : ℕ} {most : Option ℕ} {count : ℕ} {wrote : 
                       stands = rw on_more at (stepped wanted step h first on).1;
                       calls = calls_on asks h same on;
                       are_printed = rw (row_items-next form at (used most walk k) count row _ (row_is asks h same on))
-                          (printed_joined (IsTextOver s.store) (row_items form at (take count (used most walk k))) _ old new text
+                          (printed_joined (IsPieceOver s.store) (row_items form at (take count (used most walk k))) _ old new text
                           (there wanted step h first on).are_printed
-                          (one_printed (IsTextOver s.store) (row_item form (place_after_rows at (take count (used most walk k))) row) piece_text new text (is_text h same) is));
+                          (one_printed (IsPieceOver s.store) (row_item form (place_after_rows at (take count (used most walk k))) row) piece_text new text (is_text h same) is));
                     };
                 tracing =
                     let found = finds (honest_step wanted step h).stays.honest in

@@ -7,20 +7,21 @@ use Rattle.ipmi_commands.specs.Below.{AreSteps, BeginsWith, Count, CursorState, 
 use Rattle.ipmi_records.specs.Sdr as sdr
 use Rattle.ipmi_commands.specs.Meanwhile.{IsTextWhile, KeepsAt, KeepsFor, OnGrowingListing}
 use Rattle.ipmi_commands.specs.Traced.{AreTextsOfSteps, IsTextAfter, IsTextOfResult, PrintsSteps, seen_next}
-use Rattle.ipmi_commands.specs.Prelude.{AreTexts, AtInventory, AtRecord, device_spots, Entries, Form, inventories_plan, IsTextOver, entries_in, job_with, Listing, listing, listing_plan, locator_spots, Named, named_spots, OfRow, OnGrowingInventories, OnGrowingLast, OnGrowingNamed, OnGrowingPlan, Plan, Printed, reading_spots, row_items, shelf_of, spots_because_of, Spot, Subject, Wording}
+use Rattle.ipmi_commands.specs.Prelude.{AreTexts, AtInventory, AtRecord, device_spots, Entries, Form, inventories_plan, IsPieceOver, entries_in, job_with, Listing, listing, listing_plan, locator_spots, Named, named_spots, OfRow, OnGrowingInventories, OnGrowingLast, OnGrowingNamed, OnGrowingPlan, Plan, Printed, reading_spots, row_items, shelf_of, spots_because_of, Spot, Subject, Wording}
+use Rattle.ipmi_commands.specs.Output.{and_then, Output}
 
 -- ---- over a part of the run
 
-pub while_first : (a b c : Seen) → KeepsStore a b → KeepsStore b c → (subject : Subject) (text : List ℕ)
+pub while_first : (a b c : Seen) → KeepsStore a b → KeepsStore b c → (subject : Subject) (text : Output)
     → IsTextWhile a b subject text → IsTextWhile a c subject text
 while_first a b c first then_ subject text is = record { store = is.store; held = held_in_first a b c first then_ is.store is.held; is = is.is }
 
-pub while_second : (a b c : Seen) → KeepsStore a b → KeepsStore b c → (subject : Subject) (text : List ℕ)
+pub while_second : (a b c : Seen) → KeepsStore a b → KeepsStore b c → (subject : Subject) (text : Output)
     → IsTextWhile b c subject text → IsTextWhile a c subject text
 while_second a b c first then_ subject text is = record { store = is.store; held = held_in_second a b c first then_ is.store is.held; is = is.is }
 
 -- over the store as it was at last
-pub while_last : (s s' : Seen) (subject : Subject) (text : List ℕ) → IsTextOver s'.store subject text
+pub while_last : (s s' : Seen) (subject : Subject) (text : Output) → IsPieceOver s'.store subject text
     → IsTextWhile s s' subject text
 while_last s s' subject text is = record { store = s'.store; held = held_at_last s s'; is = is }
 
@@ -155,11 +156,11 @@ keeps_at_same (AtInventory id ∷ spots) s s' keeps same = (keeps_same (inventor
 -- ---- the texts of steps
 
 module _ (form : Form) (first last : Seen) (keeps : KeepsFor form first last) where
-  abbrev W : Subject → List ℕ → Type 0
+  abbrev W : Subject → Output → Type 0
   W = IsTextWhile first last
 
   -- the text of one record, over the store after its requests
-  pub text_while : (row : Row) (s s' : Seen) (text : List ℕ) → StaysHonest first s → StaysHonest s s'
+  pub text_while : (row : Row) (s s' : Seen) (text : Output) → StaysHonest first s → StaysHonest s s'
       → StaysHonest s' last → IsTextAfter form row s s' text → W (OfRow form row) text
   text_while row s s' text before stays after is =
       let to_here = stays_trans first s s' before stays in
@@ -167,16 +168,16 @@ module _ (form : Form) (first last : Seen) (keeps : KeepsFor form first last) wh
       while_first first s' last to_here.store after.store (OfRow form row) text
       (while_last first s' (OfRow form row) text (is (row_keeps form row s s' (for_second form first s s' before.store stays.store whole))))
 
-  of_result : (result : Result (Option Row) Ended) (rows : List Row) (s s' : Seen) (start : Place) (text one rest : List ℕ)
+  of_result : (result : Result (Option Row) Ended) (rows : List Row) (s s' : Seen) (start : Place) (text one rest : Output)
       → StaysHonest first s → StaysHonest s s' → StaysHonest s' last → IsTextOfResult form result s s' one
-      → ((at : Place) → AreTexts W (row_items form at rows) rest) → text ≡ one ++ rest
+      → ((at : Place) → AreTexts W (row_items form at rows) rest) → text ≡ and_then one rest
       → AreTexts W (row_items form start (with_handed result rows)) text
   of_result (Ok (Some row)) rows s s' start text one rest before stays after is more joined =
       record { first = one; rest = rest; is_first = text_while row s s' one before stays after is; is_rest = more (place_after row.next); joined = joined }
   of_result (Ok None) rows s s' start text one rest before stays after is more joined =
-      subst (AreTexts W (row_items form start rows)) (sym (joined ∙ ap (λ (l : List ℕ). l ++ rest) is)) (more start)
+      subst (AreTexts W (row_items form start rows)) (sym (joined ∙ ap (λ (o : Output). and_then o rest) is)) (more start)
   of_result (Err ended) rows s s' start text one rest before stays after is more joined =
-      subst (AreTexts W (row_items form start rows)) (sym (joined ∙ ap (λ (l : List ℕ). l ++ rest) is)) (more start)
+      subst (AreTexts W (row_items form start rows)) (sym (joined ∙ ap (λ (o : Output). and_then o rest) is)) (more start)
 
   -- from the next step on
   next_stays : (c : CursorState) (s : Seen) (steps : List Stepped) (seen' : Seen) → IsHonest s → AreSteps c s steps → StaysHonest (seen_after s steps) seen'
@@ -188,7 +189,7 @@ module _ (form : Form) (first last : Seen) (keeps : KeepsFor form first last) wh
         stays_trans step.before step.seen seen' made (stays_trans step.seen (seen_after step.seen steps) seen' (steps_stay step.cursor step.seen steps made.honest are.2) after),
   )
 
-  steps_texts : (c : CursorState) (s : Seen) (steps : List Stepped) (start : Place) (seen' : Seen) (text : List ℕ)
+  steps_texts : (c : CursorState) (s : Seen) (steps : List Stepped) (start : Place) (seen' : Seen) (text : Output)
       → StaysHonest first s → AreSteps c s steps → StaysHonest (seen_after s steps) seen' → StaysHonest seen' last
       → AreTextsOfSteps form steps seen' text → AreTexts W (row_items form start (handed_out steps)) text
   steps_texts c s [] start seen' text before are stays after texts = texts
@@ -200,7 +201,7 @@ module _ (form : Form) (first last : Seen) (keeps : KeepsFor form first last) wh
       (stays_trans (seen_next steps seen') seen' last next.1 after) texts.is_first
       (λ at. steps_texts step.cursor step.seen steps at seen' texts.rest to_here are.2 stays after texts.is_rest) texts.joined
 
-  pub steps_printed : (c : CursorState) (s : Seen) (steps : List Stepped) (start : Place) (seen' : Seen) (old new : List ℕ)
+  pub steps_printed : (c : CursorState) (s : Seen) (steps : List Stepped) (start : Place) (seen' : Seen) (old new : Output)
       → StaysHonest first s → AreSteps c s steps → StaysHonest (seen_after s steps) seen' → StaysHonest seen' last
       → PrintsSteps form steps seen' old new → Printed W (row_items form start (handed_out steps)) old new
   steps_printed c s steps start seen' old new before are stays after printed =

@@ -1,7 +1,8 @@
 -- A record with the name was found if and only if something was written.
 use Rattle.std.proofs.Common.{◌≡◌, ℕ, ◌<◌, ◌==◌, ◌||◌, not, Bool, true, false, Option, Result, Ok, Err, List, [], ◌∷◌, ◌++◌, length, refl, ap, ◌∙◌, append-nil, arith, length-append}
 use Rattle.ipmi_commands.specs.Below.{Failure, Place, Reading, Row, SdrFault, Seen, SdrView, sdr_view_of, Store, Done, place_after}
-use Rattle.ipmi_commands.specs.Prelude.{AreTexts, end_of, ending_of, Form, IfChosen, IsBlockIn, IsBlockOfName, IsTextOver, IsTextWhile, OfRow, Printed, reading_for, row_items, rows_end, some_has_name, Subject, view_has_name, Wording}
+use Rattle.ipmi_commands.specs.Prelude.{AreTexts, end_of, ending_of, Form, IfChosen, IsBlockIn, IsBlockOfName, IsPieceOver, IsTextWhile, OfRow, Printed, reading_for, row_items, rows_end, some_has_name, Subject, view_has_name, Wording}
+use Rattle.ipmi_commands.specs.Output.{Output}
 use Rattle.ipmi_commands.specs.Traced.{IsFound}
 
 -- ---- whether anything was written
@@ -42,48 +43,48 @@ module _ (wording : Wording) (name : List ℕ) (store : Store) where
   row_wrote id (Err fault) text is = is
 
 -- each text is over some store
-abbrev AreOverStores : (Subject → List ℕ → Type 0) → Type 0
-AreOverStores IsText = (subject : Subject) (text : List ℕ) → IsText subject text → (store : Store) × IsTextOver store subject text
+abbrev AreOverStores : (Subject → Output → Type 0) → Type 0
+AreOverStores IsText = (subject : Subject) (text : Output) → IsText subject text → (store : Store) × IsPieceOver store subject text
 
-module _ (IsText : Subject → List ℕ → Type 0) (over : AreOverStores IsText) where
+module _ (IsText : Subject → Output → Type 0) (over : AreOverStores IsText) where
   -- something is printed if a row has the name
-  name_wrote : (wording : Wording) (name : List ℕ) (start : Place) (rows : List Row) (text : List ℕ)
+  name_wrote : (wording : Wording) (name : List ℕ) (start : Place) (rows : List Row) (text : Output)
       → AreTexts IsText (row_items (Form.Block wording name) start rows) text
-      → Wrote (some_has_name name rows) [] text
-  name_wrote wording name start [] text are = are
+      → Wrote (some_has_name name rows) [] text.bytes
+  name_wrote wording name start [] text are = ap (λ (o : Output). o.bytes) are
   name_wrote wording name start (row ∷ rows) text are =
       let of_row = over (OfRow (Form.Block wording name) row) are.first are.is_first in
-      rw are.joined (wrote_both _ _ are.first are.rest (row_wrote wording name of_row.0 row.id (sdr_view_of row.bytes) are.first of_row.1)
+      rw are.joined (wrote_both _ _ are.first.bytes are.rest.bytes (row_wrote wording name of_row.0 row.id (sdr_view_of row.bytes) are.first.bytes of_row.1.is_text)
       (name_wrote wording name (place_after row.next) rows are.rest are.is_rest))
 
   -- whether something was written decides the end of the listing
-  end_by : (form : Form) (wrote : Bool) (count : ℕ) (start : Place) (rows : List Row) (old new : List ℕ)
-      → Printed IsText (row_items form start rows) old new → Wrote wrote old new
+  end_by : (form : Form) (wrote : Bool) (count : ℕ) (start : Place) (rows : List Row) (old new : Output)
+      → Printed IsText (row_items form start rows) old new → Wrote wrote old.bytes new.bytes
       → ending_of (end_of form wrote count) ≡ rows_end form rows Done
   end_by (Form.Block wording name) wrote count start rows old new printed has =
-      grind (arith, length-append, ap length printed.new_is, name_wrote wording name start rows printed.text printed.are)
+      grind (arith, length-append, ap (λ (o : Output). length o.bytes) printed.new_is, name_wrote wording name start rows printed.text printed.are)
   end_by _ wrote count start rows old new printed has = refl
 
 pub end_of-wrote : (form : Form) (wrote : Bool) (count : ℕ) (store : Store) (start : Place)
-    (rows : List Row) (old new : List ℕ)
-    → Printed (IsTextOver store) (row_items form start rows) old new → Wrote wrote old new
+    (rows : List Row) (old new : Output)
+    → Printed (IsPieceOver store) (row_items form start rows) old new → Wrote wrote old.bytes new.bytes
     → ending_of (end_of form wrote count) ≡ rows_end form rows Done
 end_of-wrote form wrote count store start rows old new printed has =
-    end_by (IsTextOver store) (λ subject text is. (store, is)) form wrote count start rows old new printed has
+    end_by (IsPieceOver store) (λ subject text is. (store, is)) form wrote count start rows old new printed has
 
 -- ---- while the store changes
 
 while_over : (s s' : Seen) → AreOverStores (IsTextWhile s s')
 while_over s s' subject text is = (is.store, is.is)
 
-pub while_found : (form : Form) (s s' : Seen) (start : Place) (rows : List Row) (old new : List ℕ)
+pub while_found : (form : Form) (s s' : Seen) (start : Place) (rows : List Row) (old new : Output)
     → Printed (IsTextWhile s s') (row_items form start rows) old new → IsFound form old new
     → Ok tt ≡ rows_end form rows Done
 while_found (Form.Block wording name) s s' start rows old new printed found =
     end_by (IsTextWhile s s') (while_over s s') (Form.Block wording name) true 0 start rows old new printed found
 while_found _ s s' start rows old new printed found = refl
 
-pub while_none : (wording : Wording) (name : List ℕ) (s s' : Seen) (start : Place) (rows : List Row) (old new : List ℕ)
+pub while_none : (wording : Wording) (name : List ℕ) (s s' : Seen) (start : Place) (rows : List Row) (old new : Output)
     → Printed (IsTextWhile s s') (row_items (Form.Block wording name) start rows) old new → new ≡ old
     → Err (Failure.NoName name) ≡ rows_end (Form.Block wording name) rows Done
 while_none wording name s s' start rows old new printed none =

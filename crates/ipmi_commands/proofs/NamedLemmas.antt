@@ -7,7 +7,8 @@ use Rattle.std.proofs.lemmas.List.Elements.{All-cons, All-nil}
 use Rattle.ipmi_commands.specs.Below.{AllOf, Count, CycleAt, Done, Ending, Failure, First, FoundIsRow, IsHonest, IsShelf, IsStore, is_whole_record, MissingAt, Place, place_after, records_in, Row, Sdr, Seen, stays_refl, Store, WalkEnd}
 use Rattle.ipmi_commands.specs.Named.{end_after, ending_then, walk_of}
 use Rattle.ipmi_commands.specs.declared.named.Walked.{Walked}
-use Rattle.ipmi_commands.specs.Prelude.{after_names, AreTexts, AtEnd, bytes_of_rows, Cause, cause_of, Change, change, Dishonest, end_after_names, ending_of, end_spots_of_last, EndsNamed, EndsFor, EndsListing, Entries, entries_in, Form, GaveUp, HasFirstItems, IsAllowed, IsAmong, IsPage, IsTextOver, IsTextWhile, Item, Job, job_with, Leaves, listing, listing_plan, MayEnd, most_calls, most_named, most_on_walk, Named, next_spots, NoMemory, NoOutput, OfRow, OnNamed, OnPlan, Plan, Printed, Refused, row_items, rows_end, Runs, Spot, spots_at_walk_end, spots_before, spots_of_walk, Subject, TracesJob, with_first_spots, Wording}
+use Rattle.ipmi_commands.specs.Prelude.{after_names, AreTexts, AtEnd, bytes_of_rows, Cause, cause_of, Change, change, Dishonest, end_after_names, ending_of, end_spots_of_last, EndsNamed, EndsFor, EndsListing, Entries, entries_in, Form, GaveUp, HasFirstItems, IsAllowed, IsAmong, IsPage, IsPieceOver, IsTextWhile, Item, Job, job_with, Leaves, listing, listing_plan, MayEnd, most_calls, most_named, most_on_walk, Named, next_spots, NoMemory, NoOutput, OfRow, OnNamed, OnPlan, Plan, Printed, Refused, row_items, rows_end, Runs, Spot, spots_at_walk_end, spots_before, spots_of_walk, Subject, TracesJob, with_first_spots, Wording}
+use Rattle.ipmi_commands.specs.Output.{no_output, Output}
 use Rattle.ipmi_commands.proofs.CountLemmas.{between, ends_here, ends_since}
 use Rattle.ipmi_bus.proofs.HeldLemmas.{grew_first}
 use Rattle.ipmi_commands.proofs.ItemLemmas.{leaves_map, no_items}
@@ -18,15 +19,15 @@ use Rattle.ipmi_commands.proofs.SpotLemmas.{among_after, quiet_there}
 -- ---- the bytes of the records
 
 -- each text of a row is its bytes
-abbrev AreBytesOf : (Subject → List ℕ → Type 0) → Type 0
-AreBytesOf IsText = (row : Row) (text : List ℕ) → IsText (OfRow Form.Bytes row) text → text ≡ row.bytes
+abbrev AreBytesOf : (Subject → Output → Type 0) → Type 0
+AreBytesOf IsText = (row : Row) (text : Output) → IsText (OfRow Form.Bytes row) text → text.bytes ≡ row.bytes
 
-bytes_text : (IsText : Subject → List ℕ → Type 0) → AreBytesOf IsText → (rows : List Row) (start : Place) (text : List ℕ)
+bytes_text : (IsText : Subject → Output → Type 0) → AreBytesOf IsText → (rows : List Row) (start : Place) (text : Output)
     → AreTexts IsText (row_items Form.Bytes start rows) text
-    → text ≡ concat (bytes_of_rows rows)
-bytes_text IsText bytes [] start text are = are
+    → text.bytes ≡ concat (bytes_of_rows rows)
+bytes_text IsText bytes [] start text are = ap (λ (o : Output). o.bytes) are
 bytes_text IsText bytes (row ∷ rows) start text are =
-    are.joined ∙ rw (bytes row are.first are.is_first, bytes_text IsText bytes rows (place_after row.next) are.rest are.is_rest) refl
+    ap (λ (o : Output). o.bytes) are.joined ∙ rw (bytes row are.first are.is_first, bytes_text IsText bytes rows (place_after row.next) are.rest are.is_rest) refl
 
 whole_record : (bytes : List ℕ) → length bytes ≡ sdr_len bytes → is_whole_record bytes ≡ true
 whole_record bytes is = grind (arith, nat_tests)
@@ -42,16 +43,16 @@ abbrev pub RecordsAreFound : Type 0
 RecordsAreFound = (records : List (List ℕ)) → AllPass is_whole_record records → records_in (concat records) ≡ records
 
 -- the listed bytes are those of the records on the walk
-pub read_records : FoundIsRow → RecordsAreFound → (IsText : Subject → List ℕ → Type 0) → AreBytesOf IsText
-    → (store : Store) (walk : List Row) (text : List ℕ) → IsStore store → AllOf store.sdr walk
-    → Printed IsText (row_items Form.Bytes First walk) [] text
-    → records_in text ≡ bytes_of_rows walk
+pub read_records : FoundIsRow → RecordsAreFound → (IsText : Subject → Output → Type 0) → AreBytesOf IsText
+    → (store : Store) (walk : List Row) (text : Output) → IsStore store → AllOf store.sdr walk
+    → Printed IsText (row_items Form.Bytes First walk) no_output text
+    → records_in text.bytes ≡ bytes_of_rows walk
 read_records look_row split IsText bytes store walk text ok all printed =
-    ap records_in (printed.new_is ∙ bytes_text IsText bytes walk First printed.text printed.are)
+    ap records_in (ap (λ (o : Output). o.bytes) printed.new_is ∙ bytes_text IsText bytes walk First printed.text printed.are)
     ∙ split (bytes_of_rows walk) (whole_rows look_row store.sdr walk ok.sdr all)
 
 -- equal known contents are equal
-pub some_is : (a b : List ℕ) → Some a ≡ Some b → a ≡ b
+pub some_is : (a b : Output) → Some a ≡ Some b → a ≡ b
 some_is a b is = cc is
 
 -- ---- spots
@@ -124,20 +125,20 @@ with_end wording records (Named.Events (Count.First n) from) c = tt
 with_end wording records (Named.Events (Count.Last n) from) c = tt
 with_end wording records Named.Devices c = tt
 
-with_traces : (wording : Wording) (records : List (List ℕ)) (named : Named) (s : Seen) (text : List ℕ)
+with_traces : (wording : Wording) (records : List (List ℕ)) (named : Named) (s : Seen) (text : Output)
     → TracesJob (job_with wording records named) (change s s text text) (Err Failure.OutOfMemory)
 with_traces wording records (Named.Events Count.All from) s text = (Err Failure.OutOfMemory, refl, inl (inl refl, refl, refl))
 with_traces wording records (Named.Events (Count.First n) from) s text = (Err Failure.OutOfMemory, refl, inl (inl refl, refl, refl))
 with_traces wording records (Named.Events (Count.Last n) from) s text = tt
 with_traces wording records Named.Devices s text = tt
 
-pub with_without_memory : (wording : Wording) (records : List (List ℕ)) (named : Named) (tries : ℕ) (s : Seen) (text : List ℕ)
+pub with_without_memory : (wording : Wording) (records : List (List ℕ)) (named : Named) (tries : ℕ) (s : Seen) (text : Output)
     → Runs (job_with wording records named) tries (change s s text text) (Err Failure.OutOfMemory)
 with_without_memory wording records named tries s text = record {
   calls = omega arith;
   ends = with_end wording records named (change s s text text);
   why = λ h. ends_here h refl tt;
-  prints = λ h same. with_all wording records tries s.store _ named (λ plan calls. (no_items (IsTextOver s.store) plan text text refl, omega arith));
+  prints = λ h same. with_all wording records tries s.store _ named (λ plan calls. (no_items (IsPieceOver s.store) plan text text refl, omega arith));
   grows = λ h. with_growing s s h (stays_refl s h).store _ (λ plan. no_items (IsTextWhile s s) plan text text refl) wording records named;
   traces = λ h. with_traces wording records named s text;
 }
@@ -154,12 +155,12 @@ not_at_end records Done result failure is at = grind arith
 not_at_end records (CycleAt n) result failure is at = grind arith
 not_at_end records (MissingAt n) result failure is at = grind arith
 
-module _ (IsText : Subject → List ℕ → Type 0) (records : List Row) (end : WalkEnd) (plan : Plan) (kept text : List ℕ) where
+module _ (IsText : Subject → Output → Type 0) (records : List Row) (end : WalkEnd) (plan : Plan) (kept text : Output) where
   abbrev q : Plan
   q = after_names records end plan
 
   -- the run stops at a spot of that walk
-  stop_there : (first : HasFirstItems IsText (records_plan records end) [] kept) (spot : Spot)
+  stop_there : (first : HasFirstItems IsText (records_plan records end) no_output kept) (spot : Spot)
       → IsAmong (next_spots first.rest (spots_at_walk_end First records end)) spot
       → IsAmong (next_spots q.items q.end_spots) spot
   stop_there first spot there =
@@ -179,7 +180,7 @@ module _ (IsText : Subject → List ℕ → Type 0) (records : List Row) (end : 
 
   pub stop_by : (result : Result Place Failure) (failure : Failure) → walk_of result ≡ Err failure
       → (cause : Cause) → cause_of (ending_of result) ≡ cause
-      → Leaves IsText (records_plan records end) [] kept (ending_of result) cause
+      → Leaves IsText (records_plan records end) no_output kept (ending_of result) cause
       → IsAllowed IsText q text text (Err failure)
   stop_by result failure is AtEnd at leaves = absurd (not_at_end records end result failure is leaves.1)
   stop_by result failure is (GaveUp spot) at leaves =
@@ -208,7 +209,7 @@ walked_end records (CycleAt n) result walked is at = grind arith
 walked_end records (MissingAt n) result walked is at = grind arith
 
 -- the run ends with this failure before anything is printed
-module _ (tries : ℕ) (s s' : Seen) (kept : List ℕ) (wording : Wording) (named : Named)
+module _ (tries : ℕ) (s s' : Seen) (kept : Output) (wording : Wording) (named : Named)
     (calls : s'.calls ≤ s.calls + most_on_walk Form.Bytes tries) where
   pub failed_ends : (named : Named) (result : Result Place Failure) (failure : Failure)
       → walk_of result ≡ Err failure → EndsListing Form.Bytes s' (ending_of result)
@@ -221,9 +222,9 @@ module _ (tries : ℕ) (s s' : Seen) (kept : List ℕ) (wording : Wording) (name
       → EndsFor tries IsPlain s s' (cause_of (Err failure))
   failed_for IsPlain result failure is ends = grind arith
 
-  pub names_failed : (text : List ℕ) (result : Result Place Failure) (failure : Failure)
+  pub names_failed : (text : Output) (result : Result Place Failure) (failure : Failure)
       → walk_of result ≡ Err failure → EndsListing Form.Bytes s' (ending_of result)
-      → (IsHonest s → IsPage Form.Bytes First tries None (change s s' [] kept) result)
+      → (IsHonest s → IsPage Form.Bytes First tries None (change s s' no_output kept) result)
       → Runs (Job.Named wording named) tries (change s s' text text) (Err failure)
   names_failed text result failure is ends page_of = record {
     calls = omega (arith, calls);
@@ -232,7 +233,7 @@ module _ (tries : ℕ) (s s' : Seen) (kept : List ℕ) (wording : Wording) (name
     prints = λ h same records end w ends_.
         let along = (page_of h).along same records end w ends_ in
         named_all wording (bytes_of_rows records) tries s.store _ named (λ plan calls. (
-          stop_by (IsTextOver s.store) records end plan kept text result failure is (cause_of (ending_of result)) refl along.leaves,
+          stop_by (IsPieceOver s.store) records end plan kept text result failure is (cause_of (ending_of result)) refl along.leaves,
           omega (arith, along.calls),
         ));
     grows = λ h first log grew.
@@ -255,7 +256,7 @@ then_ends wording Named.Devices seen ending walked ends = grind arith
 pub then_for : (ending : Ending) (walked : Walked) → cause_of (ending_then ending walked) ≡ cause_of ending
 then_for ending walked = grind arith
 
-pub then_allowed : (IsText : Subject → List ℕ → Type 0) (records : List Row) (end : WalkEnd) (plan : Plan) (old new : List ℕ)
+pub then_allowed : (IsText : Subject → Output → Type 0) (records : List Row) (end : WalkEnd) (plan : Plan) (old new : Output)
     (ending : Ending) (walked : Walked) → end_after walked ≡ end_after_names end (Ok tt)
     → IsAllowed IsText plan old new ending
     → IsAllowed IsText (after_names records end plan) old new (ending_then ending walked)
@@ -268,15 +269,15 @@ then_allowed IsText records end plan old new ending walked end_is allowed =
     then_end e p is = grind arith
 
 pub named_run : FoundIsRow → RecordsAreFound → (tries : ℕ) (s s' s'' : Seen)
-    (kept old new : List ℕ) (wording : Wording) (named : Named) (result : Result Place Failure)
+    (kept old new : Output) (wording : Wording) (named : Named) (result : Result Place Failure)
     (walked : Walked) (ending : Ending)
     → s'.calls ≤ s.calls + most_on_walk Form.Bytes tries → walk_of result ≡ Ok walked
-    → (IsHonest s → IsPage Form.Bytes First tries None (change s s' [] kept) result)
-    → Runs (job_with wording (records_in kept) named) tries (change s' s'' old new) ending
+    → (IsHonest s → IsPage Form.Bytes First tries None (change s s' no_output kept) result)
+    → Runs (job_with wording (records_in kept.bytes) named) tries (change s' s'' old new) ending
     → Runs (Job.Named wording named) tries (change s s'' old new) (ending_then ending walked)
 named_run look_row split tries s s' s'' kept old new wording named result walked ending calls is page_of runs = record {
-  calls = omega (arith, calls, runs.calls, named_calls wording (records_in kept) named tries);
-  ends = then_ends wording named s'' ending walked (named_ends wording (records_in kept) named (change s' s'' old new) ending runs.ends);
+  calls = omega (arith, calls, runs.calls, named_calls wording (records_in kept.bytes) named tries);
+  ends = then_ends wording named s'' ending walked (named_ends wording (records_in kept.bytes) named (change s' s'' old new) ending runs.ends);
   why = λ h.
       let ends = rw (walked_at_end result walked is) at (page_of h).ends in
       rw (then_for ending walked) (ends_since ends ends.stays.plain (runs.why ends.stays.honest));
@@ -290,10 +291,10 @@ named_run look_row split tries s s' s'' kept old new wording named result walked
       λ records end w ends_.
       let along = page.along since.0 records end w ends_ in
       let all = rw (walked_at_end result walked is) at along.leaves in
-      let records_are = read_records look_row split (IsTextOver s.store) (λ row text is. is) s.store records kept h.store w.of_shelf all.0 in
+      let records_are = read_records look_row split (IsPieceOver s.store) (λ row text is. is.is_text) s.store records kept h.store w.of_shelf all.0 in
       let on = rw records_are at printed in
       named_map wording (bytes_of_rows records) tries s.store _ _ named (λ plan calls_. λ both. (
-        then_allowed (IsTextOver s.store) records end plan old new ending walked (walked_end records end result walked is all.1) both.0,
+        then_allowed (IsPieceOver s.store) records end plan old new ending walked (walked_end records end result walked is all.1) both.0,
         omega (arith, both.1, along.calls),
       )) on;
   grows = λ h first log grew.
@@ -305,7 +306,7 @@ named_run look_row split tries s s' s'' kept old new wording named result walked
       let read = page.grows tt first log (grew_first Sdr First s s' s'' a b grew) in
       let all = rw (walked_at_end result walked is) at read.2 in
       let was = read.1 in
-      let records_are = read_records look_row split (IsTextWhile s s') (λ row text is. is.is) was.store read.0 kept was.is_store was.is_log.walks.of_shelf all.0 in
+      let records_are = read_records look_row split (IsTextWhile s s') (λ row text is. is.is.is_text) was.store read.0 kept was.is_store was.is_log.walks.of_shelf all.0 in
       let on = rw records_are at (runs.grows ends.stays.honest) in (
         read.0,
         log_first s s' s'' a b first read.0 was,

@@ -3,25 +3,26 @@ use Rattle.std.proofs.Common.{inl, ℕ, ◌+◌, ◌*◌, ◌≤◌, IsTrue, Opt
 use Rattle.ipmi_commands.specs.Below.{Count, Ending, Failure, FoundIsRow, IsHonest, Place, records_in, Seen, start_of, TailIsWalk}
 use Rattle.ipmi_commands.specs.Named.{ending_then, ReadsRecords}
 use Rattle.ipmi_commands.specs.declared.named.Walked.{Walked}
-use Rattle.ipmi_commands.specs.Prelude.{IsTextOver, ArePages, bytes_of_rows, cause_of, change, ending_of, EndsListing, entries_in, entries_with, Form, listing, listing_plan, most_on_walk, Named, pages_made, RunsNamedInPages, Wording}
+use Rattle.ipmi_commands.specs.Prelude.{IsPieceOver, ArePages, bytes_of_rows, cause_of, change, ending_of, EndsListing, entries_in, entries_with, Form, listing, listing_plan, most_on_walk, Named, pages_made, RunsNamedInPages, Wording}
+use Rattle.ipmi_commands.specs.Output.{no_output, Output}
 use Rattle.ipmi_commands.proofs.CountLemmas.{between, ends_since}
 use Rattle.ipmi_commands.proofs.NamedLemmas.{entries_end, failed_ends, failed_for, read_records, RecordsAreFound, stop_by, then_allowed, then_ends, then_for, walked_at_end, walked_end}
 use Rattle.ipmi_commands.proofs.PageLemmas.{page_without_memory}
 use Rattle.ipmi_commands.proofs.PagesLaw.{OneListing, pages_are_one}
 
 -- there is no memory for the table of the sensors, as if there were none for the first page
-pub no_pages : (form : Form) (start : Place) (tries : ℕ) (sizes : List ℕ) (s : Seen) (text : List ℕ)
+pub no_pages : (form : Form) (start : Place) (tries : ℕ) (sizes : List ℕ) (s : Seen) (text : Output)
     → IsHonest s → ArePages form tries start sizes (change s s text text) (Err Failure.OutOfMemory)
 no_pages form start tries [] s text h =
     (Err Failure.OutOfMemory, refl, page_without_memory form start tries None s text h)
 no_pages form start tries (size ∷ sizes) s text h =
     inl (Failure.OutOfMemory, refl, page_without_memory form start tries (Some size) s text h)
 
-module _ (tries : ℕ) (s s' : Seen) (kept : List ℕ) (wording : Wording) (from : Option ℕ)
+module _ (tries : ℕ) (s s' : Seen) (kept : Output) (wording : Wording) (from : Option ℕ)
     (sizes : List ℕ) where
   -- the walk of the records ended the run before an entry was asked for
-  pub pages_failed : (text : List ℕ) (failure : Failure)
-      → ReadsRecords tries (change s s' [] kept) (Err failure)
+  pub pages_failed : (text : Output) (failure : Failure)
+      → ReadsRecords tries (change s s' no_output kept) (Err failure)
       → RunsNamedInPages wording from tries sizes (change s s' text text) (Err failure)
   pages_failed text failure reads = record {
     calls = omega (arith, reads.calls);
@@ -31,26 +32,26 @@ module _ (tries : ℕ) (s s' : Seen) (kept : List ℕ) (wording : Wording) (from
     prints = λ h same records end w ends_ walk end' w' ends' open_.
         let along = (reads.page h).along same records end w ends_ in
         let plan = listing_plan (listing (entries_with wording (bytes_of_rows records)) (start_of from) None) walk end' in (
-          stop_by (IsTextOver s.store) records end plan kept text reads.listed failure (sym reads.is) (cause_of (ending_of reads.listed)) refl along.leaves,
+          stop_by (IsPieceOver s.store) records end plan kept text reads.listed failure (sym reads.is) (cause_of (ending_of reads.listed)) refl along.leaves,
           omega (arith, along.calls),
         );
   }
 
   -- the pages came after the walk of the records
   pub named_pages : FoundIsRow → RecordsAreFound → TailIsWalk → (walked : Walked)
-      → ReadsRecords tries (change s s' [] kept) (Ok walked)
-      → (s'' : Seen) (old new : List ℕ) (ending : Ending)
-      → s''.calls ≤ s'.calls + pages_made sizes * most_on_walk (entries_with wording (records_in kept)) tries
-      → EndsListing (entries_with wording (records_in kept)) s'' ending
-      → (IsHonest s' → ArePages (entries_with wording (records_in kept)) tries (start_of from) sizes (change s' s'' old new) ending)
+      → ReadsRecords tries (change s s' no_output kept) (Ok walked)
+      → (s'' : Seen) (old new : Output) (ending : Ending)
+      → s''.calls ≤ s'.calls + pages_made sizes * most_on_walk (entries_with wording (records_in kept.bytes)) tries
+      → EndsListing (entries_with wording (records_in kept.bytes)) s'' ending
+      → (IsHonest s' → ArePages (entries_with wording (records_in kept.bytes)) tries (start_of from) sizes (change s' s'' old new) ending)
       → RunsNamedInPages wording from tries sizes (change s s'' old new) (ending_then ending walked)
   named_pages look_row split tail walked reads s'' old new ending calls ends pages =
-      let form = entries_with wording (records_in kept) in
+      let form = entries_with wording (records_in kept.bytes) in
       let at_end = walked_at_end reads.listed walked (sym reads.is) in
       let one : IsHonest s' → OneListing form (start_of from) tries sizes (change s' s'' old new) ending = λ h. pages_are_one tail form tries (start_of from) sizes s' s'' old new ending tt h (pages h) in
       record {
         calls = omega (arith, reads.calls, calls);
-        ends = then_ends wording (Named.Events Count.All from) s'' ending walked (entries_end wording (entries_in wording (records_in kept)) Count.All from s'' ending ends);
+        ends = then_ends wording (Named.Events Count.All from) s'' ending walked (entries_end wording (entries_in wording (records_in kept.bytes)) Count.All from s'' ending ends);
         why = λ h.
             let ends_ = rw at_end at (reads.page h).ends in
             rw (then_for ending walked) (ends_since ends_ ends_.stays.plain (one ends_.stays.honest).ends);
@@ -64,11 +65,11 @@ module _ (tries : ℕ) (s s' : Seen) (kept : List ℕ) (wording : Wording) (from
             λ records end w ends__.
             let along = page.along since.0 records end w ends__ in
             let all = rw at_end at along.leaves in
-            let on = rw (read_records look_row split (IsTextOver s.store) (λ row text is. is) s.store records kept h.store w.of_shelf all.0) at printed in
+            let on = rw (read_records look_row split (IsPieceOver s.store) (λ row text is. is.is_text) s.store records kept h.store w.of_shelf all.0) at printed in
             λ walk end' w' ends' open_.
             let both = on walk end' w' ends' open_ in
             let plan = listing_plan (listing (entries_with wording (bytes_of_rows records)) (start_of from) None) walk end' in (
-              then_allowed (IsTextOver s.store) records end plan old new ending walked (walked_end records end reads.listed walked (sym reads.is) all.1) both.0,
+              then_allowed (IsPieceOver s.store) records end plan old new ending walked (walked_end records end reads.listed walked (sym reads.is) all.1) both.0,
               omega (arith, both.1, along.calls),
             );
       }

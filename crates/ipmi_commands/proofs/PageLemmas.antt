@@ -5,7 +5,8 @@ use Rattle.std.proofs.lemmas.Grind.{common_steps}
 use Rattle.std.proofs.lemmas.List.{take_min, at_drop_more}
 use Rattle.ipmi_commands.specs.Pages.{PageAlong}
 use Rattle.ipmi_commands.specs.Below.{Place, End, Ended, Id, IsLog, Shelf, stays_refl, Store, Row, rows_of, WalkEnd, Done, CycleAt, MissingAt, EndsBy, row_at, IsWalk, place_after_rows, Seen, IsHonest, CommandState, CursorState, start_of, Ending, Failure}
-use Rattle.ipmi_commands.specs.Prelude.{ArePages, AtEnd, cause_of, Change, change, end_of, ending_of, first_rows, Form, IsFresh, IsPage, IsTextOver, IsTextWhile, IsWithin, Traces, listing, listing_plan, ListsHonestly, pages_made, shelf_of}
+use Rattle.ipmi_commands.specs.Prelude.{ArePages, AtEnd, cause_of, Change, change, end_of, ending_of, first_rows, Form, IsFresh, IsPage, IsPieceOver, IsTextWhile, IsWithin, Traces, listing, listing_plan, ListsHonestly, pages_made, shelf_of}
+use Rattle.ipmi_commands.specs.Output.{Output}
 use Rattle.ipmi_commands.proofs.CallLemmas.{first_end-none}
 use Rattle.ipmi_commands.proofs.CountLemmas.{ends_here}
 use Rattle.ipmi_commands.proofs.GrownListing.{fresh_grows, fresh_traces}
@@ -24,7 +25,7 @@ end_same : {A B : Type 0} (form : Form) (wrote : Bool) (a : A) (b : B) → endin
 end_same form wrote a b = grind arith
 
 -- a listing that is at its end before the first step
-no_steps : (form : Form) (start : Place) (most : Option ℕ) (s : Seen) (text : List ℕ) → IsHonest s
+no_steps : (form : Form) (start : Place) (most : Option ℕ) (s : Seen) (text : Output) → IsHonest s
     → IsWithin most 0 → (most ≡ Some 0) ⊎ (start ≡ End)
     → Traces form start most (change s s text text) (end_of form false start)
 no_steps form start most s text honest within done =
@@ -43,7 +44,7 @@ no_steps form start most s text honest within done =
     })
 
 -- a page of size 0
-pub page_of_none : (form : Form) (place : Place) (tries : ℕ) (s : Seen) (text : List ℕ) → IsHonest s
+pub page_of_none : (form : Form) (place : Place) (tries : ℕ) (s : Seen) (text : Output) → IsHonest s
     → IsPage form place tries (Some 0) (change s s text text) (end_of form false place)
 page_of_none form place tries s text honest =
     let cause : cause_of (ending_of (end_of form false place)) ≡ AtEnd = grind arith in
@@ -51,7 +52,7 @@ page_of_none form place tries s text honest =
       ends = rw cause (ends_here honest refl tt);
       none = λ zero_. refl;
       along = λ same walk end w ends. record {
-        leaves = rw cause (none_printed (IsTextOver s.store) text text refl, grind (arith, first_end-none 0 walk end (omega arith)));
+        leaves = rw cause (none_printed (IsPieceOver s.store) text text refl, grind (arith, first_end-none 0 walk end (omega arith)));
         calls = omega arith;
         goes_on = grind arith;
       };
@@ -66,7 +67,7 @@ pub no_walk : (rows : List Row) (start : Place) (walk : List Row) → row_at sta
 no_walk rows start walk none w = grind arith
 
 -- a page from the end
-pub page_at_end : (form : Form) (tries : ℕ) (most : Option ℕ) (s : Seen) (text : List ℕ) → IsHonest s
+pub page_at_end : (form : Form) (tries : ℕ) (most : Option ℕ) (s : Seen) (text : Output) → IsHonest s
     → IsPage form End tries most (change s s text text) (end_of form false End)
 page_at_end form tries most s text honest =
     let cause : cause_of (ending_of (end_of form false End)) ≡ AtEnd = grind arith in
@@ -90,12 +91,12 @@ page_at_end form tries most s text honest =
 
 -- a page whose cursor is out of memory
 pub page_without_memory : (form : Form) (place : Place) (tries : ℕ) (most : Option ℕ) (s : Seen)
-    (text : List ℕ) → IsHonest s
+    (text : Output) → IsHonest s
     → IsPage form place tries most (change s s text text) (Err Failure.OutOfMemory)
 page_without_memory form place tries most s text honest = record {
   ends = ends_here honest refl tt;
   none = λ zero_. refl;
-  along = λ same walk end w ends. record { leaves = no_items (IsTextOver s.store) (listing_plan (listing form place most) walk end) text text refl; calls = omega arith; goes_on = tt };
+  along = λ same walk end w ends. record { leaves = no_items (IsPieceOver s.store) (listing_plan (listing form place most) walk end) text text refl; calls = omega arith; goes_on = tt };
   grows = λ keeps first log grew.
       (first, log_now s s (stays_refl s honest).store honest first log, no_items (IsTextWhile s s) (listing_plan (listing form place most) first Done) text text refl);
   traces = inl (inl refl, refl, refl);
@@ -107,7 +108,7 @@ no_log shelf store [] log = log.ends
 no_log shelf store (row ∷ rows) log = let none = log.walks.first in cc none
 
 -- a page from id 0000h
-pub page_of_cycle : (form : Form) (tries : ℕ) (most : Option ℕ) (s : Seen) (text : List ℕ) → IsHonest s
+pub page_of_cycle : (form : Form) (tries : ℕ) (most : Option ℕ) (s : Seen) (text : Output) → IsHonest s
     → (most ≡ Some 0 → ⊥) → IsPage form (Id 0) tries most (change s s text text) (Err (Failure.Ended (Ended.Cycle 0)))
 page_of_cycle form tries most s text honest some = record {
   ends = ends_here honest refl tt;
@@ -155,15 +156,15 @@ page_by_cursor (Err failure) fresh some honest lists = record {
 -- ---- pages, one after another
 
 -- the result of the remaining pages leads to the result of all pages
-abbrev pub LeadsTo : Form → ℕ → List ℕ → List ℕ → Place → Place → Seen → Seen → List ℕ → List ℕ
+abbrev pub LeadsTo : Form → ℕ → List ℕ → List ℕ → Place → Place → Seen → Seen → Output → Output
     → Type 0
 LeadsTo form tries all left start now s s' old text =
-    (s'' : Seen) (new : List ℕ) (ending : Ending)
+    (s'' : Seen) (new : Output) (ending : Ending)
     → ArePages form tries now left (change s' s'' text new) ending
     → ArePages form tries start all (change s s'' old new) ending
 
 module _ (form : Form) (tries : ℕ) (all : List ℕ) (k : ℕ) (start now : Place) (s s' s'' : Seen)
-    (old text text' : List ℕ) (there : k < length all)
+    (old text text' : Output) (there : k < length all)
     (leads : LeadsTo form tries all (drop k all) start now s s' old text) where
   leads_here : LeadsTo form tries all (get_or all k 0 ∷ drop (k + 1) all) start now s s' old text
   leads_here = subst (λ (l : List ℕ). LeadsTo form tries all l start now s s' old text) (at_drop_more (λ (l : List ℕ). l) all k 0 there) leads

@@ -5,7 +5,8 @@ use Rattle.std.proofs.Math.Seq.{take-nil, drop-nil}
 use Rattle.std.proofs.lemmas.Bool.Decides.{nat_tests}
 use Rattle.std.proofs.lemmas.List.{drop_all}
 use Rattle.ipmi_commands.specs.Below.{Place, First, End, Row, IsShelf, Store, rows_of, store_shelf, IsWalk, TailIsWalk, WalkEnd, EndsBy, place_after, place_after_rows, Seen, IsHonest, step_call_bound, is_listing, CommandState, Ending, Failure}
-use Rattle.ipmi_commands.specs.Prelude.{ArePages, calls_for, cause_of, Change, change, EndsFor, EndsListing, Form, GoesOn, IsAllowed, IsOneListing, IsOpen, IsTextOver, Job, job_of_command_in, Listing, listing, listing_in, listing_plan, most_on_walk, OnWalk, pages_made, Plan, Printed, row_items, rows_end, RunsPagedIn, shelf_of, Wording}
+use Rattle.ipmi_commands.specs.Prelude.{ArePages, calls_for, cause_of, Change, change, EndsFor, EndsListing, Form, GoesOn, IsAllowed, IsOneListing, IsOpen, IsPieceOver, Job, job_of_command_in, Listing, listing, listing_in, listing_plan, most_on_walk, OnWalk, pages_made, Plan, Printed, row_items, rows_end, RunsPagedIn, shelf_of, Wording}
+use Rattle.ipmi_commands.specs.Output.{Output}
 use Rattle.ipmi_commands.proofs.CallLemmas.{calls_split}
 use Rattle.ipmi_commands.proofs.ItemLemmas.{after_items, leaves_joined, leaves_longer, row_items-split}
 use Rattle.ipmi_commands.proofs.PageLemmas.{calls_of_page, no_walk}
@@ -49,15 +50,15 @@ module _ (walk_tail : TailIsWalk) where
 
   -- a page that failed
   module _ (form : Form) (store : Store) (rows : List Row) (start : Place) (walk : List Row)
-      (end : WalkEnd) (ends : EndsBy rows start walk end) (size : ℕ) (old new : List ℕ)
+      (end : WalkEnd) (ends : EndsBy rows start walk end) (size : ℕ) (old new : Output)
       (none : NamesNone form) where
     -- If the page stopped at the end of its rows, there is no further row, so this is also the end of the whole listing. A page
     -- within the walk does not end with a failure.
     leaves_wide : (failure : Failure)
-        → IsAllowed (IsTextOver store) (plan_from form start (Some size) walk end) old new (Err failure)
-        → IsAllowed (IsTextOver store) (plan_from form start None walk end) old new (Err failure)
+        → IsAllowed (IsPieceOver store) (plan_from form start (Some size) walk end) old new (Err failure)
+        → IsAllowed (IsPieceOver store) (plan_from form start None walk end) old new (Err failure)
     leaves_wide failure allowed =
-        leaves_longer (IsTextOver store) (plan_from form start (Some size) walk end) (plan_from form start None walk end)
+        leaves_longer (IsPieceOver store) (plan_from form start (Some size) walk end) (plan_from form start None walk end)
         (row_items form (place_after_rows start (take size walk)) (drop size walk)) (row_items-split form start walk size)
         (λ spot rest among. grind (arith, nat_tests, drop-nil, drop_all)) old new (Err failure) (cause_of (Err failure)) (λ at_end all. grind (arith, nat_tests, take_all, same_end)) allowed
 
@@ -77,34 +78,34 @@ module _ (walk_tail : TailIsWalk) where
         rw (empty.0, gone, drop-nil size) (record { of_shelf = tt; distinct = tt; first = tt; links = tt }, grind (arith, rw (gone, empty.1) at ends))
 
     -- its output is that of a listing from after the page; an empty shelf has one more spot, at its start
-    from_next : (text new : List ℕ) (ending : Ending) → GoesOn rows start (take size walk) next
-        → IsAllowed (IsTextOver store) (plan_from form next None (drop size walk) end) text new ending
-        → IsAllowed (IsTextOver store) (plan_from form (place_after_rows start (take size walk)) None
+    from_next : (text new : Output) (ending : Ending) → GoesOn rows start (take size walk) next
+        → IsAllowed (IsPieceOver store) (plan_from form next None (drop size walk) end) text new ending
+        → IsAllowed (IsPieceOver store) (plan_from form (place_after_rows start (take size walk)) None
         (drop size walk) end) text new ending
     from_next text new ending (inl there) allowed = rw there at allowed
     from_next text new ending (inr empty) allowed =
         let gone = no_walk rows start walk (rw empty.1 empty.2) w in
         rw (gone, take-nil size, drop-nil size, empty.1)
-        (leaves_longer (IsTextOver store) (plan_from form End None [] end) (plan_from form First None [] end) [] refl (λ spot rest among. grind arith) text new ending (cause_of ending) (λ at_end all. all) (rw (empty.0, gone, drop-nil size) at allowed))
+        (leaves_longer (IsPieceOver store) (plan_from form End None [] end) (plan_from form First None [] end) [] refl (λ spot rest among. grind arith) text new ending (cause_of ending) (λ at_end all. all) (rw (empty.0, gone, drop-nil size) at allowed))
 
     -- so together with the page it is the whole listing
-    leaves_of_rest : (old text new : List ℕ) (ending : Ending) → NamesNone form
-        → Printed (IsTextOver store) (row_items form start (take size walk)) old text
+    leaves_of_rest : (old text new : Output) (ending : Ending) → NamesNone form
+        → Printed (IsPieceOver store) (row_items form start (take size walk)) old text
         → GoesOn rows start (take size walk) next
-        → IsAllowed (IsTextOver store) (plan_from form next None (drop size walk) end) text new ending
-        → IsAllowed (IsTextOver store) (plan_from form start None walk end) old new ending
+        → IsAllowed (IsPieceOver store) (plan_from form next None (drop size walk) end) text new ending
+        → IsAllowed (IsPieceOver store) (plan_from form start None walk end) old new ending
     leaves_of_rest old text new ending none printed goes allowed =
         let done = take size walk in
         let left = drop size walk in
         let whole : after_items (row_items form start done) (plan_from form (place_after_rows start done) None left end) ≡ plan_from form start None walk end =
         cc (row_items-split form start walk size, same_end form left end none, same_end form walk end none, spots_at_walk_end-joined start done left end, take-append-drop size walk) in
-        subst (λ (q : Plan). IsAllowed (IsTextOver store) q old new ending) whole
-        (leaves_joined (IsTextOver store) (row_items form start done) (plan_from form (place_after_rows start done) None left end) old text new ending (cause_of ending) printed (from_next text new ending goes allowed))
+        subst (λ (q : Plan). IsAllowed (IsPieceOver store) q old new ending) whole
+        (leaves_joined (IsPieceOver store) (row_items form start done) (plan_from form (place_after_rows start done) None left end) old text new ending (cause_of ending) printed (from_next text new ending goes allowed))
 
   -- ---- the law
 
   pub pages_are_one : (form : Form) (tries : ℕ) (start : Place) (sizes : List ℕ) (s s' : Seen)
-      (old new : List ℕ) (ending : Ending) → NamesNone form → IsHonest s → ArePages form tries start sizes (change s s' old new) ending
+      (old new : Output) (ending : Ending) → NamesNone form → IsHonest s → ArePages form tries start sizes (change s s' old new) ending
       → OneListing form start tries sizes (change s s' old new) ending
   pages_are_one form tries start [] s s' old new ending none honest last = record {
     ends = rw last.1 last.2.ends;
@@ -132,7 +133,7 @@ module _ (walk_tail : TailIsWalk) where
             let along = page.along first walk end w ends in
             let there = rest_there form s.store (rows_of (shelf_of form) s.store) start more.next walk end size w (store_shelf (shelf_of form) s.store honest.store) ends open_ along.goes_on in
             let rest = (subst (λ (x : Store). OnWalk (shelf_of form) more.next x (λ walk end. IsOpen end
-            → IsAllowed (IsTextOver x) (plan_from form more.next None walk end) more.text new ending
+            → IsAllowed (IsPieceOver x) (plan_from form more.next None walk end) more.text new ending
             × (s'.calls ≤ more.seen.calls + 0 + calls_for form x tries walk + pages_made sizes * (step_call_bound tries 0 + 7)))) (page.ends.stays.store.stays first)
             (later.along (since same).1)) (drop size walk) end there.0 there.1 open_ in
             let made = calls_of_page size sizes (calls_for form s.store tries (take size walk)) (step_call_bound tries 0 + 7) s more.seen (omega (arith, along.calls)) page.none in (
@@ -145,7 +146,7 @@ module _ (walk_tail : TailIsWalk) where
 
 -- it lists all records of a shelf, in a form that does not search for a name; the result of the pages
 pub paged : TailIsWalk → (wording : Wording) (command : CommandState) (sizes : List ℕ) (s s' : Seen)
-    (old new : List ℕ) (ending : Ending) (l : Listing) → is_listing command.task ≡ true
+    (old new : Output) (ending : Ending) (l : Listing) → is_listing command.task ≡ true
     → listing_in (job_of_command_in wording command) ≡ Some l
     → s'.calls ≤ s.calls + pages_made sizes * most_on_walk l.form command.tries
     → EndsListing l.form s' ending

@@ -2,7 +2,9 @@
 use Rattle.std.proofs.Common.{◌≡◌, ℕ, ◌+◌, ◌≤◌, IsTrue, Option, None, Some, Result, Ok, Err, Vec, Global, List, [], ◌∷◌, ◌++◌, option_map, refl, arith}
 use Rattle.ipmi_commands.specs.Below.{Done, fru_call_bound, LastFailed, NotPresent, Sdr, Shelf, Place, First, Seen, IsHonest, Row, Store, info_of, inventory_of, WalkEnd, Ending, Failure}
 use Rattle.ipmi_commands.specs.Run.{EndsInfo, EndsInventory}
-use Rattle.ipmi_commands.specs.Prelude.{LacksInventory, LacksValue, AtEnd, AtRecord, cause_of, Change, change, ending_of, spots_at_walk_end, EndsFor, EndsListing, failure_of, Finds, Form, info_plan, inventories_plan, AtInventory, inventory_item, inventory_plan, IsInventoryIn, most_on_walk, IsAllowed, IsAmong, IsInfoText, IsPage, IsTextOver, IsTextWhile, Item, Job, Listing, listing, listing_plan, IsStopAmong, OfInfo, OfInventory, Plan, row_items, Runs, Spot, next_spots, Subject, text_plan, Unread, Wording, WritesText}
+use Rattle.ipmi_commands.specs.Prelude.{LacksInventory, LacksValue, AtEnd, AtRecord, cause_of, Change, change, ending_of, spots_at_walk_end, EndsFor, EndsListing, failure_of, Finds, Form, info_plan, inventories_plan, AtInventory, inventory_item, inventory_plan, most_on_walk, IsAllowed, IsAmong, IsInfoText, IsPage, IsPieceOver, IsTextWhile, Item, Job, Listing, listing, listing_plan, IsStopAmong, OfInfo, OfInventory, Plan, row_items, Runs, Spot, next_spots, Subject, text_plan, Unread, Wording, WritesPiece, shown}
+use Rattle.ipmi_commands.specs.Output.{Output, piece_of}
+use Rattle.ipmi_commands.specs.declared.piece.Piece.{Piece}
 use Rattle.ipmi_commands.proofs.CountLemmas.{between, ends_as, ends_since}
 use Rattle.ipmi_bus.proofs.HeldLemmas.{keeps_first, keeps_second}
 use Rattle.ipmi_commands.proofs.ItemLemmas.{cut_after, leaves_joined, leaves_longer, leaves_map, no_items, none_printed, one_printed, printed_map, stops_after}
@@ -28,34 +30,34 @@ page_runs l tries c result ends calls page = record {
 -- ---- writing a text
 
 -- the output, by the result of writing
-pub text_leaves : (IsText : Subject → List ℕ → Type 0) (subject : Subject) (spots : List Spot)
-    (old new text : List ℕ) (ending : Ending) → IsText subject text
-    → WritesText text old new ending → IsAllowed IsText (text_plan subject spots) old new ending
+pub text_leaves : (IsText : Subject → Output → Type 0) (subject : Subject) (spots : List Spot)
+    (old new text : Output) (ending : Ending) → IsText subject text
+    → WritesPiece text old new ending → IsAllowed IsText (text_plan subject spots) old new ending
 text_leaves IsText subject spots old new text (Ok done) is writes = (one_printed IsText (record { subject = subject; spots = spots }) text old new is writes, refl)
 text_leaves IsText subject spots old new text (Err Failure.WriteFault) is writes =
     let p = text_plan subject spots in cut_after IsText p old old new (Err Failure.WriteFault) (no_items IsText p old old refl) _ [] text refl is writes.0 writes.1
 text_leaves IsText subject spots old new text (Err _) is writes = absurd writes
 
 -- the reason for the ending is the result of writing
-text_ends : (tries : ℕ) (IsPlain : Type 0) (s s' : Seen) (text old new : List ℕ) (ending : Ending)
-    → EndsFor tries IsPlain s s' AtEnd → WritesText text old new ending
+text_ends : (tries : ℕ) (IsPlain : Type 0) (s s' : Seen) (text old new : Output) (ending : Ending)
+    → EndsFor tries IsPlain s s' AtEnd → WritesPiece text old new ending
     → EndsFor tries IsPlain s s' (cause_of ending)
 text_ends tries IsPlain s s' text old new ending ends writes = grind (arith, ends_as)
 
 -- if the text was not found: given up or refused before anything is printed, or out of memory
-none_leaves : (IsText : Subject → List ℕ → Type 0) (p : Plan) (text : List ℕ) (ending : Ending)
+none_leaves : (IsText : Subject → Output → Type 0) (p : Plan) (text : Output) (ending : Ending)
     → IsStopAmong (next_spots p.items p.end_spots) (cause_of ending) → IsAllowed IsText p text text ending
 none_leaves IsText p text ending may = stops_after IsText p text text ending (cause_of ending) (no_items IsText p text text refl) may
 
 -- ---- the info of a shelf
 
 info_leaves : (wording : Wording) (shelf : Shelf) (store : Store) (o : Option (List ℕ))
-    (text old new : List ℕ) (ending : Ending)
-    → IsInfoText wording shelf o (Some text) → WritesText text old new ending
-    → IsAllowed (IsTextOver store) (info_plan wording shelf o) old new ending
+    (text : List ℕ) (old new : Output) (ending : Ending)
+    → IsInfoText wording shelf o (Some text) → WritesPiece (piece_of text false) old new ending
+    → IsAllowed (IsPieceOver store) (info_plan wording shelf o) old new ending
 info_leaves wording shelf store None text old new ending is writes = absurd is
 info_leaves wording shelf store (Some info) text old new ending is writes =
-    text_leaves (IsTextOver store) (OfInfo wording shelf info) (AtRecord 0 ∷ []) old new text ending is writes
+    text_leaves (IsPieceOver store) (OfInfo wording shelf info) (AtRecord 0 ∷ []) old new (piece_of text false) ending (record { is_text = is; counted = refl }) writes
 
 info_spots : (wording : Wording) (shelf : Shelf) (o : Option (List ℕ))
     → next_spots (info_plan wording shelf o).items (info_plan wording shelf o).end_spots ≡ AtRecord 0 ∷ []
@@ -70,24 +72,24 @@ module _ (wording : Wording) (shelf : Shelf) (tries : ℕ) (s s' : Seen) (calls 
   abbrev FoundInfo : Result (Option (Vec ℕ Global)) Unread → Type 0
   FoundInfo result = IsHonest s → Finds (λ store found. IsInfoText wording shelf (info_of shelf store) (option_map (λ text. text.items) found)) (AtRecord 0 ∷ []) tries s s' result
 
-  pub info_found : (old new : List ℕ) (text : Vec ℕ Global) (ending : Ending)
+  pub info_found : (old new : Output) (text : Vec ℕ Global) (ending : Ending)
       → FoundInfo (Ok (Some text))
-      → WritesText text.items old new ending
+      → WritesPiece (piece_of text.items false) old new ending
       → Runs (Job.Info wording shelf) tries (change s s' old new) ending
   info_found old new text ending finds writes = record {
     calls = calls;
     ends = grind arith;
-    why = λ h. text_ends tries (IsTrue s.plain) s s' text.items old new ending (finds h).asks.ends writes;
+    why = λ h. text_ends tries (IsTrue s.plain) s s' (piece_of text.items false) old new ending (finds h).asks.ends writes;
     prints = λ h same.
         let stays = (finds h).asks.ends.stays.store in
         (info_leaves wording shelf s.store (info_of shelf s.store) text.items old new ending (rw (stays.stays same) at ((finds h).is tt)) writes, calls);
-    grows = λ h. leaves_map (IsTextOver s'.store) (IsTextWhile s s') (while_last s s') (info_plan wording shelf (info_of shelf s'.store)) old new ending (cause_of ending)
+    grows = λ h. leaves_map (IsPieceOver s'.store) (IsTextWhile s s') (while_last s s') (info_plan wording shelf (info_of shelf s'.store)) old new ending (cause_of ending)
         (info_leaves wording shelf s'.store (info_of shelf s'.store) text.items old new ending ((finds h).is tt) writes);
     traces = λ h. tt;
   }
 
   -- the controller has no info
-  pub info_absent : (text : List ℕ) → LastFailed (λ class. class ≡ NotPresent) s' → FoundInfo (Ok None)
+  pub info_absent : (text : Output) → LastFailed (λ class. class ≡ NotPresent) s' → FoundInfo (Ok None)
       → Runs (Job.Info wording shelf) tries (change s s' text text) (Err Failure.NoInfo)
   info_absent text says finds = record {
     calls = calls;
@@ -96,24 +98,24 @@ module _ (wording : Wording) (shelf : Shelf) (tries : ℕ) (s s' : Seen) (calls 
     prints = λ h same.
         let stays = (finds h).asks.ends.stays.store in
         (none_of s.store (info_of shelf s.store) (rw (stays.stays same) at ((finds h).is tt)), calls);
-    grows = λ h. leaves_map (IsTextOver s'.store) (IsTextWhile s s') (while_last s s') (info_plan wording shelf (info_of shelf s'.store)) text text (Err Failure.NoInfo) AtEnd
+    grows = λ h. leaves_map (IsPieceOver s'.store) (IsTextWhile s s') (while_last s s') (info_plan wording shelf (info_of shelf s'.store)) text text (Err Failure.NoInfo) AtEnd
         (none_of s'.store (info_of shelf s'.store) ((finds h).is tt));
     traces = λ h. tt;
   }
     where
       none_of : (store : Store) (o : Option (List ℕ)) → IsInfoText wording shelf o None
-          → IsAllowed (IsTextOver store) (info_plan wording shelf o) text text (Err Failure.NoInfo)
-      none_of store None is = (none_printed (IsTextOver store) text text refl, refl)
+          → IsAllowed (IsPieceOver store) (info_plan wording shelf o) text text (Err Failure.NoInfo)
+      none_of store None is = (none_printed (IsPieceOver store) text text refl, refl)
       none_of store (Some info) is = absurd is
 
-  pub info_unread : (text : List ℕ) (unread : Unread) → LacksValue unread s'
+  pub info_unread : (text : Output) (unread : Unread) → LacksValue unread s'
       → FoundInfo (Err unread)
       → Runs (Job.Info wording shelf) tries (change s s' text text) (Err (failure_of unread))
   info_unread text unread says none = record {
     calls = calls;
     ends = value_ends s' unread says;
     why = λ h. (none h).asks.ends;
-    prints = λ h same. (none_leaves (IsTextOver s.store) (info_plan wording shelf (info_of shelf s.store)) text (Err (failure_of unread)) (rw info_spots (none h).there), calls);
+    prints = λ h same. (none_leaves (IsPieceOver s.store) (info_plan wording shelf (info_of shelf s.store)) text (Err (failure_of unread)) (rw info_spots (none h).there), calls);
     grows = λ h. none_leaves (IsTextWhile s s') (info_plan wording shelf (info_of shelf s'.store)) text (Err (failure_of unread)) (rw info_spots (none h).there);
     traces = λ h. tt;
   }
@@ -121,29 +123,29 @@ module _ (wording : Wording) (shelf : Shelf) (tries : ℕ) (s s' : Seen) (calls 
 -- ---- one inventory
 
 module _ (wording : Wording) (id : ℕ) (name : Option (List ℕ)) (tries : ℕ) (s s' : Seen) (calls : s'.calls ≤ s.calls + fru_call_bound tries 65535) where
-  abbrev FoundInventory : Result (Vec ℕ Global) Unread → Type 0
-  FoundInventory result = IsHonest s → Finds (λ store text. IsInventoryIn wording id name (inventory_of id store) text.items) (AtInventory id ∷ []) tries s s' result
+  abbrev FoundInventory : Result Piece Unread → Type 0
+  FoundInventory result = IsHonest s → Finds (λ store piece. IsPieceOver store (OfInventory wording id name) (shown piece)) (AtInventory id ∷ []) tries s s' result
 
-  pub inventory_found : (old new : List ℕ) (text : Vec ℕ Global) (ending : Ending)
-      → FoundInventory (Ok text)
-      → WritesText text.items old new ending
+  pub inventory_found : (old new : Output) (piece : Piece) (ending : Ending)
+      → FoundInventory (Ok piece)
+      → WritesPiece (shown piece) old new ending
       → Runs (Job.Inventory wording id name) tries (change s s' old new) ending
-  inventory_found old new text ending finds writes = record {
+  inventory_found old new piece ending finds writes = record {
     calls = calls;
     ends = grind arith;
-    why = λ h. text_ends tries (IsTrue s.plain) s s' text.items old new ending (finds h).asks.ends writes;
+    why = λ h. text_ends tries (IsTrue s.plain) s s' (shown piece) old new ending (finds h).asks.ends writes;
     prints = λ h same. (
       let stays = (finds h).asks.ends.stays.store in
-          text_leaves (IsTextOver s.store) (OfInventory wording id name) (AtInventory id ∷ []) old new text.items ending
+          text_leaves (IsPieceOver s.store) (OfInventory wording id name) (AtInventory id ∷ []) old new (shown piece) ending
           (rw (stays.stays same) at ((finds h).is (keeps_at_same (AtInventory id ∷ []) s s' stays same))) writes,
       omega (arith, (finds h).asks.calls (keeps_at_same (AtInventory id ∷ []) s s' (finds h).asks.ends.stays.store same)),
     );
-    grows = λ h keeps. leaves_map (IsTextOver s'.store) (IsTextWhile s s') (while_last s s') (inventory_plan wording id name) old new ending (cause_of ending)
-        (text_leaves (IsTextOver s'.store) (OfInventory wording id name) (AtInventory id ∷ []) old new text.items ending ((finds h).is (keeps, tt)) writes);
+    grows = λ h keeps. leaves_map (IsPieceOver s'.store) (IsTextWhile s s') (while_last s s') (inventory_plan wording id name) old new ending (cause_of ending)
+        (text_leaves (IsPieceOver s'.store) (OfInventory wording id name) (AtInventory id ∷ []) old new (shown piece) ending ((finds h).is (keeps, tt)) writes);
     traces = λ h. tt;
   }
 
-  pub inventory_unread : (text : List ℕ) (unread : Unread) → LacksInventory unread s'
+  pub inventory_unread : (text : Output) (unread : Unread) → LacksInventory unread s'
       → FoundInventory (Err unread)
       → Runs (Job.Inventory wording id name) tries (change s s' text text) (Err (failure_of unread))
   inventory_unread text unread says none = record {
@@ -151,7 +153,7 @@ module _ (wording : Wording) (id : ℕ) (name : Option (List ℕ)) (tries : ℕ)
     ends = grind arith;
     why = λ h. (none h).asks.ends;
     prints = λ h same. (
-      none_leaves (IsTextOver s.store) (inventory_plan wording id name) text (Err (failure_of unread)) (none h).there,
+      none_leaves (IsPieceOver s.store) (inventory_plan wording id name) text (Err (failure_of unread)) (none h).there,
       omega (arith, (none h).asks.calls (keeps_at_same (AtInventory id ∷ []) s s' (none h).asks.ends.stays.store same)),
     );
     grows = λ h keeps. none_leaves (IsTextWhile s s') (inventory_plan wording id name) text (Err (failure_of unread)) (none h).there;
@@ -161,7 +163,7 @@ module _ (wording : Wording) (id : ℕ) (name : Option (List ℕ)) (tries : ℕ)
 -- ---- all inventories
 
 -- the inventory of device 0 was not finished
-first_leaves : (IsText : Subject → List ℕ → Type 0) (wording : Wording) (name : Option (List ℕ)) (walk : List Row) (end : WalkEnd) (old new : List ℕ)
+first_leaves : (IsText : Subject → Output → Type 0) (wording : Wording) (name : Option (List ℕ)) (walk : List Row) (end : WalkEnd) (old new : Output)
     (failure : Failure) → IsAllowed IsText (inventory_plan wording 0 name) old new (Err failure)
     → IsAllowed IsText (inventories_plan wording name walk end) old new (Err failure)
 first_leaves IsText wording name walk end old new failure allowed =
@@ -172,14 +174,14 @@ first_leaves IsText wording name walk end old new failure allowed =
         → IsAmong (next_spots (rest ++ row_items (Form.Device wording) First walk) (spots_at_walk_end First walk end)) spot
     there spot rest among = grind arith
 
-pub first_run : (wording : Wording) (name : Option (List ℕ)) (tries : ℕ) (s s' : Seen) (old new : List ℕ) (failure : Failure)
+pub first_run : (wording : Wording) (name : Option (List ℕ)) (tries : ℕ) (s s' : Seen) (old new : Output) (failure : Failure)
     → Runs (Job.Inventory wording 0 name) tries (change s s' old new) (Err failure)
     → Runs (Job.AllInventories wording name) tries (change s s' old new) (Err failure)
 first_run wording name tries s s' old new failure runs = record {
   calls = omega (arith, runs.calls);
   ends = of_device failure runs.ends;
   why = runs.why;
-  prints = λ h same. λ walk end w ends. let printed = runs.prints h same in (first_leaves (IsTextOver s.store) wording name walk end old new failure printed.0, omega (arith, printed.1));
+  prints = λ h same. λ walk end w ends. let printed = runs.prints h same in (first_leaves (IsPieceOver s.store) wording name walk end old new failure printed.0, omega (arith, printed.1));
   grows = λ h keeps first log grew. (
     first,
     log_now s s' (runs.why h).stays.store h first log,
@@ -194,7 +196,7 @@ first_run wording name tries s s' old new failure runs = record {
     of_device failure ends = grind arith
 
 -- the inventory of device 0, then the output of a listing of the locators
-pub inventories_run : (wording : Wording) (name : Option (List ℕ)) (tries : ℕ) (s s' s'' : Seen) (old text new : List ℕ)
+pub inventories_run : (wording : Wording) (name : Option (List ℕ)) (tries : ℕ) (s s' s'' : Seen) (old text new : Output)
     (next : Result Place Failure) → s''.calls ≤ s'.calls + most_on_walk (Form.Device wording) tries
     → EndsListing (Form.Device wording) s'' (ending_of next)
     → Runs (Job.Inventory wording 0 name) tries (change s s' old text) (Ok tt)
@@ -211,7 +213,7 @@ inventories_run wording name tries s s' s'' old text new next calls may first pa
       let printed = first.prints h since.0 in
       λ walk end w ends_.
       let along = (rw (ends.stays.store.stays since.0) at (page.along since.1 walk end)) w ends_ in (
-        leaves_joined (IsTextOver s.store) (inventory_item wording 0 name ∷ []) (listing_plan (listing (Form.Device wording) First None) walk end) old text new (ending_of next) (cause_of (ending_of next)) printed.0.0 along.leaves,
+        leaves_joined (IsPieceOver s.store) (inventory_item wording 0 name ∷ []) (listing_plan (listing (Form.Device wording) First None) walk end) old text new (ending_of next) (cause_of (ending_of next)) printed.0.0 along.leaves,
         omega (arith, printed.1, along.calls),
       );
   grows = λ h keeps.

@@ -1,7 +1,8 @@
 -- A run over an image, and rewriting an image.
 use Rattle.std.proofs.Common.{◌≡◌, ◌⊎◌, inl, inr, ℕ, ◌+◌, arith, Bool, true, false, IsTrue, Result, Ok, Err, List, [], refl, subst, sym}
 use Rattle.ipmi_commands.specs.Below.{Count, Failure, failure_of_image, ImageFault, Store, Seen, IsHonest, image_text_of, Ending}
-use Rattle.ipmi_commands.specs.Prelude.{after_names, AnswersJob, bytes_of_rows, change, Form, IsAllowed, is_rewrite, IsRewriting, IsTextOver, Job, Named, OfImage, OnNamed, OnPlan, Plan, rewrite_plan, Runs, RunsOver, walk_call_bound, Wording, WritesText}
+use Rattle.ipmi_commands.specs.Prelude.{after_names, AnswersJob, bytes_of_rows, change, Form, IsAllowed, is_rewrite, IsRewriting, IsPieceOver, Job, Named, OfImage, OnNamed, OnPlan, Plan, rewrite_plan, Runs, RunsOver, walk_call_bound, Wording, WritesPiece}
+use Rattle.ipmi_commands.specs.Output.{Output, piece_of}
 use Rattle.ipmi_commands.proofs.NamedLemmas.{named_all}
 use Rattle.ipmi_commands.proofs.ItemLemmas.{no_items}
 use Rattle.ipmi_commands.proofs.PerformLemmas.{text_leaves}
@@ -30,21 +31,21 @@ plan_kept Holds (Job.AllInventories wording name) tries store More keep on = λ 
 plan_kept Holds _ tries store More keep on = keep _ _ on
 
 -- a run over a plain controller with the store of the image
-pub over_image : (job : Job) (tries : ℕ) (store : Store) (s s' : Seen) (old new : List ℕ)
+pub over_image : (job : Job) (tries : ℕ) (store : Store) (s s' : Seen) (old new : Output)
     (ending : Ending) → is_rewrite job ≡ false → IsHonest s → IsTrue s.plain → s.store ≡ store
     → Runs job tries (change s s' old new) ending
     → RunsOver (is_rewrite job) job store old new ending
 over_image job tries store s s' old new ending runs_ honest plain is runs =
     let ends = runs.why honest in
     rw (runs_, ← is) (
-      plan_kept (λ plan. IsAllowed (IsTextOver s.store) plan old new ending) job tries s.store _ (λ plan calls both. both.0) (runs.prints honest (ends.stays.plain_store plain)),
+      plan_kept (λ plan. IsAllowed (IsPieceOver s.store) plan old new ending) job tries s.store _ (λ plan calls both. both.0) (runs.prints honest (ends.stays.plain_store plain)),
       ends.plain plain,
     )
 
 -- rewriting an image
-pub rewritten : (store : Store) (old new : List ℕ) (ending : Ending)
-    → WritesText (image_text_of store) old new ending → IsRewriting store old new ending
-rewritten store old new ending writes = record { allowed = text_leaves (IsTextOver store) OfImage [] old new (image_text_of store) ending refl writes; unwritten = λ out. grind arith }
+pub rewritten : (store : Store) (old new : Output) (ending : Ending)
+    → WritesPiece (piece_of (image_text_of store) false) old new ending → IsRewriting store old new ending
+rewritten store old new ending writes = record { allowed = text_leaves (IsPieceOver store) OfImage [] old new (piece_of (image_text_of store) false) ending (record { is_text = refl; counted = refl }) writes; unwritten = λ out. grind arith }
 
 -- ---- an image that was not read
 
@@ -58,13 +59,13 @@ plan_all Holds (Job.AllInventories wording name) store holds = λ walk end w end
 plan_all Holds _ store holds = holds _
 
 -- each job may be out of memory
-without_memory : (rewrites : Bool) (job : Job) (store : Store) (text : List ℕ)
+without_memory : (rewrites : Bool) (job : Job) (store : Store) (text : Output)
     → RunsOver rewrites job store text text (Err Failure.OutOfMemory)
-without_memory true job store text = record { allowed = no_items (IsTextOver store) rewrite_plan text text refl; unwritten = λ out. refl }
+without_memory true job store text = record { allowed = no_items (IsPieceOver store) rewrite_plan text text refl; unwritten = λ out. refl }
 without_memory false job store text =
-    (plan_all (λ plan. IsAllowed (IsTextOver store) plan text text (Err Failure.OutOfMemory)) job store (λ plan. no_items (IsTextOver store) plan text text refl), tt)
+    (plan_all (λ plan. IsAllowed (IsPieceOver store) plan text text (Err Failure.OutOfMemory)) job store (λ plan. no_items (IsPieceOver store) plan text text refl), tt)
 
-answers_memory : (job : Job) (image : Result Store ImageFault) (text : List ℕ)
+answers_memory : (job : Job) (image : Result Store ImageFault) (text : Output)
     → AnswersJob job image text text (Err Failure.OutOfMemory)
 answers_memory job (Ok store) text = without_memory (is_rewrite job) job store text
 answers_memory job (Err fault) text = (refl, inr refl)
@@ -73,7 +74,7 @@ failed_read : (fault : ImageFault) (ending : Ending) → ending ≡ Err (failure
     → (ending ≡ Err (Failure.Image fault)) ⊎ (ending ≡ Err Failure.OutOfMemory)
 failed_read fault ending is = grind arith
 
-pub unread : (job : Job) (image : Result Store ImageFault) (fault : ImageFault) (text : List ℕ)
+pub unread : (job : Job) (image : Result Store ImageFault) (fault : ImageFault) (text : Output)
     → (fault ≡ ImageFault.Memory) ⊎ (image ≡ Err fault)
     → AnswersJob job image text text (Err (failure_of_image fault))
 unread job image fault text (inl memory) =

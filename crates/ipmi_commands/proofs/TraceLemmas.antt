@@ -1,9 +1,11 @@
 -- The steps of a listing's cursor, and what was printed of the records that they returned.
 use Rattle.std.proofs.Common.{◌≡◌, ℕ, ◌+◌, ◌<◌, Bool, true, false, Option, None, Some, Result, Ok, Err, List, [], ◌∷◌, ◌++◌, inl, inr, length, refl, sym, ap, subst, ◌∙◌, arith, append-nil, append_assoc, length-append}
-use Rattle.ipmi_commands.specs.Below.{AreSteps, cursor_after, CursorState, Ended, Failure, handed_out, IsHonest, IsStep, Row, Seen, seen_after, StaysHonest, Stepped, stays_refl, TakesPart, with_handed}
+use Rattle.ipmi_commands.specs.Below.{AreSteps, cursor_after, CursorState, Ended, Failure, handed_out, IsHonest, IsStep, Row, Seen, seen_after, StaysHonest, Stepped, stays_refl, with_handed}
 use Rattle.ipmi_commands.specs.Traced.{AreTextsOfSteps, IsListed, IsStopAmong, IsTextAfter, IsTextOfResult, IsTraced, IsWithin, PrintsSteps, ReturnsLast, seen_next, TracesListing}
 use Rattle.ipmi_commands.specs.Prelude.{cause_of_unread, Change, change, end_of, failure_of, Form, spots_because_of, Unread}
+use Rattle.ipmi_commands.specs.Output.{and_then, IsCut, Output}
 use Rattle.ipmi_commands.proofs.NameLemmas.{Wrote}
+use Rattle.ipmi_commands.proofs.OutputLemmas.{then_assoc}
 
 -- ---- one more step
 
@@ -41,25 +43,25 @@ next_more : (steps : List Stepped) (step : Stepped) (last : Seen)
 next_more [] step last = refl
 next_more (one ∷ steps) step last = refl
 
-texts_more : (form : Form) (steps : List Stepped) (step : Stepped) (last : Seen) (a b : List ℕ)
+texts_more : (form : Form) (steps : List Stepped) (step : Stepped) (last : Seen) (a b : Output)
     → AreTextsOfSteps form steps step.before a → IsTextOfResult form step.result step.seen last b
-    → AreTextsOfSteps form (steps ++ step ∷ []) last (a ++ b)
+    → AreTextsOfSteps form (steps ++ step ∷ []) last (and_then a b)
 texts_more form [] step last a b are is = record { first = b; rest = []; is_first = is; is_rest = refl; joined = rw are (sym (append-nil b)) }
 texts_more form (one ∷ steps) step last a b are is = record {
   first = are.first;
-  rest = are.rest ++ b;
+  rest = and_then are.rest b;
   is_first = subst (λ (s : Seen). IsTextOfResult form one.result one.seen s are.first) (sym (next_more steps step last)) are.is_first;
   is_rest = texts_more form steps step last are.rest b are.is_rest is;
-  joined = ap (λ (l : List ℕ). l ++ b) are.joined ∙ append_assoc are.first are.rest b;
+  joined = ap (λ (o : Output). and_then o b) are.joined ∙ then_assoc are.first are.rest b;
 }
 
-prints_more : (form : Form) (steps : List Stepped) (step : Stepped) (last : Seen) (old mid new text : List ℕ)
+prints_more : (form : Form) (steps : List Stepped) (step : Stepped) (last : Seen) (old mid new text : Output)
     → PrintsSteps form steps step.before old mid → IsTextOfResult form step.result step.seen last text
-    → new ≡ mid ++ text → PrintsSteps form (steps ++ step ∷ []) last old new
+    → new ≡ and_then mid text → PrintsSteps form (steps ++ step ∷ []) last old new
 prints_more form steps step last old mid new text before is written = record {
-  text = before.text ++ text;
+  text = and_then before.text text;
   are = texts_more form steps step last before.text text before.are is;
-  new_is = written ∙ ap (λ (l : List ℕ). l ++ text) before.new_is ∙ append_assoc old before.text text;
+  new_is = written ∙ ap (λ (o : Output). and_then o text) before.new_is ∙ then_assoc old before.text text;
 }
 
 -- ---- a listing that goes on
@@ -70,7 +72,7 @@ pub record Tracing (form : Form) (count : ℕ) (begun now : CursorState) (c : Ch
   pub printed : PrintsSteps form steps c.seen' c.old c.new
   pub count_is : count ≡ length (handed_out steps)
 
-pub traced_none : (form : Form) (begun : CursorState) (s : Seen) (text : List ℕ) → IsHonest s
+pub traced_none : (form : Form) (begun : CursorState) (s : Seen) (text : Output) → IsHonest s
     → Tracing form 0 begun begun (change s s text text)
 traced_none form begun s text honest = record {
   steps = [];
@@ -79,7 +81,7 @@ traced_none form begun s text honest = record {
   count_is = refl;
 }
 
-module _ {form : Form} {count : ℕ} {begun now : CursorState} {s s' : Seen} {old new : List ℕ}
+module _ {form : Form} {count : ℕ} {begun now : CursorState} {s s' : Seen} {old new : Output}
     (t : Tracing form count begun now (change s s' old new)) {next : CursorState} {s'' : Seen}
     {result : Result (Option Row) Ended} (step : IsStep now next s' s'' result) where
   abbrev last_step : Stepped
@@ -107,7 +109,7 @@ module _ {form : Form} {count : ℕ} {begun now : CursorState} {s s' : Seen} {ol
 -- after its last record
 pub traced_whole : (form : Form) (wrote : Bool) (count : ℕ) {most : Option ℕ} {begun now : CursorState}
     {c : Change} (steps : List Stepped) → IsTraced begun now c.seen c.seen' steps
-    → IsListed form most now steps c count → Wrote wrote c.old c.new
+    → IsListed form most now steps c count → Wrote wrote c.old.bytes c.new.bytes
     → TracesListing form most begun now c (end_of form wrote count)
 traced_whole (Form.Block wording name) false count steps traced listed none = record {
   steps = steps;
@@ -119,15 +121,15 @@ traced_whole _ wrote count steps traced listed has = record { steps = steps; tra
 
 -- at its limit
 pub traced_full : {form : Form} (wrote : Bool) {count : ℕ} {begun now : CursorState} {s s' : Seen}
-    {old new : List ℕ} (most : Option ℕ) → Tracing form count begun now (change s s' old new)
-    → most ≡ Some count → IsWithin most count → Wrote wrote old new
+    {old new : Output} (most : Option ℕ) → Tracing form count begun now (change s s' old new)
+    → most ≡ Some count → IsWithin most count → Wrote wrote old.bytes new.bytes
     → TracesListing form most begun now (change s s' old new) (end_of form wrote count)
 traced_full {form} wrote {count} most t limit within has =
     traced_whole form wrote count t.steps t.traced (record { count_is = t.count_is; within = within; done = inl limit; printed = t.printed }) has
 
 -- the cursor returned no record, for this reason
 pub traced_ended : {form : Form} {count : ℕ} {begun now : CursorState} {s s' : Seen}
-    {old new : List ℕ} (most : Option ℕ) (t : Tracing form count begun now (change s s' old new))
+    {old new : Output} (most : Option ℕ) (t : Tracing form count begun now (change s s' old new))
     {next : CursorState} {s'' : Seen} (ended : Ended) (step : IsStep now next s' s'' (Err ended))
     → IsHonest s' → IsWithin most (count + 1)
     → TracesListing form most begun next (change s s'' old new) (Err (Failure.Ended ended))
@@ -151,9 +153,9 @@ traced_ended {form} {count} {begun} {now} {s} {s'} {old} {new} most t {next} {s'
 
 -- there are no more records
 pub traced_done : {form : Form} (wrote : Bool) {count : ℕ} {begun now : CursorState} {s s' : Seen}
-    {old new : List ℕ} (most : Option ℕ) (t : Tracing form count begun now (change s s' old new))
+    {old new : Output} (most : Option ℕ) (t : Tracing form count begun now (change s s' old new))
     {next : CursorState} {s'' : Seen} (step : IsStep now next s' s'' (Ok None))
-    → IsHonest s' → IsWithin most count → Wrote wrote old new
+    → IsHonest s' → IsWithin most count → Wrote wrote old.bytes new.bytes
     → TracesListing form most begun next (change s s'' old new) (end_of form wrote count)
 traced_done {form} wrote {count} {begun} {now} {s} {s'} {old} {new} most t {next} {s''} step honest within has =
     let rows : handed_out (all_steps t step) ≡ handed_out t.steps = handed_more t step ∙ append-nil (handed_out t.steps) in
@@ -162,7 +164,7 @@ traced_done {form} wrote {count} {begun} {now} {s} {s'} {old} {new} most t {next
     has
 
 -- a record was returned
-module _ {form : Form} {count : ℕ} {begun now : CursorState} {s s' : Seen} {old new : List ℕ}
+module _ {form : Form} {count : ℕ} {begun now : CursorState} {s s' : Seen} {old new : Output}
     (most : Option ℕ) (t : Tracing form count begun now (change s s' old new)) {next : CursorState} {s'' : Seen}
     {row : Row} (step : IsStep now next s' s'' (Ok (Some row))) (last : Seen)
     (stays : StaysHonest s'' last) where
@@ -183,8 +185,8 @@ module _ {form : Form} {count : ℕ} {begun now : CursorState} {s s' : Seen} {ol
   }
 
   -- a part of its text was written
-  pub traced_cut : IsWithin most (count + 1) → (text piece_text : List ℕ) → IsTextAfter form row s'' last piece_text
-      → 0 < length piece_text → TakesPart new text piece_text
+  pub traced_cut : IsWithin most (count + 1) → (text piece_text : Output) → IsTextAfter form row s'' last piece_text
+      → 0 < length piece_text.bytes → IsCut new text piece_text
       → TracesListing form most begun next (change s last old text) (Err Failure.WriteFault)
   traced_cut within text piece_text is some part = record {
     steps = all_steps t step;
@@ -205,8 +207,8 @@ module _ {form : Form} {count : ℕ} {begun now : CursorState} {s s' : Seen} {ol
   }
 
   -- its text was written
-  pub traced_more : (text piece_text : List ℕ) → IsTextAfter form row s'' last piece_text
-      → text ≡ new ++ piece_text → Tracing form (count + 1) begun next (change s last old text)
+  pub traced_more : (text piece_text : Output) → IsTextAfter form row s'' last piece_text
+      → text ≡ and_then new piece_text → Tracing form (count + 1) begun next (change s last old text)
   traced_more text piece_text is written = record {
     steps = all_steps t step;
     traced = all_traced t step last stays;

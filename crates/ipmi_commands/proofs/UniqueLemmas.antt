@@ -1,9 +1,10 @@
 -- Items have at most one text, and a finished run has at most one output.
-use Rattle.std.proofs.Common.{◌≡◌, ℕ, zero, suc, ◌-◌, Bool, Option, None, Some, Result, Ok, Err, List, [], ◌∷◌, length, take, drop, sym, ◌∙◌, arith}
+use Rattle.std.proofs.Common.{◌≡◌, ℕ, zero, suc, ◌-◌, Bool, Option, None, Some, Result, Ok, Err, List, [], ◌∷◌, length, take, drop, sym, ap, ◌∙◌, arith}
 use Rattle.ipmi_commands.specs.Below.{Count, IsStore, WalkEnd, Shelf, Sdr, Sel, Place, First, start_of, Row, IsShelf, FoundIsRow, AreBytes, Reading, Store, info_of, rows_of, store_shelf, AllOf, WalkExists, place_after, place_after_rows, IsFruLine, IsFruText, SdrFault, SdrView, IsInfoBlock, IsSdrBlock, entry_bytes, sdr_view_of, SelView, sel_view_of, SdrLineIsUnique, ExtendedLineIsUnique, SelLineIsUnique, SelBlockIsUnique, EventInWordsIsUnique, SensorBlockIsUnique, SensorLineIsUnique, Ending}
 use Rattle.ipmi_json.specs.Sdr.{bytes_members, fault_members}
 use Rattle.ipmi_json.specs.Laws.{DeviceLineIsUnique, EntryLineIsUnique, InfoLineIsUnique, ObjectLineIsUnique, RecordLineIsUnique}
-use Rattle.ipmi_commands.specs.Prelude.{after_names, bytes_of_rows, Named, OnNamed, PrintsAll, AreOfBytes, Detail, Entries, entries_in, first_rows, FinishedRunsAreOne, Form, IfChosen, info_plan, Printed, IsBlockIn, IsBlockOfName, IsEntryLine, IsInfoIn, IsInventoryIn, IsInventoryText, IsLocatorPiece, IsOfBytes, IsRecordLine, IsRowText, IsTextOver, Item, ItemsHaveOneText, Job, last_items, last_rows, reading_for, row_items, shelf_of, Spot, spots_of_walk, Subject, with_first_spots, Wording}
+use Rattle.ipmi_commands.specs.Prelude.{after_names, bytes_of_rows, Named, OnNamed, PrintsAll, AreOfBytes, Detail, Entries, entries_in, first_rows, FinishedRunsAreOne, Form, IfChosen, info_plan, Printed, IsBlockIn, IsBlockOfName, IsEntryLine, IsInfoIn, IsInventoryIn, IsInventoryText, IsLocatorPiece, IsOfBytes, IsRecordLine, IsRowText, IsTextOver, IsPieceOver, is_faulty, Item, ItemsHaveOneText, Job, last_items, last_rows, reading_for, row_items, shelf_of, Spot, spots_of_walk, Subject, with_first_spots, Wording}
+use Rattle.ipmi_commands.specs.Output.{Output, piece_of}
 
 -- there is at most one such text
 abbrev IsOne : (List ℕ → Type 0) → Type 0
@@ -97,11 +98,16 @@ module _ (one_sdr_line : SdrLineIsUnique) (one_extended_line : ExtendedLineIsUni
       → IsOne (IsTextOver store subject)
   one_item store subject bytes = grind (arith, one_row, one_inventory, one_info_text)
 
+  one_piece : (store : Store) (subject : Subject) (a b : Output) → IsOfBytes subject
+      → IsPieceOver store subject a → IsPieceOver store subject b → a ≡ b
+  one_piece store subject a b bytes x y =
+      x.counted ∙ ap (λ (text : List ℕ). piece_of text (is_faulty store subject)) (one_item store subject bytes a.bytes b.bytes x.is_text y.is_text) ∙ sym y.counted
+
   -- items have at most one text
   pub one_text : ItemsHaveOneText
   one_text store [] a b bytes x y = x ∙ sym y
   one_text store (item ∷ items) a b bytes x y =
-      x.joined ∙ rw (one_item store item.subject bytes.0 x.first y.first x.is_first y.is_first, one_text store items x.rest y.rest bytes.1 x.is_rest y.is_rest) (sym y.joined)
+      x.joined ∙ rw (one_piece store item.subject x.first y.first bytes.0 x.is_first y.is_first, one_text store items x.rest y.rest bytes.1 x.is_rest y.is_rest) (sym y.joined)
 
 -- ---- the numbers of the items are bytes
 
@@ -124,17 +130,17 @@ first_kept spots items are = grind arith
 -- ---- at most one output
 
 module _ (one : ItemsHaveOneText) (exists : WalkExists) (look_row : FoundIsRow) where
-  one_plan : (store : Store) {items : List Item} {end : Ending} {old a b : List ℕ} {e f : Ending}
-      → AreOfBytes items → Printed (IsTextOver store) items old a × (e ≡ end)
-      → Printed (IsTextOver store) items old b × (f ≡ end) → (a ≡ b) × (e ≡ f)
+  one_plan : (store : Store) {items : List Item} {end : Ending} {old a b : Output} {e f : Ending}
+      → AreOfBytes items → Printed (IsPieceOver store) items old a × (e ≡ end)
+      → Printed (IsPieceOver store) items old b × (f ≡ end) → (a ≡ b) × (e ≡ f)
   one_plan store {items} bytes x y =
       (x.0.new_is ∙ rw (one store items x.0.text y.0.text bytes x.0.are y.0.are) (sym y.0.new_is), x.1 ∙ sym y.1)
 
   -- after reading the names
-  one_named : (store : Store) (old a b : List ℕ) (e f : Ending) (wording : Wording) (records : List (List ℕ)) (named : Named)
+  one_named : (store : Store) (old a b : Output) (e f : Ending) (wording : Wording) (records : List (List ℕ)) (named : Named)
       (tries tries' : ℕ) (rows : List Row) (end : WalkEnd) → IsStore store
-      → OnNamed wording records named tries store (λ plan calls. PrintsAll (IsTextOver store) (after_names rows end plan) old a e)
-      → OnNamed wording records named tries' store (λ plan calls. PrintsAll (IsTextOver store) (after_names rows end plan) old b f)
+      → OnNamed wording records named tries store (λ plan calls. PrintsAll (IsPieceOver store) (after_names rows end plan) old a e)
+      → OnNamed wording records named tries' store (λ plan calls. PrintsAll (IsPieceOver store) (after_names rows end plan) old b f)
       → (a ≡ b) × (e ≡ f)
   one_named store old a b e f wording records (Named.Events Count.All from) tries tries' rows end ok x y =
       let there = exists Sel store.sel (start_of from) ok.sel in

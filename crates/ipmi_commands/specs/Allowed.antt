@@ -2,32 +2,33 @@
 -- and `new` are the contents of the output before and after, and `s` and `s'`, or `seen` and
 -- `seen'`, are the states of the controller that contracts see before and after.
 use Rattle.std.specs.Prelude.{◌≡◌, ℕ, ◌+◌, ◌<◌, ◌≤◌, Result, Ok, Err, List, [], ◌∷◌, ◌++◌, length, ◌⊎◌}
-use Rattle.ipmi_commands.specs.Below.{Ended, FruEnded, ImageFault, inventory_of, Keeps, Seen, StaysHonest, TakesPart, Ending, Failure}
+use Rattle.ipmi_commands.specs.Below.{Ended, FruEnded, ImageFault, inventory_of, Keeps, Seen, StaysHonest, Ending, Failure}
+use Rattle.ipmi_commands.specs.Output.{and_then, IsCut, no_output, Output}
 use Rattle.ipmi_commands.specs.Texts.{Subject}
 use Rattle.ipmi_commands.specs.Plan.{Spot, AtRecord, AtInventory, Item, Plan, next_spots}
 
 -- ---- texts, given a relation between a subject and its texts
 
 -- a text of the first item, followed by texts of the rest
-pub record TextsJoined (IsFirst IsRest : List ℕ → Type 0) (text : List ℕ) : Type 0 where
-  pub first : List ℕ
-  pub rest : List ℕ
+pub record TextsJoined (IsFirst IsRest : Output → Type 0) (text : Output) : Type 0 where
+  pub first : Output
+  pub rest : Output
   pub is_first : IsFirst first
   pub is_rest : IsRest rest
-  pub joined : text ≡ first ++ rest
+  pub joined : text ≡ and_then first rest
 
 -- texts of the items, concatenated in order
-abbrev pub AreTexts : (Subject → List ℕ → Type 0) → List Item → List ℕ → Type 0
-AreTexts IsText [] text = text ≡ []
+abbrev pub AreTexts : (Subject → Output → Type 0) → List Item → Output → Type 0
+AreTexts IsText [] text = text ≡ no_output
 AreTexts IsText (item ∷ items) text =
     TextsJoined (λ first. IsText item.subject first) (λ rest. AreTexts IsText items rest) text
 
 -- texts of the items were printed
-pub record Printed (IsText : Subject → List ℕ → Type 0) (items : List Item)
-    (old new : List ℕ) : Type 0 where
-  pub text : List ℕ
+pub record Printed (IsText : Subject → Output → Type 0) (items : List Item)
+    (old new : Output) : Type 0 where
+  pub text : Output
   pub are : AreTexts IsText items text
-  pub new_is : new ≡ old ++ text
+  pub new_is : new ≡ and_then old text
 
 -- ---- how a run ended
 
@@ -70,8 +71,8 @@ IsAmong [] spot = ⊥
 IsAmong (first ∷ spots) spot = (spot ≡ first) ⊎ IsAmong spots spot
 
 -- texts of the first items were printed, and nothing else
-pub record HasFirstItems (IsText : Subject → List ℕ → Type 0) (plan : Plan)
-    (old new : List ℕ) : Type 0 where
+pub record HasFirstItems (IsText : Subject → Output → Type 0) (plan : Plan)
+    (old new : Output) : Type 0 where
   pub done : List Item
   pub rest : List Item
   pub items_are : plan.items ≡ done ++ rest
@@ -79,31 +80,31 @@ pub record HasFirstItems (IsText : Subject → List ℕ → Type 0) (plan : Plan
 
 -- texts of the first items were printed, and the run stopped at a spot of the next item, or of the
 -- end
-pub record StopsAt (spot : Spot) (IsText : Subject → List ℕ → Type 0) (plan : Plan)
-    (old new : List ℕ) : Type 0 where
+pub record StopsAt (spot : Spot) (IsText : Subject → Output → Type 0) (plan : Plan)
+    (old new : Output) : Type 0 where
   pub first : HasFirstItems IsText plan old new
   pub there : IsAmong (next_spots first.rest plan.end_spots) spot
 
 -- texts of the first items were printed, then a prefix of a nonempty text of the next item; the
 -- prefix may be empty or the whole text
-pub record HasCutItem (IsText : Subject → List ℕ → Type 0) (plan : Plan)
-    (old new : List ℕ) : Type 0 where
-  pub whole : List ℕ
+pub record HasCutItem (IsText : Subject → Output → Type 0) (plan : Plan)
+    (old new : Output) : Type 0 where
+  pub whole : Output
   pub first : HasFirstItems IsText plan old whole
   pub item : Item
   pub later : List Item
   pub next : first.rest ≡ item ∷ later
-  pub text : List ℕ
+  pub text : Output
   pub is_text : IsText item.subject text
-  pub some : 0 < length text
-  pub part : TakesPart whole new text
+  pub some : 0 < length text.bytes
+  pub part : IsCut whole new text
 
 -- all items were printed, and the run ends as the plan does
-abbrev pub PrintsAll : (Subject → List ℕ → Type 0) → Plan → List ℕ → List ℕ → Ending → Type 0
+abbrev pub PrintsAll : (Subject → Output → Type 0) → Plan → Output → Output → Ending → Type 0
 PrintsAll IsText plan old new ending = Printed IsText plan.items old new × (ending ≡ plan.end)
 
 -- the possible outputs for each cause
-abbrev pub Leaves : (Subject → List ℕ → Type 0) → Plan → List ℕ → List ℕ → Ending → Cause → Type 0
+abbrev pub Leaves : (Subject → Output → Type 0) → Plan → Output → Output → Ending → Cause → Type 0
 Leaves IsText plan old new ending AtEnd = PrintsAll IsText plan old new ending
 Leaves IsText plan old new ending (GaveUp spot) = StopsAt spot IsText plan old new
 Leaves IsText plan old new ending (Refused spot code) = StopsAt spot IsText plan old new
@@ -111,7 +112,7 @@ Leaves IsText plan old new ending NoMemory = HasFirstItems IsText plan old new
 Leaves IsText plan old new ending NoOutput = HasCutItem IsText plan old new
 Leaves IsText plan old new ending Dishonest = ⊥
 
-abbrev pub IsAllowed : (Subject → List ℕ → Type 0) → Plan → List ℕ → List ℕ → Ending → Type 0
+abbrev pub IsAllowed : (Subject → Output → Type 0) → Plan → Output → Output → Ending → Type 0
 IsAllowed IsText plan old new ending = Leaves IsText plan old new ending (cause_of ending)
 
 -- ---- what the controller counted
@@ -155,8 +156,8 @@ pub record EndsFor (tries : ℕ) (IsPlain : Type 0) (s s' : Seen) (cause : Cause
 pub record Change : Type 0 where
   pub seen : Seen
   pub seen' : Seen
-  pub old : List ℕ
-  pub new : List ℕ
+  pub old : Output
+  pub new : Output
 
-abbrev pub change : Seen → Seen → List ℕ → List ℕ → Change
+abbrev pub change : Seen → Seen → Output → Output → Change
 change seen seen' old new = record { seen = seen; seen' = seen'; old = old; new = new }

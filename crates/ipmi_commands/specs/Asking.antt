@@ -5,13 +5,15 @@ use Rattle.ipmi_commands.specs.Below.{FruEnded, KeepsReservations, LastFailed, L
 use Rattle.ipmi_commands.specs.declared.job.Form.{Form}
 use Rattle.ipmi_commands.specs.declared.job.Wording.{Wording}
 use Rattle.ipmi_commands.specs.declared.piece.Piece.{Piece}
+use Rattle.ipmi_commands.specs.declared.piece.RowText.{RowText}
 use Rattle.ipmi_commands.specs.declared.unread.Unread.{Unread}
 use Rattle.ipmi_commands.specs.Allowed.{AtEnd, Cause, cause_of, EndsFor}
 use Rattle.ipmi_commands.specs.Calls.{calls_for_spots}
 use Rattle.ipmi_commands.specs.Meanwhile.{KeepsAt}
 use Rattle.ipmi_commands.specs.Plan.{Spot}
 use Rattle.ipmi_commands.specs.Run.{LacksValue}
-use Rattle.ipmi_commands.specs.Texts.{IsInfoIn}
+use Rattle.ipmi_commands.specs.Output.{Output, piece_of}
+use Rattle.ipmi_commands.specs.Texts.{IsDevicePiece, IsInfoIn, is_faulty_there}
 use Rattle.ipmi_commands.specs.Traced.{IsStopAmong}
 
 -- ---- found, or not
@@ -49,10 +51,25 @@ abbrev pub Finds : {T : Type 0} → (Store → T → Type 0) → List Spot → �
 Finds Is spots tries s s' (Ok found) = FindsIt (λ store. Is store found) spots tries s s'
 Finds Is spots tries s s' (Err unread) = FindsNone spots tries s s' (cause_of_unread unread)
 
--- the bytes of a piece; `line` is the contents of the line buffer
-abbrev pub bytes_of : List ℕ → Piece → List ℕ
-bytes_of line Piece.Line = line
-bytes_of line (Piece.Text text) = text.items
+abbrev pub shown : Piece → Output
+shown piece = piece_of piece.text.items piece.has_fault
+
+-- the bytes of a record's text; `line` is the contents of the line buffer
+abbrev pub bytes_of : List ℕ → RowText → List ℕ
+bytes_of line RowText.Line = line
+bytes_of line (RowText.Own piece) = piece.text.items
+
+abbrev pub row_has_fault : RowText → Bool
+row_has_fault RowText.Line = false
+row_has_fault (RowText.Own piece) = piece.has_fault
+
+abbrev pub row_piece : List ℕ → RowText → Output
+row_piece line text = piece_of (bytes_of line text) (row_has_fault text)
+
+-- a text of a locator's device, and what is counted for it
+pub record IsCountedDevice (wording : Wording) (store : Store) (name : List ℕ) (id : Option ℕ) (piece : Output) : Type 0 where
+  pub is_text : IsDevicePiece wording store name id piece.bytes
+  pub counted : piece ≡ piece_of piece.bytes (is_faulty_there wording store id)
 
 -- the controller has no such inventory
 abbrev pub is_absent : FruEnded → Bool

@@ -7,9 +7,10 @@ use Rattle.ipmi_commands.specs.declared.job.Form.{Form}
 use Rattle.ipmi_commands.specs.declared.job.Job.{Job}
 use Rattle.ipmi_commands.specs.declared.job.Wording.{Wording}
 use Rattle.ipmi_commands.specs.Allowed.{AreTexts, PrintsAll}
+use Rattle.ipmi_commands.specs.Output.{Output}
 use Rattle.ipmi_commands.specs.Plan.{Item}
 use Rattle.ipmi_commands.specs.Run.{OnPlan}
-use Rattle.ipmi_commands.specs.Texts.{Subject, OfRow, OfInfo, OfInventory, OfImage, IsTextOver}
+use Rattle.ipmi_commands.specs.Texts.{Subject, OfRow, OfInfo, OfInventory, OfImage, IsPieceOver}
 
 -- the numbers in a subject are bytes, as in a well-formed store
 abbrev pub IsOfBytes : Subject → Type 0
@@ -48,17 +49,17 @@ AreOfBytes (item ∷ items) = IsOfBytes item.subject × AreOfBytes items
 -- each such plan can be printed
 abbrev pub ItemsHaveAText : Type 0
 ItemsHaveAText = (store : Store) (items : List Item) → IsStore store → AreInText items
-    → (text : List ℕ) × AreTexts (IsTextOver store) items text
+    → (text : Output) × AreTexts (IsPieceOver store) items text
 
 -- over a store, a list of items has at most one text
 abbrev pub ItemsHaveOneText : Type 0
-ItemsHaveOneText = (store : Store) (items : List Item) (a b : List ℕ) → AreOfBytes items
-    → AreTexts (IsTextOver store) items a → AreTexts (IsTextOver store) items b → a ≡ b
+ItemsHaveOneText = (store : Store) (items : List Item) (a b : Output) → AreOfBytes items
+    → AreTexts (IsPieceOver store) items a → AreTexts (IsPieceOver store) items b → a ≡ b
 
 -- over a well-formed store, a finished run has only one possible output and one possible end,
 -- whatever its tries
 abbrev pub FinishedRunsAreOne : Type 0
-FinishedRunsAreOne = (job : Job) (tries tries' : ℕ) (store : Store) (old a b : List ℕ) (e f : Ending) → IsStore store
-    → OnPlan job tries store (λ plan calls. PrintsAll (IsTextOver store) plan old a e)
-    → OnPlan job tries' store (λ plan calls. PrintsAll (IsTextOver store) plan old b f)
+FinishedRunsAreOne = (job : Job) (tries tries' : ℕ) (store : Store) (old a b : Output) (e f : Ending) → IsStore store
+    → OnPlan job tries store (λ plan calls. PrintsAll (IsPieceOver store) plan old a e)
+    → OnPlan job tries' store (λ plan calls. PrintsAll (IsPieceOver store) plan old b f)
     → (a ≡ b) × (e ≡ f)

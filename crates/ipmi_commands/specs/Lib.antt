@@ -7,10 +7,12 @@ pub mod Laws
 pub mod Listing
 pub mod Meanwhile
 pub mod Named
+pub mod Output
 pub mod PagedRun
 pub mod Pages
 pub mod Plan
 pub mod Prelude
+pub mod Printed
 pub mod Run
 pub mod Texts
 pub mod Traced

@@ -10,7 +10,8 @@ use Rattle.ipmi_commands.specs.Calls.{calls_for, most_for_one, walk_call_bound}
 use Rattle.ipmi_commands.specs.Job.{shelf_of, listing, IsPlace}
 use Rattle.ipmi_commands.specs.Meanwhile.{IsTextWhile}
 use Rattle.ipmi_commands.specs.Plan.{OnWalk, first_rows, listing_plan, last_plan}
-use Rattle.ipmi_commands.specs.Texts.{IsTextOver, Subject}
+use Rattle.ipmi_commands.specs.Output.{Output}
+use Rattle.ipmi_commands.specs.Texts.{IsPieceOver, Subject}
 use Rattle.ipmi_commands.specs.Traced.{TracesListing}
 
 -- ---- over any controller
@@ -83,7 +84,7 @@ pub record ListsAll (form : Form) (tries : ℕ) (most : Option ℕ) (begun now :
 pub record ListsAlong (form : Form) (tries : ℕ) (most : Option ℕ) (begun now : CursorState)
     (c : Change) (result : Result ℕ Failure) (start : Place) (walk : List Row) (end : WalkEnd)
     (k : ℕ) : Type 0 where
-  pub leaves : IsAllowed (IsTextOver c.seen.store)
+  pub leaves : IsAllowed (IsPieceOver c.seen.store)
       (listing_plan (listing form (place_after_rows start (take k walk)) most) (drop k walk) end)
       c.old c.new (ending_of result)
   pub calls : CallsAlong form tries (first_rows most (drop k walk)) begun c.seen c.seen'
@@ -112,7 +113,7 @@ pub record Lists (form : Form) (tries : ℕ) (most : Option ℕ) (begun now : Cu
 
 -- all entries were counted, and nothing was printed; or the run fails in a way that is possible for
 -- any number of last entries
-abbrev pub Counted : (Subject → List ℕ → Type 0) → Place → List Row → WalkEnd → List ℕ → List ℕ
+abbrev pub Counted : (Subject → Output → Type 0) → Place → List Row → WalkEnd → Output → Output
     → Result ℕ Failure → Type 0
 Counted IsText start walk end old new (Ok count) =
     (count ≡ length walk) × (end ≡ Done) × (new ≡ old)
@@ -125,7 +126,7 @@ pub record CountsEntries (start : Place) (tries : ℕ) (c : Change)
   pub ends : EndsFor tries (IsTrue c.seen.plain) c.seen c.seen' (cause_of (ending_of result))
   pub along : c.seen'.stores_added ≡ c.seen.stores_added
       → OnWalk Sel start c.seen.store (λ walk end.
-      Counted (IsTextOver c.seen.store) start walk end c.old c.new result
+      Counted (IsPieceOver c.seen.store) start walk end c.old c.new result
       × (c.seen'.calls ≤ c.seen.calls + walk_call_bound Form.Passed c.seen.store tries walk))
   pub grows : OnGrowing Sel start c.seen c.seen' (λ log.
       Counted (IsTextWhile c.seen c.seen') start log Done c.old c.new result)
@@ -137,7 +138,7 @@ pub record ListsAfter (entries : Entries) (start : Place) (passed tries : ℕ)
   pub ends : EndsFor tries (IsTrue c.seen.plain) c.seen c.seen' (cause_of ending)
   pub along : c.seen'.stores_added ≡ c.seen.stores_added
       → OnWalk Sel start c.seen.store (λ walk end. (n : ℕ) → end ≡ Done → passed ≡ length walk - n
-      → IsAllowed (IsTextOver c.seen.store) (last_plan entries n start walk end) c.old c.new ending
+      → IsAllowed (IsPieceOver c.seen.store) (last_plan entries n start walk end) c.old c.new ending
       × (c.seen'.calls ≤ c.seen.calls + walk_call_bound Form.Passed c.seen.store tries walk))
   pub grows : (first : List Row) → passed ≤ length first → IsLog Sel start c.seen.store first
       → OnlyGrew Sel start c.seen c.seen' → (log : List Row) × WasLog Sel start c.seen c.seen' first log

@@ -1,19 +1,20 @@
 -- What may be printed while a controller's store changes: readings at any time, and records that are
 -- appended.
-use Rattle.std.specs.Prelude.{ℕ, List, [], ◌∷◌}
+use Rattle.std.specs.Prelude.{List, [], ◌∷◌}
 use Rattle.ipmi_commands.specs.Below.{Done, inventory_of, Keeps, OnGrowing, Seen, Store, WasHeld}
 use Rattle.ipmi_commands.specs.declared.job.Form.{Form}
 use Rattle.ipmi_commands.specs.declared.job.Listing.{Listing}
 use Rattle.ipmi_commands.specs.Job.{shelf_of}
 use Rattle.ipmi_commands.specs.Plan.{listing_plan, Plan, Spot, AtRecord, AtInventory}
-use Rattle.ipmi_commands.specs.Texts.{IsTextOver, Subject}
+use Rattle.ipmi_commands.specs.Output.{Output}
+use Rattle.ipmi_commands.specs.Texts.{IsPieceOver, Subject}
 
 -- a text of the subject over a store that the controller held meanwhile; each text may be over another
 -- one
-pub record IsTextWhile (s s' : Seen) (subject : Subject) (text : List ℕ) : Type 0 where
+pub record IsTextWhile (s s' : Seen) (subject : Subject) (text : Output) : Type 0 where
   pub store : Store
   pub held : WasHeld s s' store
-  pub is : IsTextOver store subject text
+  pub is : IsPieceOver store subject text
 
 -- the inventories at these spots did not change from the first state to the second
 abbrev pub KeepsAt : List Spot → Seen → Seen → Type 0

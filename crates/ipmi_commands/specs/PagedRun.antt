@@ -10,6 +10,7 @@ use Rattle.ipmi_commands.specs.Allowed.{cause_of, Change, change, EndsFor}
 use Rattle.ipmi_commands.specs.Calls.{most_on_walk, walk_call_bound}
 use Rattle.ipmi_commands.specs.Job.{entries_in}
 use Rattle.ipmi_commands.specs.Named.{ending_then, ReadsRecords}
+use Rattle.ipmi_commands.specs.Output.{no_output, Output}
 use Rattle.ipmi_commands.specs.Pages.{ArePages, IsOneListingAfter, pages_made}
 use Rattle.ipmi_commands.specs.Plan.{after_names, bytes_of_rows, OnWalk}
 use Rattle.ipmi_commands.specs.Run.{EndsNamed, job_of_command, job_of_command_in, RunsInPages}
@@ -31,10 +32,10 @@ PagesAfter (Err failure) now form from tries sizes c ending =
 pub record ReadsThenPages (wording : Wording) (from : Option ℕ) (tries : ℕ) (sizes : List ℕ)
     (c : Change) (ending : Ending) : Type 0 where
   pub now : Seen
-  pub kept : List ℕ
+  pub kept : Output
   pub walked : Result Walked Failure
-  pub reads : ReadsRecords tries (change c.seen now [] kept) walked
-  pub pages : PagesAfter walked now (entries_with wording (records_in kept)) from tries sizes c ending
+  pub reads : ReadsRecords tries (change c.seen now no_output kept) walked
+  pub pages : PagesAfter walked now (entries_with wording (records_in kept.bytes)) from tries sizes c ending
 
 -- Like `RunsInPages`, for all entries of the log, after the walk that reads the names of their
 -- sensors.

@@ -8,7 +8,8 @@ use Rattle.ipmi_commands.specs.Calls.{calls_for, walk_call_bound}
 use Rattle.ipmi_commands.specs.Job.{shelf_of, listing}
 use Rattle.ipmi_commands.specs.Meanwhile.{IsTextWhile, OnGrowingListing}
 use Rattle.ipmi_commands.specs.Plan.{OnWalk, Plan, first_rows, listing_plan}
-use Rattle.ipmi_commands.specs.Texts.{IsTextOver}
+use Rattle.ipmi_commands.specs.Output.{Output}
+use Rattle.ipmi_commands.specs.Texts.{IsPieceOver}
 use Rattle.ipmi_commands.specs.Traced.{Traces}
 
 -- the initial cursor of a listing, at the id `from` or at the first record, with the command's part
@@ -44,7 +45,7 @@ GoesOn rows start used next =
 -- a page along the walk from its start: its output, its calls, and where the next page begins
 pub record PageAlong (form : Form) (start : Place) (tries : ℕ) (most : Option ℕ) (c : Change)
     (result : Result Place Failure) (walk : List Row) (end : WalkEnd) : Type 0 where
-  pub leaves : IsAllowed (IsTextOver c.seen.store)
+  pub leaves : IsAllowed (IsPieceOver c.seen.store)
       (listing_plan (listing form start most) walk end) c.old c.new (ending_of result)
   pub calls : c.seen'.calls ≤ c.seen.calls
       + walk_call_bound form c.seen.store tries (first_rows most walk)
@@ -66,11 +67,11 @@ pub record IsPage (form : Form) (start : Place) (tries : ℕ) (most : Option ℕ
 -- ---- pages
 
 -- a page, and then the rest of the listing
-pub record PageThen (form : Form) (start : Place) (tries size : ℕ) (s : Seen) (old : List ℕ)
-    (Rest : Place → Seen → List ℕ → Type 0) : Type 0 where
+pub record PageThen (form : Form) (start : Place) (tries size : ℕ) (s : Seen) (old : Output)
+    (Rest : Place → Seen → Output → Type 0) : Type 0 where
   pub next : Place
   pub seen : Seen
-  pub text : List ℕ
+  pub text : Output
   pub page : IsPage form start tries (Some size) (change s seen old text) (Ok next)
   pub rest : Rest next seen text
 
@@ -103,7 +104,7 @@ IsOpen _ = Unit {0}
 abbrev pub IsOneListingAfter : (Plan → Plan) → ℕ → Form → Place → ℕ → List ℕ → Change → Ending → Type 0
 IsOneListingAfter after before form start tries sizes c ending =
     OnWalk (shelf_of form) start c.seen.store (λ walk end. IsOpen end
-    → IsAllowed (IsTextOver c.seen.store) (after (listing_plan (listing form start None) walk end))
+    → IsAllowed (IsPieceOver c.seen.store) (after (listing_plan (listing form start None) walk end))
     c.old c.new ending
     × (c.seen'.calls ≤ c.seen.calls + before + calls_for form c.seen.store tries walk
     + pages_made sizes * (step_call_bound tries 0 + 7)))

@@ -1,6 +1,6 @@
 -- The contract of a run: over any controller, over an honest one, in pages, and over an image.
 use Rattle.std.specs.Prelude.{◌≡◌, ◌⊎◌, ℕ, ◌+◌, ◌*◌, ◌<◌, ◌≤◌, ◌-◌, Bool, true, false, IsTrue, Option, None, Some, Result, Ok, Err, List, [], ◌++◌, length}
-use Rattle.ipmi_commands.specs.Below.{Count, device_name, Ended, fru_call_bound, LastCallSays, LastFailed, LastFruCallSays, NotPresent, RefusesRecord, RefusesValue, Seen, Shelf, start_of, Place, First, Sdr, Sel, Row, Store, Done, OnGrowing, WasLog, info_of, inventory_of, Keeps, WalkEnd, IsHonest, ImageFault, UsageFault, CommandState, Received, ReceivesText, TakesPart, Ending, Failure, failure_of_usage, said_of, status_of}
+use Rattle.ipmi_commands.specs.Below.{Count, device_name, Ended, fru_call_bound, LastCallSays, LastFailed, LastFruCallSays, NotPresent, RefusesRecord, RefusesValue, Seen, Shelf, start_of, Place, First, Sdr, Sel, Row, Store, Done, OnGrowing, WasLog, info_of, inventory_of, Keeps, WalkEnd, IsHonest, ImageFault, UsageFault, CommandState, Received, ReceivesText, Ending, Failure, failure_of_usage, said_of, status_of}
 use Rattle.ipmi_commands.specs.declared.job.Entries.{Entries}
 use Rattle.ipmi_commands.specs.declared.job.Form.{Form}
 use Rattle.ipmi_commands.specs.declared.job.Job.{Job}
@@ -12,9 +12,10 @@ use Rattle.ipmi_commands.specs.Allowed.{NoMemory, cause_of, ending_of, EndsFor, 
 use Rattle.ipmi_commands.specs.Calls.{calls_for_spot, walk_call_bound, most_on_walk}
 use Rattle.ipmi_commands.specs.Job.{entries_in, shelf_of, is_rewrite, job_in, job_of, listing}
 use Rattle.ipmi_commands.specs.Meanwhile.{IsTextWhile, OnGrowingListing}
+use Rattle.ipmi_commands.specs.Output.{and_then, IsCut, Output}
 use Rattle.ipmi_commands.specs.Pages.{ArePages, IsOneListing, pages_made}
 use Rattle.ipmi_commands.specs.Plan.{OnWalk, AtInventory, Plan, after_names, bytes_of_rows, first_rows, last_rows, listing_plan, last_plan, inventory_plan, inventories_plan, info_plan, rewrite_plan, no_plan}
-use Rattle.ipmi_commands.specs.Texts.{IsTextOver}
+use Rattle.ipmi_commands.specs.Texts.{IsPieceOver}
 use Rattle.ipmi_commands.specs.Traced.{Traces}
 
 -- ---- over any controller
@@ -172,7 +173,7 @@ OnPlan Job.Rewrite tries store Holds = Holds no_plan 0
 abbrev pub Prints : Job → ℕ → Change → Ending → Type 0
 Prints job tries c ending =
     OnPlan job tries c.seen.store (λ plan calls.
-    IsAllowed (IsTextOver c.seen.store) plan c.old c.new ending
+    IsAllowed (IsPieceOver c.seen.store) plan c.old c.new ending
     × (c.seen'.calls ≤ c.seen.calls + calls))
 
 -- ---- over an honest controller, where records are only appended
@@ -265,43 +266,43 @@ pub record RunsInPages (form : Form) (start : Place) (tries : ℕ) (sizes : List
   pub prints : IsHonest c.seen → c.seen'.stores_added ≡ c.seen.stores_added
       → IsOneListing form start tries sizes c ending
 
--- the result of writing a text
-abbrev pub WritesText : List ℕ → List ℕ → List ℕ → Ending → Type 0
-WritesText text old new (Ok done) = new ≡ old ++ text
-WritesText text old new (Err Failure.WriteFault) = (0 < length text) × TakesPart old new text
-WritesText text old new (Err failure) = ⊥
+-- the result of writing an item
+abbrev pub WritesPiece : Output → Output → Output → Ending → Type 0
+WritesPiece piece old new (Ok done) = new ≡ and_then old piece
+WritesPiece piece old new (Err Failure.WriteFault) = (0 < length piece.bytes) × IsCut old new piece
+WritesPiece piece old new (Err failure) = ⊥
 
 -- ---- over an image
 
 -- the run fails with this fault of the image, or is out of memory before it finds the fault;
 -- nothing is written
-abbrev pub FailsToRead : ImageFault → List ℕ → List ℕ → Ending → Type 0
+abbrev pub FailsToRead : ImageFault → Output → Output → Ending → Type 0
 FailsToRead fault old new ending =
     (new ≡ old) × ((ending ≡ Err (Failure.Image fault)) ⊎ (ending ≡ Err Failure.OutOfMemory))
 
 -- the canonical text of an image is written; if out of memory, nothing is written
-pub record IsRewriting (store : Store) (old new : List ℕ) (ending : Ending) : Type 0 where
-  pub allowed : IsAllowed (IsTextOver store) rewrite_plan old new ending
+pub record IsRewriting (store : Store) (old new : Output) (ending : Ending) : Type 0 where
+  pub allowed : IsAllowed (IsPieceOver store) rewrite_plan old new ending
   pub unwritten : cause_of ending ≡ NoMemory → new ≡ old
 
 -- a run over the store of an image: `image rewrite`, or another job, which never gives up and is
 -- never refused
-abbrev pub RunsOver : Bool → Job → Store → List ℕ → List ℕ → Ending → Type 0
+abbrev pub RunsOver : Bool → Job → Store → Output → Output → Ending → Type 0
 RunsOver true job store old new ending = IsRewriting store old new ending
 RunsOver false job store old new ending =
-    OnPlan job 0 store (λ plan calls. IsAllowed (IsTextOver store) plan old new ending)
+    OnPlan job 0 store (λ plan calls. IsAllowed (IsPieceOver store) plan old new ending)
     × IsFine (cause_of ending)
 
 -- a job over an image, which has a store or a fault
-abbrev pub AnswersJob : Job → Result Store ImageFault → List ℕ → List ℕ → Ending → Type 0
+abbrev pub AnswersJob : Job → Result Store ImageFault → Output → Output → Ending → Type 0
 AnswersJob job (Ok store) old new ending = RunsOver (is_rewrite job) job store old new ending
 AnswersJob job (Err fault) old new ending = FailsToRead fault old new ending
 
-abbrev pub AnswersCommand : CommandState → Result Store ImageFault → List ℕ → List ℕ → Ending → Type 0
+abbrev pub AnswersCommand : CommandState → Result Store ImageFault → Output → Output → Ending → Type 0
 AnswersCommand command image old new ending = AnswersJob (job_of_command command) image old new ending
 
 -- the result of a command line over an image
-abbrev pub AnswersLine : Result CommandState UsageFault → Result Store ImageFault → List ℕ → List ℕ
+abbrev pub AnswersLine : Result CommandState UsageFault → Result Store ImageFault → Output → Output
     → Ending → Type 0
 AnswersLine (Ok command) image old new ending = AnswersCommand command image old new ending
 AnswersLine (Err fault) image old new ending =

@@ -1,7 +1,9 @@
 -- The texts that are printed for a row in each form, an inventory, an info and an image, composed
 -- of the texts of lower crates.
-use Rattle.std.specs.Prelude.{◌≡◌, ℕ, ◌==◌, ◌||◌, not, Bool, true, false, Option, Some, None, Result, Ok, Err, List, [], ◌++◌, codes, decimal, bytes_eq}
+use Rattle.std.specs.Prelude.{◌≡◌, ℕ, ◌==◌, ◌||◌, not, Bool, true, false, is_err, is_some, Option, Some, None, Result, Ok, Err, List, [], ◌++◌, codes, decimal, bytes_eq}
 use Rattle.ipmi_commands.specs.Below.{Reading, Row, Store, inventory_of, reading_of, elsewhere_line, IsFruLine, IsFruText, IsInfoBlock, SdrFault, SdrView, SelView, Shelf, Sdr, Sel, IsEventInWords, IsSdrLine, IsExtendedLine, IsSdrBlock, IsSensorBlock, IsSensorLine, fault_line, printed_name, sel_view_of, IsSelLine, IsSelBlock, image_text_of, record_line_of, Kind}
+use Rattle.ipmi_fru.specs.Fault.{has_fault}
+use Rattle.ipmi_fru.specs.Header.{header_fault}
 use Rattle.ipmi_records.specs.Sdr as sdr
 use Rattle.ipmi_json.specs.Fru as json_fru
 use Rattle.ipmi_json.specs.Info as json_info
@@ -12,6 +14,7 @@ use Rattle.ipmi_commands.specs.declared.job.Detail.{Detail}
 use Rattle.ipmi_commands.specs.declared.job.Entries.{Entries}
 use Rattle.ipmi_commands.specs.declared.job.Form.{Form}
 use Rattle.ipmi_commands.specs.declared.job.Wording.{Wording}
+use Rattle.ipmi_commands.specs.Output.{piece_of, Output}
 
 -- ---- selection
 
@@ -190,3 +193,36 @@ IsTextOver store (OfInventory wording id name) text =
     IsInventoryIn wording id name (inventory_of id store) text
 IsTextOver store (OfInfo wording shelf info) text = IsInfoIn wording shelf info text
 IsTextOver store OfImage text = text ≡ image_text_of store
+
+-- ---- what is counted
+
+-- a device is missing, or its inventory has a fault that the form names: the line in words, only one of the header
+abbrev pub is_faulty_device : Wording → Option (List ℕ) → Bool
+is_faulty_device wording None = true
+is_faulty_device Wording.Words (Some bytes) = is_some (header_fault bytes)
+is_faulty_device _ (Some bytes) = has_fault bytes
+
+-- a device that is reached elsewhere has no fault
+abbrev pub is_faulty_there : Wording → Store → Option ℕ → Bool
+is_faulty_there wording store None = false
+is_faulty_there wording store (Some id) = is_faulty_device wording (inventory_of id store)
+
+abbrev pub is_faulty_locator : Wording → Store → Result SdrView SdrFault → Bool
+is_faulty_locator wording store (Ok view) = is_faulty_there wording store (sdr.fru_of view)
+is_faulty_locator wording store (Err fault) = false
+
+abbrev pub is_faulty_row : Store → Form → Row → Bool
+is_faulty_row store (Form.Line detail kind) row = is_err (sdr.sdr_view_of row.bytes)
+is_faulty_row store (Form.Device wording) row = is_faulty_locator wording store (sdr.sdr_view_of row.bytes)
+is_faulty_row store _ row = false
+
+-- the item that is printed for the subject has a fault
+abbrev pub is_faulty : Store → Subject → Bool
+is_faulty store (OfRow form row) = is_faulty_row store form row
+is_faulty store (OfInventory wording id name) = is_faulty_device wording (inventory_of id store)
+is_faulty store _ = false
+
+-- a text of the subject, and what is counted for it
+pub record IsPieceOver (store : Store) (subject : Subject) (piece : Output) : Type 0 where
+  pub is_text : IsTextOver store subject piece.bytes
+  pub counted : piece ≡ piece_of piece.bytes (is_faulty store subject)

@@ -1,14 +1,15 @@
 -- What a listing printed, by the steps of its cursor, whatever the store did meanwhile.
 use Rattle.std.specs.Prelude.{◌≡◌, ◌⊎◌, ◌+◌, ◌<◌, ◌≤◌, ℕ, Option, None, Some, IfOk, Result, Ok, Err, List, [], ◌∷◌, ◌++◌, length}
 use Rattle.std.specs.FinSet as set
-use Rattle.ipmi_commands.specs.Below.{AreSteps, cursor_after, CursorState, End, Ended, Ending, Failure, handed_out, Id, Place, Row, Seen, seen_after, StaysHonest, Stepped, TakesPart}
+use Rattle.ipmi_commands.specs.Below.{AreSteps, cursor_after, CursorState, End, Ended, Ending, Failure, handed_out, Id, Place, Row, Seen, seen_after, StaysHonest, Stepped}
+use Rattle.ipmi_commands.specs.Output.{and_then, IsCut, no_output, Output}
 use Rattle.ipmi_commands.specs.declared.job.Form.{Form}
 use Rattle.ipmi_commands.specs.declared.job.Wording.{Wording}
 use Rattle.ipmi_commands.specs.Allowed.{Cause, Change, cause_of, ending_of, GaveUp, IsAmong, NoMemory, Refused, TextsJoined}
 use Rattle.ipmi_commands.specs.Job.{shelf_of}
 use Rattle.ipmi_commands.specs.Meanwhile.{KeepsAt}
 use Rattle.ipmi_commands.specs.Plan.{Spot, spots_because_of}
-use Rattle.ipmi_commands.specs.Texts.{IsRowText}
+use Rattle.ipmi_commands.specs.Texts.{IsPieceOver, OfRow}
 
 -- the cursor made these steps; after the last one the controller may have got other requests
 pub record IsTraced (begun now : CursorState) (s s' : Seen) (steps : List Stepped) : Type 0 where
@@ -20,13 +21,13 @@ pub record IsTraced (begun now : CursorState) (s s' : Seen) (steps : List Steppe
 
 -- The text of a record in this form, over the store that the controller held after the requests for it,
 -- `s'`; any text if an inventory changed between `s` and `s'`
-abbrev pub IsTextAfter : Form → Row → Seen → Seen → List ℕ → Type 0
-IsTextAfter form row s s' text = KeepsAt (spots_because_of form row) s s' → IsRowText s'.store form row text
+abbrev pub IsTextAfter : Form → Row → Seen → Seen → Output → Type 0
+IsTextAfter form row s s' text = KeepsAt (spots_because_of form row) s s' → IsPieceOver s'.store (OfRow form row) text
 
 -- the text of what a step returned; nothing if that is no record
-abbrev pub IsTextOfResult : Form → Result (Option Row) Ended → Seen → Seen → List ℕ → Type 0
+abbrev pub IsTextOfResult : Form → Result (Option Row) Ended → Seen → Seen → Output → Type 0
 IsTextOfResult form (Ok (Some row)) s s' text = IsTextAfter form row s s' text
-IsTextOfResult form _ s s' text = text ≡ []
+IsTextOfResult form _ s s' text = text ≡ no_output
 
 -- the controller before the next step, or at last
 abbrev pub seen_next : List Stepped → Seen → Seen
@@ -34,18 +35,18 @@ seen_next [] last = last
 seen_next (step ∷ steps) last = step.before
 
 -- the texts of what the steps returned, in order
-abbrev pub AreTextsOfSteps : Form → List Stepped → Seen → List ℕ → Type 0
-AreTextsOfSteps form [] last text = text ≡ []
+abbrev pub AreTextsOfSteps : Form → List Stepped → Seen → Output → Type 0
+AreTextsOfSteps form [] last text = text ≡ no_output
 AreTextsOfSteps form (step ∷ steps) last text = TextsJoined
     (λ first. IsTextOfResult form step.result step.seen (seen_next steps last) first)
     (λ rest. AreTextsOfSteps form steps last rest) text
 
 -- these texts were printed, and nothing else
 pub record PrintsSteps (form : Form) (steps : List Stepped) (last : Seen)
-    (old new : List ℕ) : Type 0 where
-  pub text : List ℕ
+    (old new : Output) : Type 0 where
+  pub text : Output
   pub are : AreTextsOfSteps form steps last text
-  pub new_is : new ≡ old ++ text
+  pub new_is : new ≡ and_then old text
 
 -- ---- how the listing ended
 
@@ -106,12 +107,12 @@ pub record TextIsCut (form : Form) (most : Option ℕ) (steps : List Stepped) (c
   pub row : Row
   pub last : ReturnsLast most steps done step row
   pub is : failure ≡ Failure.WriteFault
-  pub before : List ℕ
+  pub before : Output
   pub printed : PrintsSteps form done step.before c.old before
-  pub text : List ℕ
+  pub text : Output
   pub is_text : IsTextAfter form row step.seen c.seen' text
-  pub some : 0 < length text
-  pub part : TakesPart before c.new text
+  pub some : 0 < length text.bytes
+  pub part : IsCut before c.new text
 
 -- no record had the name: nothing was printed
 pub record NoneNamed (form : Form) (most : Option ℕ) (now : CursorState) (steps : List Stepped)
@@ -130,8 +131,8 @@ Fails form most now steps c failure =
     ⊎ TextIsCut form most steps c failure ⊎ NoneNamed form most now steps c failure
 
 -- a search for a name printed something
-abbrev pub IsFound : Form → List ℕ → List ℕ → Type 0
-IsFound (Form.Block wording name) old new = length old < length new
+abbrev pub IsFound : Form → Output → Output → Type 0
+IsFound (Form.Block wording name) old new = length old.bytes < length new.bytes
 IsFound form old new = Unit {0}
 
 abbrev pub EndsTrace : Form → Option ℕ → CursorState → List Stepped → Change → Result ℕ Failure → Type 0

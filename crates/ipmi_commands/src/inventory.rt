@@ -1,13 +1,15 @@
 //! Prints the inventories of FRU devices.
 ghost use Rattle.std.specs.Prelude.{◌≡◌, ℕ, ◌+◌, ◌≤◌, ◌∷◌, [], Some, Err, IfErr, IfOk, OnOk, option_map, string_bytes, ◌++◌};
 ghost use Rattle.ipmi_commands.specs.Below.{Appends, AsksAtMost, LastFruCallSays, fru_call_bound, row_of_record, ReadsInventory, Seen, IsHonest, inventory_of, fru_of, printed_name, sdr_view_of};
-ghost use Rattle.ipmi_commands.specs.Prelude.{LacksInventory, in_parentheses, is_absent, Finds, IsDevicePiece, IsElsewhereIn, IsInventoryIn, IsInventoryPiece, IsInventoryText, IsLocatorPiece, AtInventory, device_spots, locator_spots};
+ghost use Rattle.ipmi_commands.specs.declared.job.Form.{Form};
+ghost use Rattle.ipmi_commands.specs.Prelude.{LacksInventory, in_parentheses, is_absent, Finds, IsCountedDevice, IsElsewhereIn, is_faulty_device, IsInventoryIn, IsInventoryPiece, IsInventoryText, IsPieceOver, AtInventory, device_spots, locator_spots, OfInventory, OfRow, shown};
 
 use crate::job::Wording;
+use crate::piece::Piece;
 use crate::unread::Unread;
 use ipmi_bus::{Code, Controller, FruEnded, Record, read_fru};
 use ipmi_command_line::Command;
-use ipmi_fru::{elsewhere_line, fru_line, push_fru};
+use ipmi_fru::{FruView, elsewhere_line, fru_line, has_fault, push_fru};
 use ipmi_json::fru_elsewhere_line;
 use ipmi_records::{SdrView, push_name};
 use std::alloc::{AllocError, Global};
@@ -121,6 +123,17 @@ fn text_in(
     }
 }
 
+/// Whether a device is missing, or has a fault that the form names: the line in words, only one of the header.
+fn is_faulty_device(wording: Wording<'_>, inventory: Option<&[u8]>) -> bool
+    ensures { result ≡ is_faulty_device wording.entry (option_map (λ bytes. bytes.now) inventory.entry) }
+{
+    match (inventory, wording) {
+        (None, _) => true,
+        (Some(bytes), Wording::Words) => FruView::read(bytes).is_err(),
+        (Some(bytes), Wording::Codes | Wording::Json(_)) => has_fault(bytes),
+    }
+}
+
 /// Reads the inventory of a device, and returns its text with this name, in this wording.
 pub(crate) fn inventory_in<C: Controller>(
     alloc: Global,
@@ -129,17 +142,19 @@ pub(crate) fn inventory_in<C: Controller>(
     wording: Wording<'_>,
     id: u8,
     name: Option<&str>,
-) -> Result<Vec<u8>, Unread>
+) -> Result<Piece, Unread>
     ensures calls { (C.seen ctl.new).calls ≤ (C.seen ctl.old).calls + fru_call_bound cmd.now.tries
         65535 }
     ensures asked { AsksAtMost cmd.now.part (C.seen ctl.old) (C.seen ctl.new) }
     ensures says { IfErr result (λ unread. LacksInventory unread (C.seen ctl.new)) }
     ensures honest { let named = option_map (λ name. name.now) name.entry in IsHonest (C.seen ctl.old) →
-        Finds (λ store text. IsInventoryIn wording.entry id named (inventory_of id store) text.items)
+        Finds (λ store piece. IsPieceOver store (OfInventory wording.entry id named) (shown piece))
         (AtInventory id ∷ []) cmd.now.tries (C.seen ctl.old) (C.seen ctl.new) result }
 {
     let inventory = read_inventory(alloc, ctl, cmd, id)?;
-    Ok(text_in(alloc, wording, id, name, inventory.as_deref())?)
+    let text = text_in(alloc, wording, id, name, inventory.as_deref())?;
+    let has_fault = is_faulty_device(wording, inventory.as_deref());
+    Ok(Piece { text, has_fault })
 }
 
 /// The name of a locator, as printed.
@@ -173,20 +188,20 @@ fn device_piece<C: Controller>(
     cmd: &Command,
     wording: Wording<'_>,
     view: &SdrView<'_>,
-) -> Result<Vec<u8>, Unread>
+) -> Result<Piece, Unread>
     ensures calls { (C.seen ctl.new).calls ≤ (C.seen ctl.old).calls + fru_call_bound cmd.now.tries
         65535 }
     ensures asked { AsksAtMost cmd.now.part (C.seen ctl.old) (C.seen ctl.new) }
     ensures says { IfErr result (λ unread. LacksInventory unread (C.seen ctl.new)) }
     ensures honest { IsHonest (C.seen ctl.old) →
-        Finds (λ store text. IsDevicePiece wording.entry store (printed_name view.now) (fru_of view.now)
-        text.items) (device_spots (fru_of view.now)) cmd.now.tries (C.seen ctl.old)
+        Finds (λ store piece. IsCountedDevice wording.entry store (printed_name view.now) (fru_of view.now)
+        (shown piece)) (device_spots (fru_of view.now)) cmd.now.tries (C.seen ctl.old)
         (C.seen ctl.new) result }
 {
     let name = name_of(alloc, view)?;
     match view.fru_of() {
-        None => Ok(elsewhere_in(alloc, wording, &name)?),
-        Some(0) => Ok(Vec::new(alloc)),
+        None => Ok(Piece::sound(elsewhere_in(alloc, wording, &name)?)),
+        Some(0) => Ok(Piece::sound(Vec::new(alloc))),
         Some(id) => inventory_in(alloc, ctl, cmd, wording, id, Some(&name)),
     }
 }
@@ -199,21 +214,21 @@ pub(crate) fn locator_piece<C: Controller>(
     cmd: &Command,
     wording: Wording<'_>,
     lent: &Record<'_>,
-) -> Result<Vec<u8>, Unread>
+) -> Result<Piece, Unread>
     ensures calls { (C.seen ctl.new).calls ≤ (C.seen ctl.old).calls + fru_call_bound cmd.now.tries
         65535 }
     ensures asked { AsksAtMost cmd.now.part (C.seen ctl.old) (C.seen ctl.new) }
     ensures says { IfErr result (λ unread. LacksInventory unread (C.seen ctl.new)) }
     ensures honest { let row = row_of_record lent.now in IsHonest (C.seen ctl.old) →
-        Finds (λ store text. IsLocatorPiece wording.entry store (sdr_view_of row.bytes) text.items)
+        Finds (λ store piece. IsPieceOver store (OfRow (Form.Device wording.entry) row) (shown piece))
         (locator_spots (sdr_view_of row.bytes)) cmd.now.tries (C.seen ctl.old) (C.seen ctl.new)
         result }
 {
     let Ok(view) = SdrView::read(lent.bytes) else {
-        return Ok(Vec::new(alloc));
+        return Ok(Piece::sound(Vec::new(alloc)));
     };
     match &view {
         SdrView::Fru(_) => device_piece(alloc, ctl, cmd, wording, &view),
-        _ => Ok(Vec::new(alloc)),
+        _ => Ok(Piece::sound(Vec::new(alloc))),
     }
 }

@@ -3,11 +3,12 @@ ghost use Rattle.std.specs.Prelude.{◌≡◌, ◌+◌, ◌≤◌, ℕ, Option};
 ghost use Rattle.ipmi_commands.specs.Below.{AsksAtMost, start_of, IsHonest, write_faults};
 ghost use Rattle.ipmi_commands.specs.declared.job.Form.{Form};
 ghost use Rattle.ipmi_commands.specs.declared.job.Job.{Job};
-ghost use Rattle.ipmi_commands.specs.Prelude.{change, CountsEntries, ending_of, EndsListing, IsFresh, IsFrom, ListsAfter, most_on_walk, Runs};
+ghost use Rattle.ipmi_commands.specs.Prelude.{change, CountsEntries, ending_of, EndsListing, IsFresh, IsFrom, ListsAfter, most_on_walk, printed, Runs};
 
 use crate::job::{Entries, Form};
 use crate::listing::list_records;
 use crate::pages::start_cursor;
+use crate::summary::Summary;
 use ipmi_bus::{Controller, Cursor};
 use ipmi_command_line::Command;
 use ipmi_output::{Failure, Sink};
@@ -20,6 +21,7 @@ fn count_entries<'a, C: Controller, O: Sink>(
     cmd: &Command,
     from: Option<u16>,
     out: &mut O,
+    summary: &mut Summary,
 ) -> Result<u32, Failure<'a>>
     requires { IsFrom from }
     ensures faults { O.faults out.new ≡ O.faults out.old + write_faults (ending_of result) }
@@ -29,10 +31,10 @@ fn count_entries<'a, C: Controller, O: Sink>(
         cmd.now.tries }
     ensures honest { IsHonest (C.seen ctl.old) →
         CountsEntries (start_of from) cmd.now.tries (change (C.seen ctl.old) (C.seen ctl.new)
-        (O.taken out.old) (O.taken out.new)) result }
+        (printed (O.taken out.old) summary.old) (printed (O.taken out.new) summary.new)) result }
 {
     let mut cursor = start_cursor(alloc, cmd, &Form::Passed, from)?;
-    list_records(alloc, &mut cursor, ctl, cmd, &Form::Passed, None, out)
+    list_records(alloc, &mut cursor, ctl, cmd, &Form::Passed, None, out, summary)
 }
 
 /// Skips the first `passed` entries after the place of a new cursor, and lists those after them. If there are fewer
@@ -45,6 +47,7 @@ fn list_rest<'a, C: Controller, O: Sink>(
     entries: Entries<'a>,
     passed: u32,
     out: &mut O,
+    summary: &mut Summary,
 ) -> Result<(), Failure<'a>>
     requires { (from : Option ℕ) × IsFresh cmd.now Form.Passed from cursor.old }
     ensures faults { O.faults out.new ≡ O.faults out.old + write_faults result }
@@ -54,10 +57,10 @@ fn list_rest<'a, C: Controller, O: Sink>(
         cmd.now.tries }
     ensures honest { IsHonest (C.seen ctl.old) →
         ListsAfter entries.entry cursor.old.place passed cmd.now.tries (change (C.seen ctl.old) (C.seen ctl.new)
-        (O.taken out.old) (O.taken out.new)) result }
+        (printed (O.taken out.old) summary.old) (printed (O.taken out.new) summary.new)) result }
 {
     let most = Some(passed);
-    if list_records(alloc, cursor, ctl, cmd, &Form::Passed, most, out)? != passed {
+    if list_records(alloc, cursor, ctl, cmd, &Form::Passed, most, out, summary)? != passed {
         return Ok(());
     }
     list_records(
@@ -68,6 +71,7 @@ fn list_rest<'a, C: Controller, O: Sink>(
         &Form::EntryLine(entries),
         None,
         out,
+        summary,
     )?;
     Ok(())
 }
@@ -81,6 +85,7 @@ fn list_after<'a, C: Controller, O: Sink>(
     from: Option<u16>,
     passed: u32,
     out: &mut O,
+    summary: &mut Summary,
 ) -> Result<(), Failure<'a>>
     requires { IsFrom from }
     ensures faults { O.faults out.new ≡ O.faults out.old + write_faults result }
@@ -90,10 +95,10 @@ fn list_after<'a, C: Controller, O: Sink>(
         cmd.now.tries }
     ensures honest { IsHonest (C.seen ctl.old) →
         ListsAfter entries.entry (start_of from) passed cmd.now.tries (change (C.seen ctl.old) (C.seen ctl.new)
-        (O.taken out.old) (O.taken out.new)) result }
+        (printed (O.taken out.old) summary.old) (printed (O.taken out.new) summary.new)) result }
 {
     let mut cursor = start_cursor(alloc, cmd, &Form::Passed, from)?;
-    list_rest(alloc, &mut cursor, ctl, cmd, entries, passed, out)
+    list_rest(alloc, &mut cursor, ctl, cmd, entries, passed, out, summary)
 }
 
 /// Lists the last `wanted` entries. The first walk counts all entries, the second skips those before the last ones.
@@ -105,19 +110,20 @@ pub(crate) fn list_last<'a, C: Controller, O: Sink>(
     wanted: u16,
     from: Option<u16>,
     out: &mut O,
+    summary: &mut Summary,
 ) -> Result<(), Failure<'a>>
     requires some { 1 ≤ wanted }
     requires from { IsFrom from }
     ensures faults { O.faults out.new ≡ O.faults out.old + write_faults result }
     ensures asked { AsksAtMost cmd.now.part (C.seen ctl.old) (C.seen ctl.new) }
     ensures runs { Runs (Job.Last entries.entry wanted from) cmd.now.tries
-        (change (C.seen ctl.old) (C.seen ctl.new) (O.taken out.old) (O.taken out.new)) result }
+        (change (C.seen ctl.old) (C.seen ctl.new) (printed (O.taken out.old) summary.old) (printed (O.taken out.new) summary.new)) result }
 {
-    match count_entries(alloc, ctl, cmd, from, out) {
+    match count_entries(alloc, ctl, cmd, from, out, summary) {
         Ok(0) => Ok(()),
         Ok(count) => {
             let passed = count.saturating_sub(u32::from(wanted));
-            list_after(alloc, ctl, cmd, entries, from, passed, out)
+            list_after(alloc, ctl, cmd, entries, from, passed, out, summary)
         }
         Err(failure) => Err(failure),
     }

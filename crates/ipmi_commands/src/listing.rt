@@ -2,10 +2,11 @@
 ghost use Rattle.std.specs.Prelude.{◌≡◌, ◌≤◌, ◌+◌};
 ghost use Rattle.std.specs.FinSet as set;
 ghost use Rattle.ipmi_commands.specs.Below.{AsksAtMost, write_faults};
-ghost use Rattle.ipmi_commands.specs.Prelude.{change, ending_of, EndsListing, is_reached, Lists, shelf_of};
+ghost use Rattle.ipmi_commands.specs.Prelude.{change, ending_of, EndsListing, is_reached, Lists, printed, shelf_of};
 
 use crate::job::Form;
-use crate::piece::record_piece;
+use crate::piece::row_text;
+use crate::summary::Summary;
 use ipmi_bus::{Controller, Cursor};
 use ipmi_command_line::Command;
 use ipmi_image::LineBuffer;
@@ -29,6 +30,7 @@ pub(crate) fn list_records<'a, C: Controller, O: Sink>(
     form: &Form<'a>,
     most: Option<u32>,
     out: &mut O,
+    summary: &mut Summary,
 ) -> Result<u32, Failure<'a>>
     requires shelf { cursor.old.shelf ≡ shelf_of form.now }
     requires tries { cursor.old.tries ≡ cmd.now.tries }
@@ -38,7 +40,7 @@ pub(crate) fn list_records<'a, C: Controller, O: Sink>(
     ensures asked { AsksAtMost cmd.now.part (C.seen ctl.old) (C.seen ctl.new) }
     ensures ends { EndsListing form.now (C.seen ctl.new) (ending_of result) }
     ensures lists { Lists form.now cmd.now.tries most cursor.old cursor.new
-        (change (C.seen ctl.old) (C.seen ctl.new) (O.taken out.old) (O.taken out.new)) result }
+        (change (C.seen ctl.old) (C.seen ctl.new) (printed (O.taken out.old) summary.old) (printed (O.taken out.new) summary.new)) result }
 {
     let mut count = 0;
     let mut wrote = false;
@@ -52,17 +54,18 @@ pub(crate) fn list_records<'a, C: Controller, O: Sink>(
             Ok(None) => return form.end(wrote, count),
             Err(ended) => return Err(Failure::Ended(ended)),
         };
-        let piece = match record_piece(alloc, ctl, cmd, form, &record, &mut line) {
-            Ok(piece) => piece,
+        let text = match row_text(alloc, ctl, cmd, form, &record, &mut line) {
+            Ok(text) => text,
             Err(unread) => return Err(Failure::from(unread)),
         };
-        let bytes = piece.bytes(&line);
+        let bytes = text.bytes(&line);
         match write_all(out, bytes) {
             Ok(()) => {
+                summary.add(bytes, text.has_fault());
                 wrote |= !bytes.is_empty();
                 count += 1;
                 // dropped here, so that there is one path back to the start of the loop, with or without a text
-                drop(piece);
+                drop(text);
             }
             Err(_) => return Err(Failure::WriteFault),
         }

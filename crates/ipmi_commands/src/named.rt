@@ -3,11 +3,12 @@ ghost use Rattle.std.specs.Prelude.{◌≡◌, ◌+◌};
 ghost use Rattle.ipmi_commands.specs.Below.{AsksAtMost, records_in, write_faults};
 ghost use Rattle.ipmi_commands.specs.Named.{end_after, ReadsRecords, walk_of};
 ghost use Rattle.ipmi_commands.specs.declared.job.Job.{Job};
-ghost use Rattle.ipmi_commands.specs.Prelude.{change, IsFrom, IsNamed, job_with, Runs, RunsNamedInPages};
+ghost use Rattle.ipmi_commands.specs.Prelude.{change, IsFrom, IsNamed, job_with, printed, Runs, RunsNamedInPages};
 
 use crate::job::{Entries, Form, Listing, Named, Wording};
 use crate::pages::{list_page, list_pages};
 use crate::perform::{list_entries, print_inventories};
+use crate::summary::Summary;
 use ipmi_bus::{Controller, Ended, Place};
 use ipmi_command_line::Command;
 use ipmi_events::{Sensors, device_name};
@@ -62,21 +63,22 @@ fn list_with<'a, C: Controller, O: Sink>(
     records: Vec<u8>,
     named: Named,
     out: &mut O,
+    summary: &mut Summary,
 ) -> Result<(), Failure<'a>>
     requires { IsNamed named }
     ensures faults { O.faults out.new ≡ O.faults out.old + write_faults result }
     ensures asked { AsksAtMost cmd.now.part (C.seen ctl.old) (C.seen ctl.new) }
     ensures runs { Runs (job_with wording.entry (records_in records.items) named) cmd.now.tries
-        (change (C.seen ctl.old) (C.seen ctl.new) (O.taken out.old) (O.taken out.new)) result }
+        (change (C.seen ctl.old) (C.seen ctl.new) (printed (O.taken out.old) summary.old) (printed (O.taken out.new) summary.new)) result }
 {
     match named {
         Named::Events(count, from) => {
             let entries = Entries::of(wording, Sensors::of(alloc, records)?);
-            list_entries(alloc, ctl, cmd, entries, count, from, out)
+            list_entries(alloc, ctl, cmd, entries, count, from, out, summary)
         }
         Named::Devices => {
             let name = device_name(alloc, &records, 0)?;
-            print_inventories(alloc, ctl, cmd, wording, name.as_deref(), out)
+            print_inventories(alloc, ctl, cmd, wording, name.as_deref(), out, summary)
         }
     }
 }
@@ -87,12 +89,13 @@ fn read_records<'a, C: Controller, O: Sink>(
     ctl: &mut C,
     cmd: &Command,
     records: &mut O,
+    summary: &mut Summary,
 ) -> Result<Walked, Failure<'a>>
     ensures asked { AsksAtMost cmd.now.part (C.seen ctl.old) (C.seen ctl.new) }
     ensures reads { ReadsRecords cmd.now.tries
-        (change (C.seen ctl.old) (C.seen ctl.new) (O.taken records.old) (O.taken records.new)) result }
+        (change (C.seen ctl.old) (C.seen ctl.new) (printed (O.taken records.old) summary.old) (printed (O.taken records.new) summary.new)) result }
 {
-    let listed = list_page(alloc, ctl, cmd, &Form::Bytes, Place::First, None, records);
+    let listed = list_page(alloc, ctl, cmd, &Form::Bytes, Place::First, None, records, summary);
     walk_of(listed)
 }
 
@@ -104,18 +107,19 @@ pub(crate) fn list_named<'a, C: Controller, O: Sink>(
     wording: Wording<'a>,
     named: Named,
     out: &mut O,
+    summary: &mut Summary,
 ) -> Result<(), Failure<'a>>
     requires { IsNamed named }
     ensures faults { O.faults out.new ≡ O.faults out.old + write_faults result }
     ensures asked { AsksAtMost cmd.now.part (C.seen ctl.old) (C.seen ctl.new) }
     ensures runs { Runs (Job.Named wording.entry named) cmd.now.tries
-        (change (C.seen ctl.old) (C.seen ctl.new) (O.taken out.old) (O.taken out.new)) result }
+        (change (C.seen ctl.old) (C.seen ctl.new) (printed (O.taken out.old) summary.old) (printed (O.taken out.new) summary.new)) result }
 {
     ipmi_bus::laws::what_is_found_is_a_row();
     ipmi_events::laws::records_are_found_again();
     let mut records = Written::new(Vec::new(alloc));
-    let walked = read_records(alloc, ctl, cmd, &mut records)?;
-    list_with(alloc, ctl, cmd, wording, records.into_inner(), named, out)?;
+    let walked = read_records(alloc, ctl, cmd, &mut records, &mut Summary::new())?;
+    list_with(alloc, ctl, cmd, wording, records.into_inner(), named, out, summary)?;
     walked.end()
 }
 
@@ -126,22 +130,23 @@ pub(crate) fn list_named_pages<'a, C: Controller, O: Sink>(
     cmd: &Command,
     wording: Wording<'a>,
     from: Option<u16>,
-    sizes: &[u32],
     out: &mut O,
+    summary: &mut Summary,
+    sizes: &[u32],
 ) -> Result<(), Failure<'a>>
     requires { IsFrom from }
     ensures faults { O.faults out.new ≡ O.faults out.old + write_faults result }
     ensures asked { AsksAtMost cmd.now.part (C.seen ctl.old) (C.seen ctl.new) }
     ensures runs { RunsNamedInPages wording.entry from cmd.now.tries sizes.now
-        (change (C.seen ctl.old) (C.seen ctl.new) (O.taken out.old) (O.taken out.new)) result }
+        (change (C.seen ctl.old) (C.seen ctl.new) (printed (O.taken out.old) summary.old) (printed (O.taken out.new) summary.new)) result }
 {
     ipmi_bus::laws::the_tail_is_a_walk();
     ipmi_bus::laws::what_is_found_is_a_row();
     ipmi_events::laws::records_are_found_again();
     let mut records = Written::new(Vec::new(alloc));
-    let walked = read_records(alloc, ctl, cmd, &mut records)?;
+    let walked = read_records(alloc, ctl, cmd, &mut records, &mut Summary::new())?;
     let entries = Entries::of(wording, Sensors::of(alloc, records.into_inner())?);
     let listing = Listing::new(Form::EntryLine(entries), from, None);
-    list_pages(alloc, ctl, cmd, &listing.form, listing.start, sizes, out)?;
+    list_pages(alloc, ctl, cmd, &listing.form, listing.start, out, summary, sizes)?;
     walked.end()
 }

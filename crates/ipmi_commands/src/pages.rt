@@ -1,10 +1,11 @@
 //! Lists records in pages, each with a cursor of its own.
 ghost use Rattle.std.specs.Prelude.{◌≡◌, ◌≢◌, ◌+◌, ◌*◌, ◌≤◌, Some, IfOk};
 ghost use Rattle.ipmi_commands.specs.Below.{AsksAtMost, start_of, IsHonest, write_faults};
-ghost use Rattle.ipmi_commands.specs.Prelude.{ArePages, change, ending_of, EndsListing, IsFresh, IsFrom, IsPage, IsPlace, most_on_walk, pages_made};
+ghost use Rattle.ipmi_commands.specs.Prelude.{ArePages, change, ending_of, EndsListing, IsFresh, IsFrom, IsPage, IsPlace, most_on_walk, pages_made, printed};
 
 use crate::job::Form;
 use crate::listing::{is_reached, list_records};
+use crate::summary::Summary;
 use ipmi_bus::{Controller, Cursor, Ended, FIRST_RECORD_ID, Place};
 use ipmi_command_line::Command;
 use ipmi_output::{Failure, Sink};
@@ -35,6 +36,7 @@ fn list_from<'a, C: Controller, O: Sink>(
     from: Option<u16>,
     most: Option<u32>,
     out: &mut O,
+    summary: &mut Summary,
 ) -> Result<Place, Failure<'a>>
     requires { IsFrom from }
     ensures faults { O.faults out.new ≡ O.faults out.old + write_faults (ending_of result) }
@@ -45,10 +47,10 @@ fn list_from<'a, C: Controller, O: Sink>(
         cmd.now.tries }
     ensures honest { most ≢ Some 0 → IsHonest (C.seen ctl.old) →
         IsPage form.now (start_of from) cmd.now.tries most (change (C.seen ctl.old) (C.seen ctl.new)
-        (O.taken out.old) (O.taken out.new)) result }
+        (printed (O.taken out.old) summary.old) (printed (O.taken out.new) summary.new)) result }
 {
     let mut cursor = start_cursor(alloc, cmd, form, from)?;
-    list_records(alloc, &mut cursor, ctl, cmd, form, most, out)?;
+    list_records(alloc, &mut cursor, ctl, cmd, form, most, out, summary)?;
     Ok(cursor.resume_at())
 }
 
@@ -62,6 +64,7 @@ pub(crate) fn list_page<'a, C: Controller, O: Sink>(
     place: Place,
     most: Option<u32>,
     out: &mut O,
+    summary: &mut Summary,
 ) -> Result<Place, Failure<'a>>
     requires { IsPlace place }
     ensures faults { O.faults out.new ≡ O.faults out.old + write_faults (ending_of result) }
@@ -73,15 +76,15 @@ pub(crate) fn list_page<'a, C: Controller, O: Sink>(
     ensures none { most ≡ Some 0 → C.seen ctl.new ≡ C.seen ctl.old }
     ensures honest { IsHonest (C.seen ctl.old) →
         IsPage form.now place cmd.now.tries most (change (C.seen ctl.old) (C.seen ctl.new)
-        (O.taken out.old) (O.taken out.new)) result }
+        (printed (O.taken out.old) summary.old) (printed (O.taken out.new) summary.new)) result }
 {
     if is_reached(most, 0) {
         return form.end(false, place);
     }
     match place {
-        Place::First => list_from(alloc, ctl, cmd, form, None, most, out),
+        Place::First => list_from(alloc, ctl, cmd, form, None, most, out, summary),
         Place::Id(FIRST_RECORD_ID) => Err(Failure::Ended(Ended::Cycle(FIRST_RECORD_ID))),
-        Place::Id(id) => list_from(alloc, ctl, cmd, form, Some(id), most, out),
+        Place::Id(id) => list_from(alloc, ctl, cmd, form, Some(id), most, out, summary),
         Place::End => form.end(false, place),
     }
 }
@@ -93,8 +96,9 @@ pub(crate) fn list_pages<'a, C: Controller, O: Sink>(
     cmd: &Command,
     form: &Form<'a>,
     start: Place,
-    sizes: &[u32],
     out: &mut O,
+    summary: &mut Summary,
+    sizes: &[u32],
 ) -> Result<(), Failure<'a>>
     requires { IsPlace start }
     ensures faults { O.faults out.new ≡ O.faults out.old + write_faults result }
@@ -104,15 +108,15 @@ pub(crate) fn list_pages<'a, C: Controller, O: Sink>(
         most_on_walk form.now cmd.now.tries }
     ensures honest { IsHonest (C.seen ctl.old) →
         ArePages form.now cmd.now.tries start sizes.now (change (C.seen ctl.old) (C.seen ctl.new)
-        (O.taken out.old) (O.taken out.new)) result }
+        (printed (O.taken out.old) summary.old) (printed (O.taken out.new) summary.new)) result }
 {
     let mut place = start;
     'pages: for size in sizes {
-        match list_page(alloc, ctl, cmd, form, place, Some(*size), out) {
+        match list_page(alloc, ctl, cmd, form, place, Some(*size), out, summary) {
             Ok(next) => place = next,
             Err(failure) => return Err(failure),
         }
     }
-    list_page(alloc, ctl, cmd, form, place, None, out)?;
+    list_page(alloc, ctl, cmd, form, place, None, out, summary)?;
     Ok(())
 }

@@ -3,7 +3,7 @@ ghost use Rattle.std.specs.Prelude.{◌≡◌, ◌+◌, true, option_map};
 ghost use Rattle.ipmi_commands.specs.Below.{AsksAtMost, IsCount, is_listing, write_faults};
 ghost use Rattle.ipmi_commands.specs.declared.job.Job.{Job};
 ghost use Rattle.ipmi_commands.specs.declared.job.Listing.{Listing};
-ghost use Rattle.ipmi_commands.specs.Prelude.{change, entries_job, IsFrom, IsPlace, job_of_command, job_of_command_in, Runs, RunsPaged, RunsPagedIn, WritesText};
+ghost use Rattle.ipmi_commands.specs.Prelude.{change, entries_job, IsFrom, IsPlace, job_of_command, job_of_command_in, OnBytes, piece_of, printed, Runs, RunsPaged, RunsPagedIn, WritesPiece};
 
 use crate::info::info_text;
 use crate::inventory::inventory_in;
@@ -11,17 +11,26 @@ use crate::job::{Entries, Form, Job, Listing, Named, Wording};
 use crate::last::list_last;
 use crate::named::{list_named, list_named_pages};
 use crate::pages::{list_page, list_pages};
+use crate::summary::Summary;
 use ipmi_bus::{Controller, Place, Shelf};
 use ipmi_command_line::{Command, Count};
 use ipmi_output::{Failure, Name, Sink, write_all};
 use std::alloc::Global;
 
-/// Writes a text.
-pub(crate) fn write_text<'a, O: Sink>(text: &[u8], out: &mut O) -> Result<(), Failure<'a>>
+/// Writes the text of an item, which has a fault or none, and counts the item.
+pub(crate) fn write_piece<'a, O: Sink>(
+    text: &[u8],
+    has_fault: bool,
+    out: &mut O,
+    summary: &mut Summary,
+) -> Result<(), Failure<'a>>
     ensures faults { O.faults out.new ≡ O.faults out.old + write_faults result }
-    ensures text { WritesText text.now (O.taken out.old) (O.taken out.new) result }
+    ensures piece { WritesPiece (piece_of text.now has_fault) (printed (O.taken out.old) summary.old)
+        (printed (O.taken out.new) summary.new) result }
 {
-    Ok(write_all(out, text)?)
+    write_all(out, text)?;
+    summary.add(text, has_fault);
+    Ok(())
 }
 
 /// Lists records along one walk.
@@ -31,12 +40,13 @@ fn list<'a, C: Controller, O: Sink>(
     cmd: &Command,
     listing: &Listing<'a>,
     out: &mut O,
+    summary: &mut Summary,
 ) -> Result<(), Failure<'a>>
     requires { IsPlace listing.now.start }
     ensures faults { O.faults out.new ≡ O.faults out.old + write_faults result }
     ensures asked { AsksAtMost cmd.now.part (C.seen ctl.old) (C.seen ctl.new) }
     ensures runs { Runs (Job.Records listing.now) cmd.now.tries
-        (change (C.seen ctl.old) (C.seen ctl.new) (O.taken out.old) (O.taken out.new)) result }
+        (change (C.seen ctl.old) (C.seen ctl.new) (printed (O.taken out.old) summary.old) (printed (O.taken out.new) summary.new)) result }
 {
     list_page(
         alloc,
@@ -46,6 +56,7 @@ fn list<'a, C: Controller, O: Sink>(
         listing.start,
         listing.most,
         out,
+        summary,
     )?;
     Ok(())
 }
@@ -59,21 +70,22 @@ pub(crate) fn list_entries<'a, C: Controller, O: Sink>(
     count: Count,
     from: Option<u16>,
     out: &mut O,
+    summary: &mut Summary,
 ) -> Result<(), Failure<'a>>
     requires count { IsCount count }
     requires from { IsFrom from }
     ensures faults { O.faults out.new ≡ O.faults out.old + write_faults result }
     ensures asked { AsksAtMost cmd.now.part (C.seen ctl.old) (C.seen ctl.new) }
     ensures runs { Runs (entries_job entries.entry count from) cmd.now.tries
-        (change (C.seen ctl.old) (C.seen ctl.new) (O.taken out.old) (O.taken out.new)) result }
+        (change (C.seen ctl.old) (C.seen ctl.new) (printed (O.taken out.old) summary.old) (printed (O.taken out.new) summary.new)) result }
 {
     let most = match count {
         Count::All => None,
         Count::First(n) => Some(u32::from(n)),
-        Count::Last(n) => return list_last(alloc, ctl, cmd, entries, n, from, out),
+        Count::Last(n) => return list_last(alloc, ctl, cmd, entries, n, from, out, summary),
     };
     let listing = Listing::new(Form::EntryLine(entries), from, most);
-    list(alloc, ctl, cmd, &listing, out)
+    list(alloc, ctl, cmd, &listing, out, summary)
 }
 
 /// Prints the info of the shelf, in this wording.
@@ -84,14 +96,15 @@ fn print_info<'a, C: Controller, O: Sink>(
     wording: Wording<'_>,
     shelf: Shelf,
     out: &mut O,
+    summary: &mut Summary,
 ) -> Result<(), Failure<'a>>
     ensures faults { O.faults out.new ≡ O.faults out.old + write_faults result }
     ensures asked { AsksAtMost cmd.now.part (C.seen ctl.old) (C.seen ctl.new) }
     ensures runs { Runs (Job.Info wording.entry shelf) cmd.now.tries
-        (change (C.seen ctl.old) (C.seen ctl.new) (O.taken out.old) (O.taken out.new)) result }
+        (change (C.seen ctl.old) (C.seen ctl.new) (printed (O.taken out.old) summary.old) (printed (O.taken out.new) summary.new)) result }
 {
     match info_text(alloc, ctl, wording, shelf, cmd.tries())? {
-        Some(text) => write_text(text.as_slice(), out),
+        Some(text) => write_piece(text.as_slice(), false, out, summary),
         None => Err(Failure::NoInfo),
     }
 }
@@ -115,15 +128,16 @@ fn print_inventory<'a, C: Controller, O: Sink>(
     id: u8,
     name: Option<&str>,
     out: &mut O,
+    summary: &mut Summary,
 ) -> Result<(), Failure<'a>>
     ensures faults { O.faults out.new ≡ O.faults out.old + write_faults result }
     ensures asked { AsksAtMost cmd.now.part (C.seen ctl.old) (C.seen ctl.new) }
     ensures runs { let named = option_map (λ name. name.now) name.entry in
         Runs (Job.Inventory wording.entry id named) cmd.now.tries
-        (change (C.seen ctl.old) (C.seen ctl.new) (O.taken out.old) (O.taken out.new)) result }
+        (change (C.seen ctl.old) (C.seen ctl.new) (printed (O.taken out.old) summary.old) (printed (O.taken out.new) summary.new)) result }
 {
-    let text = inventory_in(alloc, ctl, cmd, wording, id, name)?;
-    write_text(text.as_slice(), out)
+    let piece = inventory_in(alloc, ctl, cmd, wording, id, name)?;
+    write_piece(piece.text.as_slice(), piece.has_fault, out, summary)
 }
 
 /// Prints all inventories, in this wording: that of device 0 with this name, then those of the locators.
@@ -134,16 +148,17 @@ pub(crate) fn print_inventories<'a, C: Controller, O: Sink>(
     wording: Wording<'a>,
     name: Option<&str>,
     out: &mut O,
+    summary: &mut Summary,
 ) -> Result<(), Failure<'a>>
     ensures faults { O.faults out.new ≡ O.faults out.old + write_faults result }
     ensures asked { AsksAtMost cmd.now.part (C.seen ctl.old) (C.seen ctl.new) }
     ensures runs { let named = option_map (λ name. name.now) name.entry in
         Runs (Job.AllInventories wording.entry named) cmd.now.tries
-        (change (C.seen ctl.old) (C.seen ctl.new) (O.taken out.old) (O.taken out.new)) result }
+        (change (C.seen ctl.old) (C.seen ctl.new) (printed (O.taken out.old) summary.old) (printed (O.taken out.new) summary.new)) result }
 {
-    print_inventory(alloc, ctl, cmd, wording, 0, name, out)?;
+    print_inventory(alloc, ctl, cmd, wording, 0, name, out, summary)?;
     let form = Form::Device(wording);
-    list_page(alloc, ctl, cmd, &form, Place::First, None, out)?;
+    list_page(alloc, ctl, cmd, &form, Place::First, None, out, summary)?;
     Ok(())
 }
 
@@ -157,35 +172,36 @@ pub fn execute<'a, C: Controller, O: Sink>(
 ) -> Result<(), Failure<'a>>
     ensures faults { O.faults out.new ≡ O.faults out.old + write_faults result }
     ensures asked { AsksAtMost cmd.now.part (C.seen ctl.old) (C.seen ctl.new) }
-    ensures runs { Runs (job_of_command cmd.now) cmd.now.tries
-        (change (C.seen ctl.old) (C.seen ctl.new) (O.taken out.old) (O.taken out.new)) result }
+    ensures runs { OnBytes (O.taken out.old) (O.taken out.new) (λ old new. Runs (job_of_command cmd.now) cmd.now.tries
+        (change (C.seen ctl.old) (C.seen ctl.new) old new) result) }
 {
-    execute_in(alloc, ctl, cmd, Wording::Codes, out)
+    execute_in(alloc, ctl, cmd, Wording::Codes, out, &mut Summary::new())
 }
 
-/// Like [`execute`], in this wording.
+/// Like [`execute`], in this wording. Adds what it printed to `summary`, also if it fails.
 pub fn execute_in<'a, C: Controller, O: Sink>(
     alloc: Global,
     ctl: &mut C,
     cmd: &'a Command,
     wording: Wording<'a>,
     out: &mut O,
+    summary: &mut Summary,
 ) -> Result<(), Failure<'a>>
     ensures faults { O.faults out.new ≡ O.faults out.old + write_faults result }
     ensures asked { AsksAtMost cmd.now.part (C.seen ctl.old) (C.seen ctl.new) }
     ensures runs { Runs (job_of_command_in wording.entry cmd.now) cmd.now.tries
-        (change (C.seen ctl.old) (C.seen ctl.new) (O.taken out.old) (O.taken out.new)) result }
+        (change (C.seen ctl.old) (C.seen ctl.new) (printed (O.taken out.old) summary.old) (printed (O.taken out.new) summary.new)) result }
 {
     match Job::of(cmd, wording) {
-        Job::Records(listing) => list(alloc, ctl, cmd, &listing, out),
-        Job::Last(entries, wanted, from) => list_last(alloc, ctl, cmd, entries, wanted, from, out),
-        Job::Named(wording, named) => list_named(alloc, ctl, cmd, wording, named, out),
-        Job::Info(wording, shelf) => print_info(alloc, ctl, cmd, wording, shelf, out),
+        Job::Records(listing) => list(alloc, ctl, cmd, &listing, out, summary),
+        Job::Last(entries, wanted, from) => list_last(alloc, ctl, cmd, entries, wanted, from, out, summary),
+        Job::Named(wording, named) => list_named(alloc, ctl, cmd, wording, named, out, summary),
+        Job::Info(wording, shelf) => print_info(alloc, ctl, cmd, wording, shelf, out, summary),
         Job::Inventory(wording, id, name) => {
-            print_inventory(alloc, ctl, cmd, wording, id, text_of(&name), out)
+            print_inventory(alloc, ctl, cmd, wording, id, text_of(&name), out, summary)
         }
         Job::AllInventories(wording, name) => {
-            print_inventories(alloc, ctl, cmd, wording, text_of(&name), out)
+            print_inventories(alloc, ctl, cmd, wording, text_of(&name), out, summary)
         }
         Job::Rewrite => Err(Failure::Usage),
     }
@@ -203,10 +219,10 @@ pub fn execute_pages<'a, C: Controller, O: Sink>(
     requires { is_listing cmd.now.task ≡ true }
     ensures faults { O.faults out.new ≡ O.faults out.old + write_faults result }
     ensures asked { AsksAtMost cmd.now.part (C.seen ctl.old) (C.seen ctl.new) }
-    ensures runs { RunsPaged cmd.now pages.now
-        (change (C.seen ctl.old) (C.seen ctl.new) (O.taken out.old) (O.taken out.new)) result }
+    ensures runs { OnBytes (O.taken out.old) (O.taken out.new) (λ old new. RunsPaged cmd.now pages.now
+        (change (C.seen ctl.old) (C.seen ctl.new) old new) result) }
 {
-    execute_pages_in(alloc, ctl, cmd, Wording::Codes, out, pages)
+    execute_pages_in(alloc, ctl, cmd, Wording::Codes, out, &mut Summary::new(), pages)
 }
 
 /// Like [`execute_pages`], in this wording. The names of sensors are read once, before the first page.
@@ -216,22 +232,23 @@ pub fn execute_pages_in<'a, C: Controller, O: Sink>(
     cmd: &'a Command,
     wording: Wording<'a>,
     out: &mut O,
+    summary: &mut Summary,
     pages: &[u32],
 ) -> Result<(), Failure<'a>>
     requires { is_listing cmd.now.task ≡ true }
     ensures faults { O.faults out.new ≡ O.faults out.old + write_faults result }
     ensures asked { AsksAtMost cmd.now.part (C.seen ctl.old) (C.seen ctl.new) }
     ensures runs { RunsPagedIn wording.entry cmd.now pages.now
-        (change (C.seen ctl.old) (C.seen ctl.new) (O.taken out.old) (O.taken out.new)) result }
+        (change (C.seen ctl.old) (C.seen ctl.new) (printed (O.taken out.old) summary.old) (printed (O.taken out.new) summary.new)) result }
 {
     ipmi_bus::laws::the_tail_is_a_walk();
     match Job::of(cmd, wording) {
         Job::Named(wording, Named::Events(_, from)) => {
-            list_named_pages(alloc, ctl, cmd, wording, from, pages, out)
+            list_named_pages(alloc, ctl, cmd, wording, from, out, summary, pages)
         }
         job => {
             let listing = job.listing().unwrap();
-            list_pages(alloc, ctl, cmd, &listing.form, listing.start, pages, out)
+            list_pages(alloc, ctl, cmd, &listing.form, listing.start, out, summary, pages)
         }
     }
 }

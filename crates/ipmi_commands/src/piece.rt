@@ -1,9 +1,10 @@
 //! The text that a command prints for a record. If the text needs a reading, it is requested here, while the record
 //! is borrowed.
-ghost use Rattle.std.specs.Prelude.{◌≡◌, ◌+◌, ◌≤◌, IfErr, IfOk, length, Ok, option_map, string_bytes};
+ghost use Rattle.std.specs.Prelude.{◌≡◌, ◌+◌, ◌≤◌, false, IfErr, IfOk, length, Ok, option_map, string_bytes};
 ghost use Rattle.ipmi_commands.specs.Below.{AsksAtMost, row_of_record, IsHonest, largest_len, whole_len, sdr_view_of};
 ghost use Rattle.ipmi_records.specs.Sdr.{name_of};
-ghost use Rattle.ipmi_commands.specs.Prelude.{LacksPiece, LacksValue, bytes_of, Finds, is_name, is_of_kind, IsBlockIn, IsBlockOfName, IsEntryLine, IsFaultLine, IsLineOf, IsListedOfKind, IsRowText, listed_spots, most_after, named_spots, reading_for, reading_spots, shelf_of, spots_because_of};
+ghost use Rattle.ipmi_commands.specs.declared.job.Form.{Form};
+ghost use Rattle.ipmi_commands.specs.Prelude.{LacksPiece, LacksValue, bytes_of, Finds, is_name, is_of_kind, IsBlockIn, IsBlockOfName, IsEntryLine, IsFaultLine, IsLineOf, IsPieceOver, listed_spots, most_after, named_spots, OfRow, reading_for, reading_spots, row_has_fault, row_piece, shelf_of, shown, spots_because_of};
 
 use crate::inventory::locator_piece;
 use crate::job::{Detail, Entries, Form, Wording};
@@ -110,24 +111,27 @@ fn listed_line<C: Controller>(
     kind: Kind,
     tries: u8,
     lent: &Record<'_>,
-) -> Result<Vec<u8>, Unread>
+) -> Result<Piece, Unread>
     requires { 5 ≤ length lent.now.bytes.now }
     ensures calls { (C.seen ctl.new).calls ≤ (C.seen ctl.old).calls + (tries + 1) }
     ensures asked { AsksAtMost 0 (C.seen ctl.old) (C.seen ctl.new) }
     ensures says { IfErr result (λ unread. LacksValue unread (C.seen ctl.new)) }
     ensures honest { let row = row_of_record lent.now in IsHonest (C.seen ctl.old) →
-        Finds (λ store text. IsListedOfKind detail.entry kind store row text.items)
+        Finds (λ store piece. IsPieceOver store (OfRow (Form.Line detail.entry kind) row) (shown piece))
         (listed_spots kind row) tries (C.seen ctl.old) (C.seen ctl.new) result }
 {
     if !is_of_kind(kind, lent.bytes[3]) {
-        return Ok(Vec::new(alloc));
+        return Ok(Piece::sound(Vec::new(alloc)));
     }
     let view = match SdrView::read(lent.bytes) {
         Ok(view) => view,
-        Err(fault) => return Ok(fault_line_of(alloc, detail, lent, fault)?),
+        Err(fault) => {
+            let text = fault_line_of(alloc, detail, lent, fault)?;
+            return Ok(Piece { text, has_fault: true });
+        }
     };
     let reading = reading_for(ctl, lent.id, &view, tries)?;
-    Ok(line_of(alloc, detail, lent.id, &view, reading)?)
+    Ok(Piece::sound(line_of(alloc, detail, lent.id, &view, reading)?))
 }
 
 /// Whether a record with the printed name `own` has this name.
@@ -203,23 +207,53 @@ fn named_block<C: Controller>(
     Ok(block_of(alloc, wording, id, &view, reading)?)
 }
 
-/// The text of a record.
+/// The text of an item, and whether the item has a fault.
 #[derive(Drop)]
-pub(crate) enum Piece {
-    /// The contents of the line buffer.
-    Line,
-    /// A text of its own.
-    Text(Vec<u8>),
+pub(crate) struct Piece {
+    pub(crate) text: Vec<u8>,
+    pub(crate) has_fault: bool,
 }
 
 impl Piece {
-    /// The bytes of the piece. `line` is the line buffer.
+    /// That of an item without a fault.
+    pub(crate) fn sound(text: Vec<u8>) -> Piece
+        ensures text { result.text ≡ text }
+        ensures sound { result.has_fault ≡ false }
+    {
+        Piece {
+            text,
+            has_fault: false,
+        }
+    }
+}
+
+/// The text of a record.
+#[derive(Drop)]
+pub(crate) enum RowText {
+    /// The contents of the line buffer, which has no fault.
+    Line,
+    /// A text of its own.
+    Own(Piece),
+}
+
+impl RowText {
+    /// The bytes of the text. `line` is the line buffer.
     pub(crate) fn bytes<'a>(&'a self, line: &'a LineBuffer) -> &'a [u8]
         ensures { result.now ≡ bytes_of line.now.items self.now }
     {
         match self {
-            Piece::Line => line.as_slice(),
-            Piece::Text(text) => text.as_slice(),
+            RowText::Line => line.as_slice(),
+            RowText::Own(piece) => piece.text.as_slice(),
+        }
+    }
+
+    /// Whether the record, or what it stands for, has a fault.
+    pub(crate) fn has_fault(&self) -> bool
+        ensures { result ≡ row_has_fault self.now }
+    {
+        match self {
+            RowText::Line => false,
+            RowText::Own(piece) => piece.has_fault,
         }
     }
 }
@@ -233,15 +267,15 @@ fn copy_bytes(lent: &Record<'_>, line: &mut LineBuffer)
     line.try_extend_from_slice(lent.bytes).unwrap();
 }
 
-/// The text of the record in this form. Empty for a record that is left out. A `Piece::Line` is written to `line`.
-pub(crate) fn record_piece<C: Controller>(
+/// The text of the record in this form. Empty for a record that is left out. A `RowText::Line` is written to `line`.
+pub(crate) fn row_text<C: Controller>(
     alloc: Global,
     ctl: &mut C,
     cmd: &Command,
     form: &Form<'_>,
     lent: &Record<'_>,
     line: &mut LineBuffer,
-) -> Result<Piece, Unread>
+) -> Result<RowText, Unread>
     requires whole { length lent.now.bytes.now ≡ whole_len (shelf_of form.now) lent.now.bytes.now }
     requires fits { length lent.now.bytes.now ≤ largest_len (shelf_of form.now) }
     ensures calls { (C.seen ctl.new).calls ≤ (C.seen ctl.old).calls + most_after form.now
@@ -249,42 +283,44 @@ pub(crate) fn record_piece<C: Controller>(
     ensures asked { AsksAtMost cmd.now.part (C.seen ctl.old) (C.seen ctl.new) }
     ensures says { IfErr result (λ unread. LacksPiece form.now unread (C.seen ctl.new)) }
     ensures honest { let row = row_of_record lent.now in IsHonest (C.seen ctl.old) →
-        Finds (λ store piece. IsRowText store form.now row (bytes_of line.new.items piece))
+        Finds (λ store text. IsPieceOver store (OfRow form.now row) (row_piece line.new.items text))
         (spots_because_of form.now row) cmd.now.tries (C.seen ctl.old) (C.seen ctl.new) result }
 {
     let tries = cmd.tries();
     match form {
         Form::Raw => {
             record_line(lent, line);
-            Ok(Piece::Line)
+            Ok(RowText::Line)
         }
         Form::RawObject(labels) => {
             let (id, next) = (lent.id, lent.next);
-            Ok(Piece::Text(sdr_raw_line(alloc, id, next, lent.bytes, labels)?))
+            let object = sdr_raw_line(alloc, id, next, lent.bytes, labels)?;
+            Ok(RowText::Own(Piece::sound(object)))
         }
         Form::Bytes => {
             copy_bytes(lent, line);
-            Ok(Piece::Line)
+            Ok(RowText::Line)
         }
         Form::Line(detail, kind) => {
-            Ok(Piece::Text(listed_line(alloc, ctl, *detail, *kind, tries, lent)?))
+            Ok(RowText::Own(listed_line(alloc, ctl, *detail, *kind, tries, lent)?))
         }
         Form::Block(wording, name) => {
             let block = named_block(alloc, ctl, *wording, name.as_str(), tries, lent)?;
-            Ok(Piece::Text(block))
+            Ok(RowText::Own(Piece::sound(block)))
         }
         Form::Device(wording) => {
-            Ok(Piece::Text(locator_piece(alloc, ctl, cmd, *wording, lent)?))
+            Ok(RowText::Own(locator_piece(alloc, ctl, cmd, *wording, lent)?))
         }
         Form::EntryLine(entries) => {
             let entry = SelView::read(entry_bytes(lent.bytes));
-            Ok(Piece::Text(entry_line(alloc, entries, lent.id, &entry)?))
+            let line = entry_line(alloc, entries, lent.id, &entry)?;
+            Ok(RowText::Own(Piece::sound(line)))
         }
         Form::EntryBlock => {
             let entry = SelView::read(entry_bytes(lent.bytes));
             let block = sel_block(alloc, lent.id, &entry)?;
-            Ok(Piece::Text(block.into_bytes()))
+            Ok(RowText::Own(Piece::sound(block.into_bytes())))
         }
-        Form::Passed => Ok(Piece::Text(Vec::new(alloc))),
+        Form::Passed => Ok(RowText::Own(Piece::sound(Vec::new(alloc)))),
     }
 }

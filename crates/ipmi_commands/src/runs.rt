@@ -1,10 +1,11 @@
 //! Runs a command over a controller or over a saved image, and reports how it ended.
 ghost use Rattle.std.specs.Prelude.{◌≡◌, ◌+◌, ◌==◌, if◌then◌else◌, true};
 ghost use Rattle.ipmi_commands.specs.Below.{AsksAtMost, is_listing, store_of_image, of_writer, write_faults};
-ghost use Rattle.ipmi_commands.specs.Prelude.{AnswersCommand, AnswersJob, AnswersLine, change, IsRewriting, job_of_command, job_of_command_in, Runs, RunsPaged, Says};
+ghost use Rattle.ipmi_commands.specs.Prelude.{AnswersCommand, AnswersJob, AnswersLine, change, IsRewriting, job_of_command, job_of_command_in, OnBytes, printed, Runs, RunsPaged, Says};
 
 use crate::job::{Job, Wording};
-use crate::perform::{execute, execute_in, execute_pages, write_text};
+use crate::perform::{execute, execute_in, execute_pages, write_piece};
+use crate::summary::Summary;
 use ipmi_bus::Controller;
 use ipmi_command_line::{Command, UsageFault};
 use ipmi_image::{Image, ImageController, image_text};
@@ -42,8 +43,8 @@ pub fn run<C: Controller, O: Sink, E: Write>(
     ensures faults { O.faults out.new ≡ O.faults out.old + (if result == 4 then 1 else 0) }
     ensures asked { AsksAtMost cmd.now.part (C.seen ctl.old) (C.seen ctl.new) }
     ensures runs { Says (of_writer (E.contents err.old)) (of_writer (E.contents err.new)) result
-        (λ ending. Runs (job_of_command cmd.now) cmd.now.tries
-        (change (C.seen ctl.old) (C.seen ctl.new) (O.taken out.old) (O.taken out.new)) ending) }
+        (λ ending. OnBytes (O.taken out.old) (O.taken out.new) (λ old new. Runs (job_of_command cmd.now) cmd.now.tries
+        (change (C.seen ctl.old) (C.seen ctl.new) old new) ending)) }
 {
     report(execute(alloc, ctl, cmd, out), err)
 }
@@ -61,8 +62,8 @@ pub fn run_pages<C: Controller, O: Sink, E: MessageSink>(
     ensures faults { O.faults out.new ≡ O.faults out.old + (if result == 4 then 1 else 0) }
     ensures asked { AsksAtMost cmd.now.part (C.seen ctl.old) (C.seen ctl.new) }
     ensures runs { Says (E.received err.old) (E.received err.new) result
-        (λ ending. RunsPaged cmd.now pages.now
-        (change (C.seen ctl.old) (C.seen ctl.new) (O.taken out.old) (O.taken out.new)) ending) }
+        (λ ending. OnBytes (O.taken out.old) (O.taken out.new) (λ old new. RunsPaged cmd.now pages.now
+        (change (C.seen ctl.old) (C.seen ctl.new) old new) ending)) }
 {
     report(execute_pages(alloc, ctl, cmd, out, pages), err)
 }
@@ -75,42 +76,48 @@ pub fn execute_image<'a, O: Sink>(
     out: &mut O,
 ) -> Result<(), Failure<'a>>
     ensures faults { O.faults out.new ≡ O.faults out.old + write_faults result }
-    ensures answers { AnswersCommand cmd.now (store_of_image image.now) (O.taken out.old)
-        (O.taken out.new) result }
+    ensures answers { OnBytes (O.taken out.old) (O.taken out.new) (λ old new.
+        AnswersCommand cmd.now (store_of_image image.now) old new result) }
 {
-    execute_image_in(alloc, cmd, Wording::Codes, image, out)
+    execute_image_in(alloc, cmd, Wording::Codes, image, out, &mut Summary::new())
 }
 
-/// Like [`execute_image`], in this wording.
+/// Like [`execute_image`], in this wording. Adds what it printed to `summary`, also if it fails.
 pub fn execute_image_in<'a, O: Sink>(
     alloc: Global,
     cmd: &'a Command,
     wording: Wording<'a>,
     image: &[u8],
     out: &mut O,
+    summary: &mut Summary,
 ) -> Result<(), Failure<'a>>
     ensures faults { O.faults out.new ≡ O.faults out.old + write_faults result }
-    ensures answers { AnswersJob (job_of_command_in wording.entry cmd.now) (store_of_image image.now) (O.taken out.old)
-        (O.taken out.new) result }
+    ensures answers { AnswersJob (job_of_command_in wording.entry cmd.now) (store_of_image image.now)
+        (printed (O.taken out.old) summary.old) (printed (O.taken out.new) summary.new) result }
 {
     let image = Image::read(alloc, image)?;
     if Job::of(cmd, wording).is_rewrite() {
-        let ended = write_image(alloc, &image, out);
+        let ended = write_image(alloc, &image, out, summary);
         drop(image);
         return ended;
     }
     let mut ctl = ImageController::new(image);
-    let ended = execute_in(alloc, &mut ctl, cmd, wording, out);
+    let ended = execute_in(alloc, &mut ctl, cmd, wording, out, summary);
     drop(ctl);
     ended
 }
 
 /// Writes the canonical text of the image.
-fn write_image<'a, O: Sink>(alloc: Global, image: &Image, out: &mut O) -> Result<(), Failure<'a>>
+fn write_image<'a, O: Sink>(
+    alloc: Global,
+    image: &Image,
+    out: &mut O,
+    summary: &mut Summary,
+) -> Result<(), Failure<'a>>
     ensures faults { O.faults out.new ≡ O.faults out.old + write_faults result }
-    ensures answers { IsRewriting image.now (O.taken out.old) (O.taken out.new) result }
+    ensures answers { IsRewriting image.now (printed (O.taken out.old) summary.old) (printed (O.taken out.new) summary.new) result }
 {
-    write_text(&image_text(alloc, image)?, out)
+    write_piece(&image_text(alloc, image)?, false, out, summary)
 }
 
 /// Runs a command line over a saved image, writes to `err` why it did not finish, and returns the exit status: that
@@ -125,8 +132,8 @@ pub fn answer<O: Sink, E: MessageSink>(
 ) -> u8
     ensures faults { O.faults out.new ≡ O.faults out.old + (if result == 4 then 1 else 0) }
     ensures answers { Says (E.received err.old) (E.received err.new) result
-        (λ ending. AnswersLine line.now (store_of_image image.now) (O.taken out.old)
-        (O.taken out.new) ending) }
+        (λ ending. OnBytes (O.taken out.old) (O.taken out.new) (λ old new.
+        AnswersLine line.now (store_of_image image.now) old new ending)) }
 {
     let ending = match line {
         Ok(cmd) => execute_image(alloc, cmd, image, out),

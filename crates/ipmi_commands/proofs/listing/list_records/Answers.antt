@@ -1,5 +1,6 @@
 use Rattle.std.proofs.Common.{refl, rules, ◌++◌, List, ℕ, Ok, ◌∙◌, ap, sym, arith}
 use Rattle.ipmi_commands.specs.Below.{row_of_record}
+use Rattle.ipmi_commands.specs.Prelude.{printed}
 use Rattle.ipmi_commands.proofs.AskLemmas.{end_ends, step_ends_listing, unread_ends}
 use Rattle.ipmi_commands.proofs.CallLemmas.{len-next_ids}
 use Rattle.ipmi_commands.proofs.ListingLemmas.{listing_cut, listing_done, listing_ended, listing_full, listing_more, listing_none}
@@ -18,25 +19,25 @@ pub returns-in-Err-clause-ends : goal.returns-in-Err-clause-ends
 returns-in-Err-clause-ends g c =
     step_ends_listing c.args.form.now c.in-Err.ended c.records.invariant.2.shelf (rw c.in-Err.is at c.step.follows.holds-at-none)
 
-pub returns-in-Err-record_piece-clause-ends : goal.returns-in-Err-record_piece-clause-ends
-returns-in-Err-record_piece-clause-ends g c =
-    rw c.from.ensures (unread_ends c.args.form.now c.in-Err-record_piece.unread _ c.in-Err-record_piece.ensures.says)
+pub returns-in-Err-row_text-clause-ends : goal.returns-in-Err-row_text-clause-ends
+returns-in-Err-row_text-clause-ends g c =
+    rw c.from.ensures (unread_ends c.args.form.now c.in-Err-row_text.unread _ c.in-Err-row_text.ensures.says)
 
 pub returns-in-Err-clause-lists : goal.returns-in-Err-clause-lists
 returns-in-Err-clause-lists g c =
     listing_ended c.records.invariant.2 (sym c.is_reached.ensures ∙ c.if-is_reached.false) c.in-Err.ended
     (rw c.in-Err.is at c.step.follows.holds-at-none)
 
-pub returns-in-Err-record_piece-clause-lists : goal.returns-in-Err-record_piece-clause-lists
-returns-in-Err-record_piece-clause-lists g c =
+pub returns-in-Err-row_text-clause-lists : goal.returns-in-Err-row_text-clause-lists
+returns-in-Err-row_text-clause-lists g c =
     let step = rw (c.in-Ok-Some.is ∙ ap Ok c.in-Ok-Some.field-0-is) at c.step.follows.holds-at-none in
-    rw c.from.ensures (listing_none c.records.invariant.2 (sym c.is_reached.ensures ∙ c.if-is_reached.false) step c.record_piece.ensures.calls
-    c.in-Err-record_piece.unread c.in-Err-record_piece.ensures.honest)
+    rw c.from.ensures (listing_none c.records.invariant.2 (sym c.is_reached.ensures ∙ c.if-is_reached.false) step c.row_text.ensures.calls
+    c.in-Err-row_text.unread c.in-Err-row_text.ensures.honest)
 
 pub returns-in-Err-write_all-clause-lists : goal.returns-in-Err-write_all-clause-lists
 returns-in-Err-write_all-clause-lists g c =
     let step = rw (c.in-Ok-Some.is ∙ ap Ok c.in-Ok-Some.field-0-is) at c.step.follows.holds-at-none in
-    listing_cut c.records.invariant.2 (sym c.is_reached.ensures ∙ c.if-is_reached.false) step c.record_piece.ensures.calls
+    listing_cut c.records.invariant.2 (sym c.is_reached.ensures ∙ c.if-is_reached.false) step c.row_text.ensures.calls
     _ c.in-Ok.ensures.honest _ (rw c.bytes-bytes.ensures at c.in-Err-write_all.ensures.some) (rw c.bytes-bytes.ensures at c.in-Err-write_all.ensures.err.0)
 
 pub records-smaller : goal.records-smaller
@@ -49,8 +50,8 @@ records-preserved g c =
     let step = rw (c.in-Ok-Some.is ∙ ap Ok c.in-Ok-Some.field-0-is) at c.step.follows.holds-at-none in
     let wrote = c.in-Ok-write_all.ensures.ok in (
       wrote.1 ∙ c.records.invariant.0,
-      omega (arith, c.records.invariant.1, c.requires.part, c.records.invariant.2.called.keeps.part_falls, step.asked, c.record_piece.ensures.asked),
-      rw (c.is_empty.ensures, c.bytes-bytes.ensures) (listing_more c.records.invariant.2 (sym c.is_reached.ensures ∙ c.if-is_reached.false) step c.record_piece.ensures.calls
+      omega (arith, c.records.invariant.1, c.requires.part, c.records.invariant.2.called.keeps.part_falls, step.asked, c.row_text.ensures.asked),
+      rw (c.is_empty.ensures, c.bytes-bytes.ensures) (listing_more c.records.invariant.2 (sym c.is_reached.ensures ∙ c.if-is_reached.false) step c.row_text.ensures.calls
           _ c.in-Ok.ensures.honest _ (wrote.0 ∙ ap (λ (l : List ℕ). g.O.Sink.taken c.records.out ++ l) c.bytes-bytes.ensures)),
     )
 
@@ -74,7 +75,7 @@ records-init g c = (
       ends = search rules;
       holds = search rules;
       along = search rules;
-      tracing = traced_none c.args.form.now c.args.cursor.now (g.C.Controller.seen c.args.ctl.now) (g.O.Sink.taken c.args.out.now) h;
+      tracing = traced_none c.args.form.now c.args.cursor.now (g.C.Controller.seen c.args.ctl.now) (printed (g.O.Sink.taken c.args.out.now) c.args.summary.now) h;
     };
   },
 )

@@ -8,4 +8,4 @@ returns-in_err-text-clause-runs g c =
 
 pub returns-clause-runs : goal.returns-clause-runs
 returns-clause-runs g c =
-    inventory_found c.args.wording c.args.id _ _ _ _ c.inventory_in.ensures.calls _ _ c.in_ok-text.text c.write_text.result c.in_ok-text.ensures.honest (rw c.as_slice.ensures.value at c.write_text.ensures.text)
+    inventory_found c.args.wording c.args.id _ _ _ _ c.inventory_in.ensures.calls _ _ c.in_ok-text.text c.write_piece.result c.in_ok-text.ensures.honest (rw c.as_slice.ensures.value at c.write_piece.ensures.text)

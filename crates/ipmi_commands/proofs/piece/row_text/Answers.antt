@@ -1,5 +1,5 @@
 use Rattle.std.proofs.Common.{rules}
-use Rattle.ipmi_commands.proofs.piece.record_piece.Goals as goal
+use Rattle.ipmi_commands.proofs.piece.row_text.Goals as goal
 
 pub returns-in_err-listed_line-in-Line-clause-honest : goal.returns-in_err-listed_line-in-Line-clause-honest
 returns-in_err-listed_line-in-Line-clause-honest g c = search rules
