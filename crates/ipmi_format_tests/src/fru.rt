@@ -1,6 +1,7 @@
 //! Worked inventories: their texts and their values.
 mod damaged;
 mod examples;
+mod faults;
 mod inventories;
 mod lines;
 mod memory;

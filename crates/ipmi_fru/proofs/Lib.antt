@@ -1,5 +1,6 @@
 pub mod AreaLemmas
 pub mod ExistenceLemmas
+pub mod FaultLemmas
 pub mod FieldLemmas
 pub mod HexLemmas
 pub mod LineLemmas

@@ -1,9 +1,9 @@
 -- An inventory has at most one text.
 use Rattle.std.proofs.Common.{◌≡◌, ◌∙◌, inl, inr, ℕ, Option, None, Some, Result, Ok, Err, List, [], ◌∷◌, refl, ap, sym, subst, codes}
 use Rattle.ipmi_text.specs.Laws.{DecimalIsUnique, MinutesTextIsUnique}
-use Rattle.ipmi_fru.specs.Prelude.{AreaKind, Chassis, Board, Product, AreaFault, FruFault, MultiFault, RecordForm, Dc, Access, Other, header_fault, offset_of, Spells, Area, IsArea, IsAreaFault, IsFound, field_bytes, MultiRecord, AreRecordsAt, HasItems, IsLead, IsTextFound, IsTextOfArea, IsTextInForm, IsItemText, AreItemTexts, IsTextOfRecords, IsTextByFault, IsFruText, form_of}
+use Rattle.ipmi_fru.specs.Prelude.{AreaKind, Chassis, Board, Product, AreaFault, FruFault, MultiFault, RecordForm, Dc, Access, Other, header_fault, Spells, Area, IsArea, IsAreaFault, IsFound, field_bytes, MultiRecord, IsLead, IsTextFound, IsTextOfArea, IsTextInForm, IsItemText, AreItemTexts, IsTextOfRecords, IsTextByFault, IsFruText, form_of}
 use Rattle.ipmi_text.specs.Lines.{labelled}
-use Rattle.ipmi_fru.proofs.UniqueLemmas.{one_list_of_fields, one_list_of_records}
+use Rattle.ipmi_fru.proofs.UniqueLemmas.{one_items, one_list_of_fields}
 
 module _ (one_text : DecimalIsUnique) (one_minutes_text : MinutesTextIsUnique) where
   -- ---- areas
@@ -95,17 +95,6 @@ module _ (one_text : DecimalIsUnique) (one_minutes_text : MinutesTextIsUnique) w
   one_list [] text other h k = h ∙ sym k
   one_list (item ∷ items) text other h k =
       h.2.1.1 ∙ rw (one_item item h.0 k.0 h.2.0 k.2.0, one_list items h.1 k.1 h.2.1.0 k.2.1.0) (sym k.2.1.1)
-
-  one_records_at : (at : Option ℕ) (bytes : List ℕ) (a b : List MultiRecord) (e f : Option MultiFault)
-      → AreRecordsAt at bytes a e → AreRecordsAt at bytes b f → (a ≡ b) × (e ≡ f)
-  one_records_at None bytes a b e f x y = (x.0 ∙ sym y.0, x.1 ∙ sym y.1)
-  one_records_at (Some offset) bytes a b e f x y = one_list_of_records _ a b e f x y
-
-  one_items : (bytes : List ℕ) (a b : List (Result MultiRecord MultiFault)) → HasItems bytes a
-      → HasItems bytes b → a ≡ b
-  one_items bytes a b h k =
-      let same = one_records_at (offset_of 5 bytes) bytes h.records k.records h.end k.end h.are_records k.are_records in
-      h.items_are ∙ rw (same.0, same.1) (sym k.items_are)
 
   one_records_text : (bytes text other : List ℕ) → IsTextOfRecords bytes text
       → IsTextOfRecords bytes other → text ≡ other

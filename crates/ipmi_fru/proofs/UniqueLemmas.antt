@@ -1,6 +1,6 @@
 -- Bytes encode one list of fields, and one list of records.
-use Rattle.std.proofs.Common.{◌≡◌, ◌∙◌, ℕ, Bool, true, false, Option, None, Some, List, [], ◌∷◌, refl, sym, subst}
-use Rattle.ipmi_fru.specs.Prelude.{AreaField, ContinuesBy, IsRecordList, MultiFault, MultiRecord, Spells, after_record}
+use Rattle.std.proofs.Common.{◌≡◌, ◌∙◌, ℕ, Bool, true, false, Option, None, Some, Result, List, [], ◌∷◌, refl, sym, subst}
+use Rattle.ipmi_fru.specs.Prelude.{AreaField, AreRecordsAt, ContinuesBy, HasItems, IsRecordList, MultiFault, MultiRecord, Spells, after_record, offset_of}
 use Rattle.ipmi_fru.proofs.FieldLemmas.{fields_in-found}
 
 pub one_list_of_fields : (bytes : List ℕ) (a b : List AreaField) → Spells bytes a → Spells bytes b
@@ -26,3 +26,15 @@ one_list_of_records bytes (r ∷ a) (s ∷ b) e f x y =
         → ContinuesBy last b f (IsRecordList (after_record bytes) b f) → (a ≡ b) × (e ≡ f)
     by ih true x y = (x.0 ∙ sym y.0, x.1 ∙ sym y.1)
     by ih false x y = ih x y
+
+one_records_at : (at : Option ℕ) (bytes : List ℕ) (a b : List MultiRecord) (e f : Option MultiFault)
+    → AreRecordsAt at bytes a e → AreRecordsAt at bytes b f → (a ≡ b) × (e ≡ f)
+one_records_at None bytes a b e f x y = (x.0 ∙ sym y.0, x.1 ∙ sym y.1)
+one_records_at (Some offset) bytes a b e f x y = one_list_of_records _ a b e f x y
+
+-- an inventory has one list of items
+pub one_items : (bytes : List ℕ) (a b : List (Result MultiRecord MultiFault)) → HasItems bytes a
+    → HasItems bytes b → a ≡ b
+one_items bytes a b h k =
+    let same = one_records_at (offset_of 5 bytes) bytes h.records k.records h.end k.end h.are_records k.are_records in
+    h.items_are ∙ rw (same.0, same.1) (sym k.items_are)

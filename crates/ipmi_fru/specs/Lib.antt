@@ -1,4 +1,5 @@
 pub mod Area
+pub mod Fault
 pub mod Field
 pub mod Header
 pub mod Line

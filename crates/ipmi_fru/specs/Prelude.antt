@@ -1,5 +1,6 @@
 -- Re-exports the definitions of this crate that its code and proofs use. Declares nothing.
 pub use Rattle.ipmi_fru.specs.Area.{Area, area_at, area_fault, area_fault_name, area_in, asset_tag_index, field_at, field_bytes, fru_file_id_index, head_len, IsArea, IsAreaFault, IsFound, manufacturer_index, part_number_index, place_of, product_name_index, serial_number_index, version_index}
+pub use Rattle.ipmi_fru.specs.Fault.{has_area_fault, has_fault, has_record_fault, has_record_fault_at, is_fault_found}
 pub use Rattle.ipmi_fru.specs.Field.{AreaField, field_of, fields_from, fields_in, Spells}
 pub use Rattle.ipmi_fru.specs.Header.{fru_fault_name, header_fault, is_zero_sum, offset_of}
 pub use Rattle.ipmi_fru.specs.Line.{bare_line, elsewhere_line, field_text, IsFruLine, IsLineByFault, IsPresentLine, or_dash, told_text}

@@ -129,7 +129,7 @@ impl<'a> FruView<'a> {
     }
 
     /// The area of the kind, if there is one.
-    fn area(&self, kind: AreaKind) -> Option<Result<AreaView<'a>, AreaFault>>
+    pub(crate) fn area(&self, kind: AreaKind) -> Option<Result<AreaView<'a>, AreaFault>>
         ensures { IsFound kind self.now result }
     {
         let offset = self.offset(kind.place())?;

@@ -1,7 +1,8 @@
 //! Laws of fields, records and texts. Each law is the contract of a function that computes nothing.
-ghost use Rattle.std.specs.Prelude.{◌≡◌, ℕ, List, None, Option, Some};
+ghost use Rattle.std.specs.Prelude.{◌≡◌, ℕ, List, None, Option, Result, Some, is_err};
+ghost use Rattle.std.specs.List.{list_any};
 ghost use Rattle.ipmi_text.specs.Bytes.{AreBytes};
-ghost use Rattle.ipmi_fru.specs.Prelude.{AreaField, Spells, MultiFault, MultiRecord, IsRecordList, IsFruLine, IsFruText};
+ghost use Rattle.ipmi_fru.specs.Prelude.{Area, AreaFault, AreaField, AreaKind, HasItems, IsFound, Spells, MultiFault, MultiRecord, IsRecordList, IsFruLine, IsFruText, has_area_fault, has_record_fault, is_fault_found};
 
 /// Bytes encode at most one list of fields.
 #[tactic(auto, using(crate::proofs::UniqueLemmas::one_list_of_fields))]
@@ -14,6 +15,15 @@ pub fn one_list_of_fields()
 pub fn one_list_of_records()
     ensures { (bytes : List ℕ) (a b : List MultiRecord) (e f : Option MultiFault) →
         IsRecordList bytes a e → IsRecordList bytes b f → (a ≡ b) × (e ≡ f) }
+{}
+
+/// An area has a fault exactly if its fault is found, and the records have one exactly if one of their items is a fault.
+/// These are the faults that the text of an inventory names.
+pub fn each_fault_is_found()
+    ensures areas { (kind : AreaKind) (bytes : List ℕ) (found : Option (Result Area AreaFault)) →
+        IsFound kind bytes found → has_area_fault kind bytes ≡ is_fault_found found }
+    ensures records { (bytes : List ℕ) (items : List (Result MultiRecord MultiFault)) →
+        HasItems bytes items → has_record_fault bytes ≡ list_any is_err items }
 {}
 
 /// An inventory has at most one text, so the result of `print_fru` is the only one.

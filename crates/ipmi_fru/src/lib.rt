@@ -4,6 +4,7 @@
 
 mod area;
 mod area_text;
+mod fault;
 mod field;
 mod header;
 pub mod laws;
@@ -13,6 +14,7 @@ mod print;
 mod record_text;
 
 pub use area::{AreaFault, AreaKind, AreaView};
+pub use fault::has_fault;
 pub use field::{Field, Fields};
 pub use header::{FruFault, FruView};
 pub use line::{elsewhere_line, fru_line};
