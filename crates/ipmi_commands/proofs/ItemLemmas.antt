@@ -1,9 +1,9 @@
 -- The items of a plan, their texts, and the output if a run stops before or at one of them.
-use Rattle.std.proofs.Common.{◌≡◌, ℕ, ◌+◌, ◌<◌, List, [], ◌∷◌, ◌++◌, length, take, drop, refl, sym, ap, ◌∙◌, append_assoc, take-add, take-append-drop}
+use Rattle.std.proofs.Common.{◌≡◌, ℕ, ◌+◌, ◌<◌, List, [], ◌∷◌, ◌++◌, length, take, drop, refl, sym, subst, ap, ◌∙◌, append_assoc, take-add, take-append-drop}
 use Rattle.ipmi_commands.specs.Below.{Place, Row, place_after, place_after_rows, asked_at, Ending}
 use Rattle.ipmi_commands.specs.Prelude.{AreTexts, AtEnd, AtRecord, Cause, Dishonest, Form, GaveUp, HasFirstItems, IsAmong, Item, Leaves, IsStopAmong, NoMemory, NoOutput, OfRow, Plan, Printed, PrintsAll, Refused, row_items, Spot, spots_because_of, next_spots, Subject}
 use Rattle.ipmi_commands.specs.Output.{and_then, IsCut, no_output, Output}
-use Rattle.ipmi_commands.proofs.OutputLemmas.{then_assoc, then_nothing}
+use Rattle.ipmi_commands.proofs.OutputLemmas.{nothing_then, then_assoc, then_nothing}
 
 -- ---- items and rows
 
@@ -43,7 +43,7 @@ after_items first p = record { items = first ++ p.items; end = p.end; end_spots 
 module _ (IsText : Subject → Output → Type 0) where
   pub texts_joined : (items more : List Item) (a b : Output) → AreTexts IsText items a
       → AreTexts IsText more b → AreTexts IsText (items ++ more) (and_then a b)
-  texts_joined [] more a b are rest = rw are rest
+  texts_joined [] more a b are rest = subst (AreTexts IsText more) (sym (ap (λ (o : Output). and_then o b) are ∙ nothing_then b)) rest
   texts_joined (item ∷ items) more a b are rest = record {
     first = are.first;
     rest = and_then are.rest b;

@@ -1,11 +1,11 @@
 -- The last entries of a shelf: one walk counts the entries, a second one skips those before the last.
-use Rattle.std.proofs.Common.{◌≡◌, ℕ, ◌+◌, ◌-◌, ◌<◌, ◌≤◌, Option, None, Some, IfOk, Result, Ok, Err, List, [], ◌∷◌, ◌++◌, inl, inr, length, subst, take, drop, refl, sym, ap, ◌∙◌, append_assoc, append-nil, arith, length-append, length-drop, length-take-le, take-append-drop}
+use Rattle.std.proofs.Common.{◌≡◌, false, ℕ, ◌+◌, ◌-◌, ◌<◌, ◌≤◌, Option, None, Some, IfOk, Result, Ok, Err, List, [], ◌∷◌, ◌++◌, inl, inr, length, subst, take, drop, refl, sym, ap, ◌∙◌, append_assoc, append-nil, arith, length-append, length-drop, length-take-le, take-append-drop}
 use Rattle.std.proofs.lemmas.List.{nil_from_length}
 use Rattle.std.proofs.Math.Seq.{drop-nil}
 use Rattle.ipmi_commands.specs.Below.{handed_out, IsLog, OnlyGrew, Shelf, stays_refl, WasLog, Place, Sel, Row, Store, rows_of, WalkEnd, Done, place_after, place_after_rows, Seen, IsHonest, StaysHonest, CommandState, CursorState, StandsAt, start_of, Ending, Failure}
 use Rattle.ipmi_commands.specs.Traced.{EndsTrace}
 use Rattle.ipmi_commands.specs.Prelude.{AreTexts, calls_for, Cause, cause_of, Change, change, Counted, CountsEntries, spots_at_walk_end, end_spots_of_last, ending_of, EndsListing, Entries, first_end, first_rows, Form, IsAllowed, IsAmong, IsFresh, IsPieceOver, IsTextWhile, OfRow, OnGrowingLast, TracesListing, Item, Job, last_plan, Leaves, listing, listing_plan, ListsAfter, ListsHonestly, ListsAlong, Plan, Printed, Prints, row_items, rows_end, second_walk_bound, Spot, spots_of_rows, next_spots, spots_of_walk, Subject, walk_call_bound, with_first_spots}
-use Rattle.ipmi_commands.specs.Output.{and_then, no_output, Output, piece_of}
+use Rattle.ipmi_commands.specs.Output.{and_then, no_output, Output}
 use Rattle.ipmi_commands.proofs.CallLemmas.{calls_split}
 use Rattle.ipmi_commands.proofs.CountLemmas.{between, ends_here, ends_since}
 use Rattle.ipmi_bus.proofs.HeldLemmas.{begins_length, grew_first, grew_second}
@@ -14,7 +14,7 @@ use Rattle.ipmi_commands.proofs.MeanwhileLemmas.{log_again, log_first, log_later
 use Rattle.ipmi_commands.proofs.ItemLemmas.{IsCarried, leaves_carried, leaves_map, no_items, none_printed, row_item, texts_joined}
 use Rattle.ipmi_commands.proofs.ListingLemmas.{fresh_along, fresh_ends, holds_none}
 use Rattle.ipmi_commands.proofs.SpotLemmas.{among_after, quiet_there, spots_at_walk_end-joined, spots_of_rows-split}
-use Rattle.ipmi_commands.proofs.OutputLemmas.{then_nothing}
+use Rattle.ipmi_commands.proofs.OutputLemmas.{nothing_in, then_nothing}
 
 -- a new cursor is at the place where it starts
 pub starts_at : {command : CommandState} {form : Form} {from : Option ℕ} {cursor : CursorState}
@@ -88,7 +88,7 @@ abbrev AreNoTexts : (Subject → Output → Type 0) → Type 0
 AreNoTexts IsText = (row : Row) (text : Output) → IsText (OfRow Form.Passed row) text → text ≡ no_output
 
 none_over : (store : Store) → AreNoTexts (IsPieceOver store)
-none_over store row text is = is.counted ∙ ap (λ (b : Output). piece_of b false) is.is_text
+none_over store row text is = is.counted ∙ nothing_in text.bytes false is.is_text
 
 none_while : (s s' : Seen) → AreNoTexts (IsTextWhile s s')
 none_while s s' row text is = none_over is.store row text is.is

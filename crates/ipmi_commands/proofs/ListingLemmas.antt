@@ -6,7 +6,7 @@ use Rattle.std.specs.FinSet.{len-empty}
 use Rattle.std.specs.Ordering.{nat_cmp}
 use Rattle.ipmi_commands.specs.Below.{step_call_bound, digits, End, First, first_row, KeepsReservations, len_of, look, Shelf, current, Place, Ended, Row, Store, rows_of, MayFail, WalkEnd, WalkStep, Done, CycleAt, MissingAt, place_after, place_after_rows, Seen, IsHonest, AsksNothing, CursorState, CursorHoldsCurrent, StandsAt, FailsAt, IsStep, NotGivenUpOrRefused, StepAnswers, StepIsHonest, StepLeaves, asked_at, Ending, Failure, CommandState, start_of}
 use Rattle.ipmi_commands.specs.Prelude.{AsksAt, AtEnd, AtRecord, CallsAlong, calls_for, Cause, cause_of, cause_of_unread, Change, change, CountsSo, end_of, spots_at_walk_end, ending_of, EndsFor, failure_of, FindsIt, FindsNone, first_end, first_rows, Form, HasFirstItems, IsAllowed, IsAmong, IsFine, IsFresh, IsOnWalk, is_reached, OnWalk, walk_call_bound, IsPieceOver, listing, listing_plan, Lists, ListsAlong, ListsHonestly, Item, IsStopAmong, most_after, most_for_one, IsWithin, OnEachWalk, Plan, Printed, row_items, rows_end, OfRow, shelf_of, Spot, spots_because_of, StopsAt, TracesListing, Unread}
-use Rattle.ipmi_commands.specs.Output.{and_then, IsCut, Output}
+use Rattle.ipmi_commands.specs.Output.{and_then, IsCut, Output, piece_of}
 use Rattle.ipmi_commands.proofs.AskLemmas.{asks_as}
 use Rattle.ipmi_commands.proofs.CallLemmas.{HasCalled, at_limit, called_ended, called_more, called_stopped, calls_ended, digits_some, first_end-all, first_end-none, first_row-first_rows, first_rows-all, next_calls, next_one, none_left, not_at_limit, place_after_rows-append, within_more}
 use Rattle.ipmi_commands.proofs.CountLemmas.{between, ends_since}
@@ -72,7 +72,7 @@ pub record Listed (form : Form) (tries : ℕ) (most : Option ℕ) (count : ℕ) 
   pub tries_are : now.tries ≡ tries
   pub called : HasCalled (most_for_one form tries) count begun now c.seen c.seen'
   pub within : IsWithin most count
-  pub has_written : Wrote wrote c.old.bytes c.new.bytes
+  pub has_written : Wrote wrote c.old c.new
   pub went : IsHonest c.seen → Went form tries most count begun now c
 
 -- ---- a step
@@ -429,9 +429,12 @@ module _ {form : Form} {tries : ℕ} {most : Option ℕ} {count : ℕ} {wrote : 
           let lost = none (honest_step wanted step h).stays.honest in
           traced_lost most (kept.went h).tracing step last lost.asks.ends.stays (below wanted step) unread lost.there)
 
-      module _ (piece_text : Output) (finds : IsHonest s''
-          → FindsIt (λ store. IsPieceOver store (OfRow form row) piece_text)
+      module _ (bytes : List ℕ) (has_fault : Bool) (finds : IsHonest s''
+          → FindsIt (λ store. IsPieceOver store (OfRow form row) (piece_of bytes has_fault))
           (spots_because_of form row) tries s'' last) where
+        abbrev piece_text : Output
+        piece_text = piece_of bytes has_fault
+
         is_text : IsHonest s → last.stores_added ≡ s.stores_added
             → IsPieceOver s.store (OfRow form row) piece_text
         is_text h same =
@@ -451,14 +454,14 @@ module _ {form : Form} {tries : ℕ} {most : Option ℕ} {count : ℕ} {wrote : 
 
         -- the piece was written
         pub listing_more : (text : Output) → text ≡ and_then new piece_text
-            → Listed form tries most (count + 1) (wrote || not (length piece_text.bytes == 0)) begun next
+            → Listed form tries most (count + 1) (wrote || not (length bytes == 0)) begun next
             (change s last old text)
         listing_more text is = record {
           shelf = step.same.shelf ∙ kept.shelf;
           tries_are = step.same.tries ∙ kept.tries_are;
           called = more_called;
           within = below wanted step;
-          has_written = wrote_more wrote old.bytes new.bytes text.bytes piece_text.bytes kept.has_written (ap (λ (o : Output). o.bytes) is);
+          has_written = wrote_more wrote old new text bytes has_fault kept.has_written is;
           went = λ h.
               let asks = λ (h' : IsHonest s''). (finds h').asks in
               record {

@@ -9,6 +9,7 @@ use Rattle.ipmi_commands.specs.Meanwhile.{IsTextWhile, KeepsAt, KeepsFor, OnGrow
 use Rattle.ipmi_commands.specs.Traced.{AreTextsOfSteps, IsTextAfter, IsTextOfResult, PrintsSteps, seen_next}
 use Rattle.ipmi_commands.specs.Prelude.{AreTexts, AtInventory, AtRecord, device_spots, Entries, Form, inventories_plan, IsPieceOver, entries_in, job_with, Listing, listing, listing_plan, locator_spots, Named, named_spots, OfRow, OnGrowingInventories, OnGrowingLast, OnGrowingNamed, OnGrowingPlan, Plan, Printed, reading_spots, row_items, shelf_of, spots_because_of, Spot, Subject, Wording}
 use Rattle.ipmi_commands.specs.Output.{and_then, Output}
+use Rattle.ipmi_commands.proofs.OutputLemmas.{nothing_then}
 
 -- ---- over a part of the run
 
@@ -175,9 +176,9 @@ module _ (form : Form) (first last : Seen) (keeps : KeepsFor form first last) wh
   of_result (Ok (Some row)) rows s s' start text one rest before stays after is more joined =
       record { first = one; rest = rest; is_first = text_while row s s' one before stays after is; is_rest = more (place_after row.next); joined = joined }
   of_result (Ok None) rows s s' start text one rest before stays after is more joined =
-      subst (AreTexts W (row_items form start rows)) (sym (joined ∙ ap (λ (o : Output). and_then o rest) is)) (more start)
+      subst (AreTexts W (row_items form start rows)) (sym (joined ∙ ap (λ (o : Output). and_then o rest) is ∙ nothing_then rest)) (more start)
   of_result (Err ended) rows s s' start text one rest before stays after is more joined =
-      subst (AreTexts W (row_items form start rows)) (sym (joined ∙ ap (λ (o : Output). and_then o rest) is)) (more start)
+      subst (AreTexts W (row_items form start rows)) (sym (joined ∙ ap (λ (o : Output). and_then o rest) is ∙ nothing_then rest)) (more start)
 
   -- from the next step on
   next_stays : (c : CursorState) (s : Seen) (steps : List Stepped) (seen' : Seen) → IsHonest s → AreSteps c s steps → StaysHonest (seen_after s steps) seen'

@@ -1,44 +1,55 @@
 -- A record with the name was found if and only if something was written.
-use Rattle.std.proofs.Common.{◌≡◌, ℕ, ◌<◌, ◌==◌, ◌||◌, not, Bool, true, false, Option, Result, Ok, Err, List, [], ◌∷◌, ◌++◌, length, refl, ap, ◌∙◌, append-nil, arith, length-append}
+use Rattle.std.proofs.Common.{◌≡◌, ℕ, ◌<◌, ◌≤◌, ◌==◌, ◌||◌, not, Bool, true, false, Option, Result, Ok, Err, List, [], ◌∷◌, ◌++◌, length, refl, ap, ◌∙◌, arith, length-append}
 use Rattle.ipmi_commands.specs.Below.{Failure, Place, Reading, Row, SdrFault, Seen, SdrView, sdr_view_of, Store, Done, place_after}
 use Rattle.ipmi_commands.specs.Prelude.{AreTexts, end_of, ending_of, Form, IfChosen, IsBlockIn, IsBlockOfName, IsPieceOver, IsTextWhile, OfRow, Printed, reading_for, row_items, rows_end, some_has_name, Subject, view_has_name, Wording}
-use Rattle.ipmi_commands.specs.Output.{Output}
+use Rattle.ipmi_commands.specs.Output.{and_then, Output, piece_of}
+use Rattle.ipmi_commands.proofs.OutputLemmas.{then_nothing}
 use Rattle.ipmi_commands.specs.Traced.{IsFound}
 
 -- ---- whether anything was written
 
-abbrev pub Wrote : Bool → List ℕ → List ℕ → Type 0
-Wrote true old new = length old < length new
+abbrev pub Wrote : Bool → Output → Output → Type 0
+Wrote true old new = length old.bytes < length new.bytes
 Wrote false old new = new ≡ old
 
-pub wrote_more : (wrote : Bool) (old new more text : List ℕ) → Wrote wrote old new
-    → more ≡ new ++ text → Wrote (wrote || not (length text == 0)) old more
-wrote_more wrote old new more [] has is = grind (arith, append-nil)
-wrote_more wrote old new more (b ∷ text) has is = grind (arith, ap length is ∙ length-append new (b ∷ text))
+pub wrote_more : (wrote : Bool) (old new more : Output) (text : List ℕ) (has_fault : Bool) → Wrote wrote old new
+    → more ≡ and_then new (piece_of text has_fault) → Wrote (wrote || not (length text == 0)) old more
+wrote_more true old new more [] has_fault has is = omega (arith, has, ap (λ (o : Output). length o.bytes) (is ∙ then_nothing new))
+wrote_more false old new more [] has_fault has is = is ∙ then_nothing new ∙ has
+wrote_more wrote old new more (b ∷ text) has_fault has is = grind (arith, ap (λ (o : Output). length o.bytes) is ∙ length-append new.bytes (b ∷ text), wrote_length wrote old new has)
+  where
+    wrote_length : (wrote : Bool) (old new : Output) → Wrote wrote old new → length old.bytes ≤ length new.bytes
+    wrote_length true old new has = omega (arith, has)
+    wrote_length false old new has = omega (arith, ap (λ (o : Output). length o.bytes) has)
+
+-- the text is not empty, or it is
+abbrev HasText : Bool → List ℕ → Type 0
+HasText true text = 0 < length text
+HasText false text = text ≡ []
 
 -- ---- texts of records with a name
 
 -- a block is not empty, as it begins with the word Record; an object is not empty, as it ends with a line feed
 block_some : (wording : Wording) (id : ℕ) (view : SdrView) (reading : Option Reading) (text : List ℕ)
-    → IsBlockIn wording id view reading text → Wrote true [] text
+    → IsBlockIn wording id view reading text → HasText true text
 block_some Wording.Codes id view reading text is = grind (arith, length-append, is)
 block_some Wording.Words id view reading text is = grind (arith, length-append, is)
 block_some (Wording.Json labels) id view reading text is = grind (arith, length-append, is.is_line.line_is)
 
-wrote_both : (a b : Bool) (first rest : List ℕ) → Wrote a [] first → Wrote b [] rest
-    → Wrote (a || b) [] (first ++ rest)
+wrote_both : (a b : Bool) (first rest : List ℕ) → HasText a first → HasText b rest
+    → HasText (a || b) (first ++ rest)
 wrote_both true b first rest x y = omega (arith, length-append first rest, x)
 wrote_both false true first rest x y = omega (arith, length-append first rest, y)
 wrote_both false false first rest x y = rw (x, y) refl
 
 module _ (wording : Wording) (name : List ℕ) (store : Store) where
   chosen_wrote : (b : Bool) (id : ℕ) (view : SdrView) (text : List ℕ)
-      → IfChosen b (λ t. IsBlockIn wording id view (reading_for store view) t) text → Wrote b [] text
+      → IfChosen b (λ t. IsBlockIn wording id view (reading_for store view) t) text → HasText b text
   chosen_wrote true id view text is = block_some wording id view (reading_for store view) text is
   chosen_wrote false id view text is = is
 
   row_wrote : (id : ℕ) (view : Result SdrView SdrFault) (text : List ℕ)
-      → IsBlockOfName wording name store id view text → Wrote (view_has_name name view) [] text
+      → IsBlockOfName wording name store id view text → HasText (view_has_name name view) text
   row_wrote id (Ok view) text is = chosen_wrote _ id view text is
   row_wrote id (Err fault) text is = is
 
@@ -50,7 +61,7 @@ module _ (IsText : Subject → Output → Type 0) (over : AreOverStores IsText) 
   -- something is printed if a row has the name
   name_wrote : (wording : Wording) (name : List ℕ) (start : Place) (rows : List Row) (text : Output)
       → AreTexts IsText (row_items (Form.Block wording name) start rows) text
-      → Wrote (some_has_name name rows) [] text.bytes
+      → HasText (some_has_name name rows) text.bytes
   name_wrote wording name start [] text are = ap (λ (o : Output). o.bytes) are
   name_wrote wording name start (row ∷ rows) text are =
       let of_row = over (OfRow (Form.Block wording name) row) are.first are.is_first in
@@ -59,7 +70,7 @@ module _ (IsText : Subject → Output → Type 0) (over : AreOverStores IsText) 
 
   -- whether something was written decides the end of the listing
   end_by : (form : Form) (wrote : Bool) (count : ℕ) (start : Place) (rows : List Row) (old new : Output)
-      → Printed IsText (row_items form start rows) old new → Wrote wrote old.bytes new.bytes
+      → Printed IsText (row_items form start rows) old new → Wrote wrote old new
       → ending_of (end_of form wrote count) ≡ rows_end form rows Done
   end_by (Form.Block wording name) wrote count start rows old new printed has =
       grind (arith, length-append, ap (λ (o : Output). length o.bytes) printed.new_is, name_wrote wording name start rows printed.text printed.are)
@@ -67,7 +78,7 @@ module _ (IsText : Subject → Output → Type 0) (over : AreOverStores IsText) 
 
 pub end_of-wrote : (form : Form) (wrote : Bool) (count : ℕ) (store : Store) (start : Place)
     (rows : List Row) (old new : Output)
-    → Printed (IsPieceOver store) (row_items form start rows) old new → Wrote wrote old.bytes new.bytes
+    → Printed (IsPieceOver store) (row_items form start rows) old new → Wrote wrote old new
     → ending_of (end_of form wrote count) ≡ rows_end form rows Done
 end_of-wrote form wrote count store start rows old new printed has =
     end_by (IsPieceOver store) (λ subject text is. (store, is)) form wrote count start rows old new printed has

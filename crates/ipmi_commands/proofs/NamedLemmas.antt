@@ -52,7 +52,7 @@ read_records look_row split IsText bytes store walk text ok all printed =
     ∙ split (bytes_of_rows walk) (whole_rows look_row store.sdr walk ok.sdr all)
 
 -- equal known contents are equal
-pub some_is : (a b : Output) → Some a ≡ Some b → a ≡ b
+pub some_is : (a b : List ℕ) → Some a ≡ Some b → a ≡ b
 some_is a b is = cc is
 
 -- ---- spots

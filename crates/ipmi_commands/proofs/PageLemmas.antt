@@ -5,8 +5,9 @@ use Rattle.std.proofs.lemmas.Grind.{common_steps}
 use Rattle.std.proofs.lemmas.List.{take_min, at_drop_more}
 use Rattle.ipmi_commands.specs.Pages.{PageAlong}
 use Rattle.ipmi_commands.specs.Below.{Place, End, Ended, Id, IsLog, Shelf, stays_refl, Store, Row, rows_of, WalkEnd, Done, CycleAt, MissingAt, EndsBy, row_at, IsWalk, place_after_rows, Seen, IsHonest, CommandState, CursorState, start_of, Ending, Failure}
-use Rattle.ipmi_commands.specs.Prelude.{ArePages, AtEnd, cause_of, Change, change, end_of, ending_of, first_rows, Form, IsFresh, IsPage, IsPieceOver, IsTextWhile, IsWithin, Traces, listing, listing_plan, ListsHonestly, pages_made, shelf_of}
-use Rattle.ipmi_commands.specs.Output.{Output}
+use Rattle.ipmi_commands.specs.Prelude.{ArePages, AtEnd, cause_of, Change, change, end_of, ending_of, first_end, first_rows, Form, IsAllowed, IsFresh, IsPage, IsPieceOver, IsTextWhile, IsWithin, Traces, listing, listing_plan, ListsHonestly, pages_made, shelf_of, Subject}
+use Rattle.ipmi_commands.specs.Output.{no_output, Output}
+use Rattle.ipmi_commands.proofs.OutputLemmas.{then_nothing}
 use Rattle.ipmi_commands.proofs.CallLemmas.{first_end-none}
 use Rattle.ipmi_commands.proofs.CountLemmas.{ends_here}
 use Rattle.ipmi_commands.proofs.GrownListing.{fresh_grows, fresh_traces}
@@ -40,7 +41,7 @@ no_steps form start most s text honest within done =
       place = refl;
       ids = refl;
       traces = traced_whole form false 0 [] (record { are = tt; cursor = refl; stays = stays_refl s honest })
-          (record { count_is = refl; within = within; done = done; printed = record { text = []; are = refl; new_is = sym (append-nil text) } }) refl;
+          (record { count_is = refl; within = within; done = done; printed = record { text = no_output; are = refl; new_is = sym (then_nothing text) } }) refl;
     })
 
 -- a page of size 0
@@ -66,6 +67,19 @@ pub no_walk : (rows : List Row) (start : Place) (walk : List Row) → row_at sta
     → IsWalk rows start walk → walk ≡ []
 no_walk rows start walk none w = grind arith
 
+empty_rows : (most : Option ℕ) → first_rows most [] ≡ []
+empty_rows most = grind (arith, common_steps)
+
+-- nothing is printed from the end
+empty_leaves : (IsText : Subject → Output → Type 0) (form : Form) (most : Option ℕ) (text : Output)
+    → IsAllowed IsText (listing_plan (listing form End most) [] Done) text text (ending_of (end_of form false End))
+empty_leaves IsText form most text =
+    let cause : cause_of (ending_of (end_of form false End)) ≡ AtEnd = grind arith in
+    rw (cause, empty_rows most) (none_printed IsText text text refl, rw (no_end most) (grind arith))
+  where
+    no_end : (most : Option ℕ) → first_end most [] Done ≡ Done
+    no_end most = grind arith
+
 -- a page from the end
 pub page_at_end : (form : Form) (tries : ℕ) (most : Option ℕ) (s : Seen) (text : Output) → IsHonest s
     → IsPage form End tries most (change s s text text) (end_of form false End)
@@ -77,14 +91,14 @@ page_at_end form tries most s text honest =
       along = λ same walk end w ends. along walk end (no_walk _ End walk refl w) ends;
       grows = λ keeps first log grew.
           let empty = no_walk _ End first refl log.walks in
-          (first, log_now s s (stays_refl s honest).store honest first log, rw empty (grind (arith, common_steps)));
+          (first, log_now s s (stays_refl s honest).store honest first log, rw empty (empty_leaves (IsTextWhile s s) form most text));
       traces = no_steps form End most s text honest (within_none most) (inr refl);
     }
   where
     along : (walk : List Row) (end : WalkEnd) → walk ≡ []
         → EndsBy (rows_of (shelf_of form) s.store) End walk end
         → PageAlong form End tries most (change s s text text) (end_of form false End) walk end
-    along [] Done empty ends = record { leaves = grind (arith, common_steps); calls = omega arith; goes_on = grind (arith, common_steps) }
+    along [] Done empty ends = record { leaves = empty_leaves (IsPieceOver s.store) form most text; calls = omega arith; goes_on = grind (arith, common_steps) }
     along [] (CycleAt n) empty ends = absurd ends
     along [] (MissingAt n) empty ends = absurd ends
     along (row ∷ walk) end empty ends = cc empty
@@ -113,10 +127,20 @@ pub page_of_cycle : (form : Form) (tries : ℕ) (most : Option ℕ) (s : Seen) (
 page_of_cycle form tries most s text honest some = record {
   ends = ends_here honest refl tt;
   none = λ zero_. refl;
-  along = λ same walk end w ends. grind (arith, common_steps);
+  along = λ same walk end w ends. of_cycle walk end (no_walk _ (Id 0) walk refl w) ends;
   grows = λ keeps first log grew. absurd (no_log (shelf_of form) s.store first log);
   traces = inl (inr (refl, refl), refl, refl);
 }
+  where
+    cycle_left : (most : Option ℕ) → (most ≡ Some 0 → ⊥) → first_end most [] (CycleAt 0) ≡ CycleAt 0
+    cycle_left most some = grind arith
+    leaves : (end : WalkEnd) → end ≡ CycleAt 0 → IsAllowed (IsPieceOver s.store) (listing_plan (listing form (Id 0) most) [] end)
+        text text (Err (Failure.Ended (Ended.Cycle 0)))
+    leaves end is = rw (is, empty_rows most, cycle_left most some) (none_printed (IsPieceOver s.store) text text refl, refl)
+    of_cycle : (walk : List Row) (end : WalkEnd) → walk ≡ [] → EndsBy (rows_of (shelf_of form) s.store) (Id 0) walk end
+        → PageAlong form (Id 0) tries most (change s s text text) (Err (Failure.Ended (Ended.Cycle 0))) walk end
+    of_cycle [] end empty ends = record { leaves = leaves end (grind arith); calls = omega arith; goes_on = tt }
+    of_cycle (row ∷ walk) end empty ends = cc empty
 
 -- ---- a page with a cursor
 

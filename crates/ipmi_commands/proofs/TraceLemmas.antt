@@ -3,9 +3,9 @@ use Rattle.std.proofs.Common.{◌≡◌, ℕ, ◌+◌, ◌<◌, Bool, true, fals
 use Rattle.ipmi_commands.specs.Below.{AreSteps, cursor_after, CursorState, Ended, Failure, handed_out, IsHonest, IsStep, Row, Seen, seen_after, StaysHonest, Stepped, stays_refl, with_handed}
 use Rattle.ipmi_commands.specs.Traced.{AreTextsOfSteps, IsListed, IsStopAmong, IsTextAfter, IsTextOfResult, IsTraced, IsWithin, PrintsSteps, ReturnsLast, seen_next, TracesListing}
 use Rattle.ipmi_commands.specs.Prelude.{cause_of_unread, Change, change, end_of, failure_of, Form, spots_because_of, Unread}
-use Rattle.ipmi_commands.specs.Output.{and_then, IsCut, Output}
+use Rattle.ipmi_commands.specs.Output.{and_then, IsCut, no_output, Output}
 use Rattle.ipmi_commands.proofs.NameLemmas.{Wrote}
-use Rattle.ipmi_commands.proofs.OutputLemmas.{then_assoc}
+use Rattle.ipmi_commands.proofs.OutputLemmas.{nothing_then, then_assoc, then_nothing}
 
 -- ---- one more step
 
@@ -46,7 +46,7 @@ next_more (one ∷ steps) step last = refl
 texts_more : (form : Form) (steps : List Stepped) (step : Stepped) (last : Seen) (a b : Output)
     → AreTextsOfSteps form steps step.before a → IsTextOfResult form step.result step.seen last b
     → AreTextsOfSteps form (steps ++ step ∷ []) last (and_then a b)
-texts_more form [] step last a b are is = record { first = b; rest = []; is_first = is; is_rest = refl; joined = rw are (sym (append-nil b)) }
+texts_more form [] step last a b are is = record { first = b; rest = no_output; is_first = is; is_rest = refl; joined = ap (λ (o : Output). and_then o b) are ∙ nothing_then b ∙ sym (then_nothing b) }
 texts_more form (one ∷ steps) step last a b are is = record {
   first = are.first;
   rest = and_then are.rest b;
@@ -77,7 +77,7 @@ pub traced_none : (form : Form) (begun : CursorState) (s : Seen) (text : Output)
 traced_none form begun s text honest = record {
   steps = [];
   traced = record { are = tt; cursor = refl; stays = stays_refl s honest };
-  printed = record { text = []; are = refl; new_is = sym (append-nil text) };
+  printed = record { text = no_output; are = refl; new_is = sym (then_nothing text) };
   count_is = refl;
 }
 
@@ -101,15 +101,15 @@ module _ {form : Form} {count : ℕ} {begun now : CursorState} {s s' : Seen} {ol
   handed_more = handed_joined t.steps (last_step ∷ [])
 
   -- a step without a record has no text
-  none_more : (last : Seen) → IsTextOfResult form result s'' last [] → PrintsSteps form all_steps last old new
-  none_more last is = prints_more form t.steps last_step last old new new [] t.printed is (sym (append-nil new))
+  none_more : (last : Seen) → IsTextOfResult form result s'' last no_output → PrintsSteps form all_steps last old new
+  none_more last is = prints_more form t.steps last_step last old new new no_output t.printed is (sym (then_nothing new))
 
 -- ---- a listing that ends
 
 -- after its last record
 pub traced_whole : (form : Form) (wrote : Bool) (count : ℕ) {most : Option ℕ} {begun now : CursorState}
     {c : Change} (steps : List Stepped) → IsTraced begun now c.seen c.seen' steps
-    → IsListed form most now steps c count → Wrote wrote c.old.bytes c.new.bytes
+    → IsListed form most now steps c count → Wrote wrote c.old c.new
     → TracesListing form most begun now c (end_of form wrote count)
 traced_whole (Form.Block wording name) false count steps traced listed none = record {
   steps = steps;
@@ -122,7 +122,7 @@ traced_whole _ wrote count steps traced listed has = record { steps = steps; tra
 -- at its limit
 pub traced_full : {form : Form} (wrote : Bool) {count : ℕ} {begun now : CursorState} {s s' : Seen}
     {old new : Output} (most : Option ℕ) → Tracing form count begun now (change s s' old new)
-    → most ≡ Some count → IsWithin most count → Wrote wrote old.bytes new.bytes
+    → most ≡ Some count → IsWithin most count → Wrote wrote old new
     → TracesListing form most begun now (change s s' old new) (end_of form wrote count)
 traced_full {form} wrote {count} most t limit within has =
     traced_whole form wrote count t.steps t.traced (record { count_is = t.count_is; within = within; done = inl limit; printed = t.printed }) has
@@ -155,7 +155,7 @@ traced_ended {form} {count} {begun} {now} {s} {s'} {old} {new} most t {next} {s'
 pub traced_done : {form : Form} (wrote : Bool) {count : ℕ} {begun now : CursorState} {s s' : Seen}
     {old new : Output} (most : Option ℕ) (t : Tracing form count begun now (change s s' old new))
     {next : CursorState} {s'' : Seen} (step : IsStep now next s' s'' (Ok None))
-    → IsHonest s' → IsWithin most count → Wrote wrote old.bytes new.bytes
+    → IsHonest s' → IsWithin most count → Wrote wrote old new
     → TracesListing form most begun next (change s s'' old new) (end_of form wrote count)
 traced_done {form} wrote {count} {begun} {now} {s} {s'} {old} {new} most t {next} {s''} step honest within has =
     let rows : handed_out (all_steps t step) ≡ handed_out t.steps = handed_more t step ∙ append-nil (handed_out t.steps) in

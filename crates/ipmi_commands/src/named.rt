@@ -118,7 +118,8 @@ pub(crate) fn list_named<'a, C: Controller, O: Sink>(
     ipmi_bus::laws::what_is_found_is_a_row();
     ipmi_events::laws::records_are_found_again();
     let mut records = Written::new(Vec::new(alloc));
-    let walked = read_records(alloc, ctl, cmd, &mut records, &mut Summary::new())?;
+    let mut counted = Summary::new();
+    let walked = read_records(alloc, ctl, cmd, &mut records, &mut counted)?;
     list_with(alloc, ctl, cmd, wording, records.into_inner(), named, out, summary)?;
     walked.end()
 }
@@ -144,7 +145,8 @@ pub(crate) fn list_named_pages<'a, C: Controller, O: Sink>(
     ipmi_bus::laws::what_is_found_is_a_row();
     ipmi_events::laws::records_are_found_again();
     let mut records = Written::new(Vec::new(alloc));
-    let walked = read_records(alloc, ctl, cmd, &mut records, &mut Summary::new())?;
+    let mut counted = Summary::new();
+    let walked = read_records(alloc, ctl, cmd, &mut records, &mut counted)?;
     let entries = Entries::of(wording, Sensors::of(alloc, records.into_inner())?);
     let listing = Listing::new(Form::EntryLine(entries), from, None);
     list_pages(alloc, ctl, cmd, &listing.form, listing.start, out, summary, sizes)?;

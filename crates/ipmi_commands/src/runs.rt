@@ -135,9 +135,8 @@ pub fn answer<O: Sink, E: MessageSink>(
         (λ ending. OnBytes (O.taken out.old) (O.taken out.new) (λ old new.
         AnswersLine line.now (store_of_image image.now) old new ending)) }
 {
-    let ending = match line {
-        Ok(cmd) => execute_image(alloc, cmd, image, out),
-        Err(fault) => Err(Failure::from(*fault)),
-    };
-    report(ending, err)
+    match line {
+        Ok(cmd) => report(execute_image(alloc, cmd, image, out), err),
+        Err(fault) => report(Err(Failure::from(*fault)), err),
+    }
 }

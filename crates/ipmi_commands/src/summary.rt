@@ -1,8 +1,7 @@
 //! What a run printed, in numbers.
-ghost use Rattle.std.specs.Prelude.{◌≡◌, ◌+◌, ◌-◌, ◌^◌, ℕ, min, option_map, true, unwrap_or};
+ghost use Rattle.std.specs.Prelude.{◌≡◌, [], ◌+◌, ◌-◌, ◌^◌, ℕ, min, option_map, true, unwrap_or};
 ghost use Rattle.std.specs.Borrow.{ftrue};
-ghost use Rattle.ipmi_commands.specs.Output.{and_then, count_if, no_output, piece_of};
-ghost use Rattle.ipmi_commands.specs.Printed.{faults_of, pieces_of, printed};
+ghost use Rattle.ipmi_commands.specs.Output.{count_if, no_output};
 
 use std::marker::Model;
 
@@ -26,10 +25,10 @@ struct More<'c, 't>(Option<&'c Counts>, &'t [u8], bool);
 impl Counts {
     /// The counts with the item.
     fn with(_more: &More<'_, '_>) -> Counts
-        ensures pieces { result.pieces ≡ unwrap_or (option_map (λ counts. counts.now.pieces) _more.now.0) 0
-            + count_if true _more.now.1.now }
-        ensures faults { result.faults ≡ unwrap_or (option_map (λ counts. counts.now.faults) _more.now.0) 0
-            + count_if _more.now.2 _more.now.1.now }
+        ensures { (result.pieces ≡ unwrap_or (option_map (λ counts. counts.now.pieces) _more.now.0) 0
+            + count_if true _more.now.1.now)
+            × (result.faults ≡ unwrap_or (option_map (λ counts. counts.now.faults) _more.now.0) 0
+            + count_if _more.now.2 _more.now.1.now) }
     {
         Counts {}
     }
@@ -46,6 +45,8 @@ pub struct Summary {
 }
 
 impl Summary {
+    ghost use Rattle.ipmi_commands.specs.Printed.{faults_of, pieces_of, printed};
+
     /// That of a run that printed nothing.
     pub fn new() -> Summary
         ensures { printed [] result ≡ no_output }
@@ -74,7 +75,8 @@ impl Summary {
 
     /// Counts an item with this text.
     pub(crate) fn add(&mut self, text: &[u8], has_fault: bool)
-        ensures { printed text.now self.new ≡ and_then (printed [] self.old) (piece_of text.now has_fault) }
+        ensures pieces { pieces_of self.new ≡ pieces_of self.old + count_if true text.now }
+        ensures faults { faults_of self.new ≡ faults_of self.old + count_if has_fault text.now }
     {
         self.counts = Counts::with(&More(Some(&self.counts), text, has_fault));
         if !text.is_empty() {

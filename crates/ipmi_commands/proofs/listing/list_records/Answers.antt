@@ -4,6 +4,7 @@ use Rattle.ipmi_commands.specs.Prelude.{printed}
 use Rattle.ipmi_commands.proofs.AskLemmas.{end_ends, step_ends_listing, unread_ends}
 use Rattle.ipmi_commands.proofs.CallLemmas.{len-next_ids}
 use Rattle.ipmi_commands.proofs.ListingLemmas.{listing_cut, listing_done, listing_ended, listing_full, listing_more, listing_none}
+use Rattle.ipmi_commands.proofs.OutputLemmas.{counted_more}
 use Rattle.ipmi_commands.proofs.TraceLemmas.{traced_none}
 use Rattle.ipmi_commands.proofs.listing.list_records.Goals as goal
 
@@ -38,7 +39,8 @@ pub returns-in-Err-write_all-clause-lists : goal.returns-in-Err-write_all-clause
 returns-in-Err-write_all-clause-lists g c =
     let step = rw (c.in-Ok-Some.is ∙ ap Ok c.in-Ok-Some.field-0-is) at c.step.follows.holds-at-none in
     listing_cut c.records.invariant.2 (sym c.is_reached.ensures ∙ c.if-is_reached.false) step c.row_text.ensures.calls
-    _ c.in-Ok.ensures.honest _ (rw c.bytes-bytes.ensures at c.in-Err-write_all.ensures.some) (rw c.bytes-bytes.ensures at c.in-Err-write_all.ensures.err.0)
+    _ _ c.in-Ok.ensures.honest _ (rw c.bytes-bytes.ensures at c.in-Err-write_all.ensures.some)
+    (record { part = rw c.bytes-bytes.ensures at c.in-Err-write_all.ensures.err.0; pieces = refl; faults = refl })
 
 pub records-smaller : goal.records-smaller
 records-smaller g c =
@@ -52,7 +54,8 @@ records-preserved g c =
       wrote.1 ∙ c.records.invariant.0,
       omega (arith, c.records.invariant.1, c.requires.part, c.records.invariant.2.called.keeps.part_falls, step.asked, c.row_text.ensures.asked),
       rw (c.is_empty.ensures, c.bytes-bytes.ensures) (listing_more c.records.invariant.2 (sym c.is_reached.ensures ∙ c.if-is_reached.false) step c.row_text.ensures.calls
-          _ c.in-Ok.ensures.honest _ (wrote.0 ∙ ap (λ (l : List ℕ). g.O.Sink.taken c.records.out ++ l) c.bytes-bytes.ensures)),
+          _ _ c.in-Ok.ensures.honest _ (counted_more _ _ _ _ _ _ _ _ (wrote.0 ∙ ap (λ (l : List ℕ). g.O.Sink.taken c.records.out ++ l) c.bytes-bytes.ensures)
+          (rw c.bytes-bytes.ensures at c.add.ensures.pieces) (rw (c.bytes-bytes.ensures, c.has_fault.ensures) at c.add.ensures.faults))),
     )
 
 pub returns-then-is_reached-clause-ends : goal.returns-then-is_reached-clause-ends

@@ -1,7 +1,6 @@
-use Rattle.std.proofs.Common.{sym, ◌∙◌, arith}
-use Rattle.std.proofs.lemmas.Grind.{common_steps}
+use Rattle.std.proofs.Common.{◌≡◌, sym, ◌∙◌, arith}
 use Rattle.ipmi_commands.proofs.CallLemmas.{at_limit}
-use Rattle.ipmi_commands.proofs.PageLemmas.{page_at_end, page_of_none}
+use Rattle.ipmi_commands.proofs.PageLemmas.{page_at_end, page_of_cycle, page_of_none}
 use Rattle.ipmi_commands.proofs.pages.list_page.Goals as goal
 
 pub returns-then-is_reached-clause-honest : goal.returns-then-is_reached-clause-honest
@@ -9,7 +8,9 @@ returns-then-is_reached-clause-honest g c = λ h.
     rw (at_limit c.args.most 0 (sym c.is_reached.ensures ∙ c.if-is_reached.true), c.end.ensures) (page_of_none _ _ _ _ _ h)
 
 pub returns-in-Id-eq0-clause-honest : goal.returns-in-Id-eq0-clause-honest
-returns-in-Id-eq0-clause-honest g c = grind (arith, common_steps)
+returns-in-Id-eq0-clause-honest g c = λ h.
+    let zero : c.in-Id-eq0.field-0 ≡ 0 = grind (arith, c.in-Id-eq0.field-0-test) in
+    rw (c.in-Id-eq0.is, zero) (page_of_cycle _ _ _ _ _ h (λ none. grind (arith, at_limit c.args.most 0, c.is_reached.ensures, c.if-is_reached.false, none)))
 
 pub returns-in-End-clause-honest : goal.returns-in-End-clause-honest
 returns-in-End-clause-honest g c = λ h. rw (c.in-End.is, c.end-in-End.ensures, c.in-End.is) (page_at_end _ _ _ _ _ h)

@@ -1,6 +1,6 @@
 use Rattle.std.proofs.Common.{◌≡◌, ◌+◌, ◌*◌, ◌≤◌, drop}
 use Rattle.ipmi_commands.specs.Below.{AsksAtMost, IsHonest}
-use Rattle.ipmi_commands.specs.Prelude.{most_on_walk, IsPlace, pages_made}
+use Rattle.ipmi_commands.specs.Prelude.{most_on_walk, IsPlace, pages_made, printed}
 use Rattle.ipmi_commands.proofs.PageLemmas.{LeadsTo}
 use Rattle.ipmi_commands.proofs.pages.list_pages.Given as goal
 
@@ -16,4 +16,4 @@ invariant-pages g l =
     × (IsHonest (g.C.Controller.seen l.fn.ctl)
     → IsHonest (g.C.Controller.seen l.ctl)
     × LeadsTo l.form l.cmd.tries l.fn.sizes (drop l.size-index l.sizes) l.fn.start l.place
-    (g.C.Controller.seen l.fn.ctl) (g.C.Controller.seen l.ctl) (g.O.Sink.taken l.fn.out) (g.O.Sink.taken l.out))
+    (g.C.Controller.seen l.fn.ctl) (g.C.Controller.seen l.ctl) (printed (g.O.Sink.taken l.fn.out) l.fn.summary) (printed (g.O.Sink.taken l.out) l.summary))

@@ -9,7 +9,7 @@ returns-in_err-text-clause-runs g c =
 pub returns-in-Some-clause-runs : goal.returns-in-Some-clause-runs
 returns-in-Some-clause-runs g c =
     rw (← c.tries.ensures) (info_found c.args.wording c.args.shelf _ _ _ c.info_text.ensures.calls _ _ c.in-Some.text c.write_piece.result (rw c.in-Some.is at c.in_ok-text.ensures.honest)
-    (rw c.as_slice.ensures.value at c.write_piece.ensures.text))
+    (rw c.as_slice.ensures.value at c.write_piece.ensures.piece))
 
 pub returns-in-None-clause-runs : goal.returns-in-None-clause-runs
 returns-in-None-clause-runs g c =
