@@ -1,8 +1,5 @@
 pub mod CapturedLemmas
-pub mod FaultLemmas
-pub mod ImageLemmas
+pub mod EachLemmas
+pub mod EndingLemmas
 pub mod LabelLemmas
-pub mod ObjectLemmas
-pub mod ProblemLemmas
-pub mod RunLemmas
-pub mod WatchLemmas
+pub mod RunErrorLemmas

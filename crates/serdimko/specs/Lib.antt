@@ -1,9 +1,9 @@
-pub mod Asked
 pub mod Captured
 pub mod Causes
-pub mod FaultLines
+pub mod Images
 pub mod Labels
 pub mod Live
-pub mod Objects
-pub mod Problem
-pub mod Watch
+pub mod Out
+pub mod Printing
+pub mod RunError
+pub mod Settings

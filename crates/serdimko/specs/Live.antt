@@ -1,7 +1,26 @@
--- The tools of live controllers.
+-- What is printed of a live controller, and its tools.
+use Rattle.std.specs.Prelude.{◌≡◌, ◌⊎◌, ℕ, Bool, true, List, None, Option, codes}
+use Rattle.ipmi_bus.specs.Seen.{Seen}
 use Rattle.ipmi_command_line.specs.declared.request.LiveTool.{LiveTool}
+use Rattle.ipmi_output.specs.Received.{Received}
+use Rattle.ipmi_output.specs.declared.failure.Failure.{Failure}
 use Rattle.ipmi_raw.specs.declared.tool.Tool.{Tool}
+use Rattle.serdimko.specs.Images.{IsReport, ReportsError}
+use Rattle.serdimko.specs.Out.{Out, state}
+use Rattle.serdimko.specs.Printing.{PrintsQuery}
+use Rattle.serdimko.specs.declared.driver.Query.{Query}
+use Rattle.serdimko.specs.declared.report.Report.{Report}
+use Rattle.serdimko.specs.declared.report.Settings.{Settings}
+use Rattle.serdimko.specs.declared.run_error.RunError.{RunError}
 
 abbrev pub tool_of : LiveTool → Tool
 tool_of LiveTool.Ipmitool = Tool.Ipmitool
 tool_of LiveTool.FreeIpmi = Tool.FreeIpmi
+
+-- the query runs over a controller, whatever that holds; or memory for the labels ran out
+abbrev pub PrintsLive : Settings → Query → Out → Out → Received → Received → ℕ × Bool → Type 0
+PrintsLive settings query old new said said' result =
+    ((new ≡ old) × ReportsError (RunError.Failed Failure.OutOfMemory) (codes "the controller") true said said' result)
+    ⊎ ((report : Report) × (seen seen' : Seen) × (lost : Option (List ℕ))
+    × IsReport settings None (codes "the controller") true report
+    × PrintsQuery settings.limits query report (state seen None old) (state seen' lost new) said said' result)

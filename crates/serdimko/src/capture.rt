@@ -10,10 +10,11 @@ ghost use Rattle.ipmi_raw.specs.Controller.{last_words, seen_of};
 ghost use Rattle.serdimko.specs.Captured.{Captures, printed_text, PrintsText, SavesImage, SavesText, SaysLines, SaysLost, status_of_image, WritesText};
 
 use crate::live::{Live, controller_of, lost_line};
-use crate::problem::CLOSED;
+use crate::run_error::CLOSED;
 use ipmi_bus::Shelf;
 use ipmi_capture::{Captured, Left, Progress, capture};
-use ipmi_command_line::{Command, Word};
+use ipmi_command_line::Word;
+use ipmi_commands::RequestLimits;
 use ipmi_image::image_text;
 use ipmi_output::Part::{Name, Text};
 use ipmi_output::{Failure, MessageSink, say, say_line};
@@ -247,18 +248,17 @@ fn capture_from<
 >(
     rt: &R,
     controller: &mut RawController<P, K>,
-    command: &Command,
+    limits: RequestLimits,
     output: Option<&Word>,
     counter: &mut Counter<T>,
     out: &mut W,
     err: &mut E,
 ) -> Result<u8, AllocError>
-    ensures { IfOk result (Captures (IsStateOf (seen_of {K = K} P.seen)) command.now.part command.now.tries (seen_of P.seen controller.old)
+    ensures { IfOk result (Captures (IsStateOf (seen_of {K = K} P.seen)) limits.part limits.tries (seen_of P.seen controller.old)
         (seen_of P.seen controller.new) (last_words controller.new) (option_map (λ word. word.now) output.entry)
         (W.contents out.old) (W.contents out.new) (E.received err.old) (E.received err.new)) }
 {
-    let (part, tries) = (command.part(), command.tries());
-    let captured = capture(rt.alloc(), controller, part, tries, counter)?;
+    let captured = capture(rt.alloc(), controller, limits.part(), limits.tries(), counter)?;
     counter.clear();
     let status = report_captured(rt, controller.lost(), &captured, output, out, err);
     drop(captured);
@@ -273,20 +273,20 @@ pub(crate) fn capture_live<
     E: MessageSink,
 >(
     rt: &R,
-    command: &Command,
+    limits: RequestLimits,
     live: Live<'_>,
     output: Option<&Word>,
     terminal: Option<T>,
     out: &mut W,
     err: &mut E,
 ) -> Result<u8, AllocError>
-    ensures { IfOk result (λ status. (seen seen' : Seen) × (lost : Option (List ℕ)) × Captures (λ s. Unit {0}) command.now.part command.now.tries
+    ensures { IfOk result (λ status. (seen seen' : Seen) × (lost : Option (List ℕ)) × Captures (λ s. Unit {0}) limits.part limits.tries
         seen seen' lost (option_map (λ word. word.now) output.entry) (W.contents out.old) (W.contents out.new)
         (E.received err.old) (E.received err.new) status) }
 {
     let mut counter = Counter::new(terminal);
     let mut controller = controller_of(rt, live);
-    let saved = capture_from(rt, &mut controller, command, output, &mut counter, out, err);
+    let saved = capture_from(rt, &mut controller, limits, output, &mut counter, out, err);
     drop(controller);
     drop(counter);
     saved

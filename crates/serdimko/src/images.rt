@@ -1,37 +1,27 @@
-//! Runs commands over each image, one after another.
-ghost use Rattle.std.specs.Prelude.{◌≡◌, ◌+◌, ◌++◌, ◌∷◌, [], codes, false, map, OnErr, OnOk, option_map, Some};
-ghost use Rattle.ipmi_output.specs.Failure.{escaped_name, line_text};
+//! Prints what a command asks for from each image, one after another.
+ghost use Rattle.std.specs.Prelude.{◌≡◌, ◌+◌, ◌++◌, ◌==◌, [], false, if◌then◌else◌, None, OnErr, OnOk, option_map, Ok, Some};
+ghost use Rattle.ipmi_image.specs.Image.{store_of_image};
 ghost use Rattle.ipmi_output.specs.Sink.{TakesPart};
 ghost use Rattle.ipmi_output.specs.Writer.{flush_faults};
 ghost use Rattle.ipmi_program.specs.Input.{input_name};
-ghost use Rattle.serdimko.specs.Objects.{file_of, PrintsEach, PrintsImage, PrintsObjects, PrintsRun, PrintsRuns, PrintsTexts, text_wording};
-ghost use Rattle.serdimko.specs.Problem.{faults_of, faults_of_problem, handed_on, held_by, IsCause, lines_seen, PrintsInput, RunsEach, taken_of, Tells};
+ghost use Rattle.serdimko.specs.Images.{Fails, file_of, header, is_headed, IsCause, PrintsBytes, PrintsFile, PrintsImage, PrintsImages, PrintsInput, PrintsNamed, PrintsStore, Rewrites};
+ghost use Rattle.serdimko.specs.Out.{out_of};
+ghost use Rattle.serdimko.specs.Settings.{IsQuery};
 
-use crate::asked::Commands;
+use crate::closable::{Output, is_closed};
+use crate::driver::{Query, print_query};
+use crate::ending::{end_run, end_with};
 use crate::labels::labels_of;
-use crate::objects::end_run;
-use crate::own::Own;
-use crate::problem::{CLOSED, Problem};
-use crate::watch::Watch;
-use ipmi_command_line::{Command, Word};
-use ipmi_commands::Wording;
-use ipmi_image::{FaultCause, fault_cause};
+use crate::report::{Report, Settings};
+use crate::run_error::RunError;
+use ipmi_command_line::{Format, Task, Word};
+use ipmi_commands::{RequestLimits, Summary, write_image};
+use ipmi_image::{FaultCause, Image, ImageController, ImageFault, fault_cause};
 use ipmi_output::Part::{Name, Text};
-use ipmi_output::{Failure, MessageSink, Sink, SinkFault, Written, say_line};
-use ipmi_program::{InputFault, input_name, print, read_input};
+use ipmi_output::{Failure, MessageSink, SinkFault, say_line};
+use ipmi_program::{InputFault, input_name, read_input};
 use std::alloc::{AllocError, Global};
-use std::io::{BufWriter, Write};
-
-/// The output: buffered, over a writer that counts the lines with faults.
-pub(crate) type Output<W> = Written<BufWriter<Watch<W>>>;
-
-/// How many lines left the buffer.
-pub(crate) fn lines_of<W: Write + Drop>(out: &Output<W>) -> usize
-    ensures lines { result ≡ lines_seen out.now }
-    ensures bytes { taken_of out.now ≡ handed_on out.now ++ held_by out.now }
-{
-    out.get_ref().get_ref().lines()
-}
+use std::io::Write;
 
 /// The file; None for `-`, which is standard input.
 pub(crate) fn file_of(image: Option<&Word>) -> Option<&Word>
@@ -40,280 +30,219 @@ pub(crate) fn file_of(image: Option<&Word>) -> Option<&Word>
     image.filter(|file| file.as_str() != "-")
 }
 
-/// Which rule the input breaks, if it is not an image; None also if out of memory.
-fn cause_in(alloc: Global, image: &[u8], ending: &Result<(), Failure<'_>>) -> Option<FaultCause>
-    ensures { IsCause image.now ending.now result }
+/// Which rule the bytes break; None also if out of memory.
+fn cause_in(alloc: Global, bytes: &[u8], fault: ImageFault) -> Option<FaultCause>
+    ensures { IsCause bytes.now fault result }
 {
-    match ending {
-        Err(Failure::Image(fault)) => match fault_cause(alloc, image, *fault) {
-            Ok(cause) => cause,
-            Err(AllocError) => None,
-        },
-        _ => None,
+    match fault_cause(alloc, bytes, fault) {
+        Ok(cause) => cause,
+        Err(AllocError) => None,
     }
 }
 
-/// Runs the command over the input. Returns the problem, if it did not print everything.
-#[tactic(auto, using(crate::proofs::ProblemLemmas::run_faults))]
-fn print_input<'a, W: Write + Drop>(
+/// Reports why nothing was printed, after the line at the end of objects.
+fn fail<W: Write + Drop, E: MessageSink>(
     alloc: Global,
-    command: &'a Command,
-    wording: Wording<'a>,
-    input: &Result<Vec<u8>, InputFault>,
+    report: &Report<'_>,
+    error: RunError<'_>,
     out: &mut Output<W>,
-) -> Option<Problem<'a>>
-    ensures faults { ⟦<Written<BufWriter<Watch<W>>> as Sink>⟧.faults out.new ≡
-        ⟦<Written<BufWriter<Watch<W>>> as Sink>⟧.faults out.old + faults_of_problem result }
-    ensures prints { PrintsInput wording.entry input.now command.now out.old out.new result }
+    err: &mut E,
+) -> (u8, bool)
+    ensures { Fails report.now error.entry (out_of out.old) (out_of out.new) (E.received err.old) (E.received err.new) result }
 {
-    let image = match input {
-        Ok(image) => image,
-        Err(fault) => return Some(Problem::unread(*fault)),
-    };
-    let before = out.get_ref().get_ref().faults();
-    let ending = print(alloc, command, wording, image, out);
-    let watch = out.get_ref().get_ref();
-    let has_faults = watch.faults() != before;
-    let is_closed = watch.is_closed();
-    let cause = cause_in(alloc, image, &ending);
-    Problem::of(ending, cause, has_faults, is_closed)
+    let last = end_with(alloc, report, 0, Some(error), out);
+    report.tell(&last, err)
 }
 
-/// Runs the command over the input with this name, and prints the line at the end of objects. Returns the problem, if it did
-/// not print everything.
-fn print_run<'a, W: Write + Drop>(
+/// Prints the image in its canonical spelling.
+fn rewrite<W: Write + Drop, E: MessageSink>(
     alloc: Global,
-    command: &'a Command,
-    wording: Wording<'a>,
-    input: &Result<Vec<u8>, InputFault>,
-    name: &str,
-    is_one: bool,
+    image: &Image,
+    report: &Report<'_>,
     out: &mut Output<W>,
-) -> Option<Problem<'a>>
-    ensures faults { ⟦<Output<W> as Sink>⟧.faults out.new ≡
-        ⟦<Output<W> as Sink>⟧.faults out.old + faults_of_problem result }
-    ensures prints { PrintsRun wording.entry name.now is_one input.now command.now out.old out.new result }
+    err: &mut E,
+) -> (u8, bool)
+    ensures { Rewrites report.now image.now (out_of out.old) (out_of out.new) (E.received err.old) (E.received err.new) result }
 {
-    let before = lines_of(out);
-    let problem = print_input(alloc, command, wording, input, out);
-    end_run(alloc, wording, before, problem, name, is_one, out)
+    let mut summary = Summary::new();
+    let ending = write_image(alloc, image, out, &mut summary);
+    let last = end_run(alloc, report, ending, None, &summary, out);
+    report.tell(&last, err)
 }
 
-/// Reports the problem, unless the output was closed, and returns the exit status.
-#[tactic(auto, using(crate::proofs::ProblemLemmas::said_unless_closed))]
-fn say_one<E: MessageSink>(problem: &Problem<'_>, name: &str, is_one: bool, err: &mut E) -> u8
-    ensures { Tells name.now is_one (Some problem.now) (E.received err.old) (E.received err.new) result }
+/// Prints what the query asks for from an image.
+fn print_store<W: Write + Drop, E: MessageSink>(
+    alloc: Global,
+    limits: RequestLimits,
+    query: &Query,
+    report: &Report<'_>,
+    image: Image,
+    out: &mut Output<W>,
+    err: &mut E,
+) -> (u8, bool)
+    requires { IsQuery query.now }
+    ensures { PrintsStore limits query.now report.now image (out_of out.old) (out_of out.new)
+        (E.received err.old) (E.received err.new) result }
 {
-    match problem {
-        Problem::Closed => CLOSED,
-        _ => {
-            // there is nowhere left to report that this failed
-            let _ = say_line(err, &problem.parts(name, is_one));
-            problem.status()
+    if matches!(query, Query::Print(Task::Rewrite, _)) {
+        return rewrite(alloc, &image, report, out, err);
+    }
+    let mut ctl = ImageController::new(image);
+    let result = print_query(alloc, &mut ctl, limits, query, report, out, err);
+    drop(ctl);
+    result
+}
+
+/// Prints what the query asks for from bytes that may be an image.
+fn print_bytes<W: Write + Drop, E: MessageSink>(
+    alloc: Global,
+    limits: RequestLimits,
+    query: &Query,
+    report: &Report<'_>,
+    bytes: &[u8],
+    out: &mut Output<W>,
+    err: &mut E,
+) -> (u8, bool)
+    requires { IsQuery query.now }
+    ensures { PrintsBytes limits query.now report.now bytes.now (out_of out.old) (out_of out.new)
+        (E.received err.old) (E.received err.new) result }
+{
+    match Image::read(alloc, bytes) {
+        Ok(image) => print_store(alloc, limits, query, report, image, out, err),
+        Err(fault) => {
+            let cause = cause_in(alloc, bytes, fault);
+            fail(alloc, report, RunError::no_image(fault, cause), out, err)
         }
     }
 }
 
-/// Reports the problem, if there is one, and returns the exit status.
-pub(crate) fn say_problem<E: MessageSink>(
-    problem: &Option<Problem<'_>>,
-    name: &str,
-    is_one: bool,
+/// Prints what the query asks for from the input, if it was read.
+fn print_input<W: Write + Drop, E: MessageSink>(
+    alloc: Global,
+    limits: RequestLimits,
+    query: &Query,
+    report: &Report<'_>,
+    input: &Result<Vec<u8>, InputFault>,
+    out: &mut Output<W>,
     err: &mut E,
-) -> u8
-    ensures { Tells name.now is_one problem.now (E.received err.old) (E.received err.new) result }
+) -> (u8, bool)
+    requires { IsQuery query.now }
+    ensures { PrintsInput limits query.now report.now input.now (out_of out.old) (out_of out.new)
+        (E.received err.old) (E.received err.new) result }
 {
-    match problem {
-        Some(problem) => say_one(problem, name, is_one, err),
-        None => 0,
+    match input {
+        Ok(image) => print_bytes(alloc, limits, query, report, image.as_slice(), out, err),
+        Err(fault) => fail(alloc, report, RunError::unread(*fault), out, err),
     }
 }
 
-/// Prints `== NAME` before the output for one of several images.
-fn print_name<W: Write + Drop>(out: &mut Output<W>, name: &str) -> Result<(), SinkFault>
-    ensures ok { OnOk result ((taken_of out.new ≡ taken_of out.old ++ line_text (codes "== " ++ escaped_name name.now))
-        × (held_by out.new ≡ [])) }
-    ensures err { OnErr result (TakesPart (taken_of out.old) (taken_of out.new) (line_text (codes "== " ++ escaped_name name.now))) }
-    ensures faults { faults_of out.new ≡ faults_of out.old + flush_faults result }
+/// Prints what the query asks for from the file, or from standard input.
+fn print_named<W: Write + Drop, E: MessageSink>(
+    rt: &HostRuntime,
+    settings: &Settings,
+    query: &Query,
+    file: Option<&Word>,
+    is_only_input: bool,
+    out: &mut Output<W>,
+    err: &mut E,
+) -> (u8, bool)
+    requires { IsQuery query.now }
+    ensures { PrintsNamed settings.now query.now (option_map (λ file. file.now) file.entry) is_only_input
+        (out_of out.old) (out_of out.new) (E.received err.old) (E.received err.new) result }
+{
+    let alloc = rt.alloc();
+    let name = input_name(file);
+    let image = if is_only_input { None } else { Some(name) };
+    let Ok(labels) = labels_of(alloc, settings.labels(), image) else {
+        let report = settings.report(&[], name, is_only_input);
+        return report.tell(&Some(RunError::Failed(Failure::OutOfMemory)), err);
+    };
+    let report = settings.report(labels.as_slice(), name, is_only_input);
+    let input = read_input(rt, file);
+    print_input(alloc, settings.limits, query, &report, &input, out, err)
+}
+
+/// Prints `== NAME` before the texts of one of several images.
+fn print_header<W: Write + Drop>(out: &mut Output<W>, name: &str) -> Result<(), SinkFault>
+    ensures ok { OnOk result (((out_of out.new).taken ≡ (out_of out.old).taken ++ header name.now) × ((out_of out.new).held ≡ [])) }
+    ensures err { OnErr result (TakesPart (out_of out.old).taken (out_of out.new).taken (header name.now)) }
+    ensures faults { (out_of out.new).faults ≡ (out_of out.old).faults + flush_faults result }
 {
     say_line(out, &[Text("== "), Name(name)])?;
     out.flush()
 }
 
-/// Runs each command over the input with this name, in this wording, and reports its problem. Returns the highest exit status,
-/// and whether more can be printed.
-fn print_each<W: Write + Drop, E: MessageSink>(
-    alloc: Global,
-    commands: &[Command],
-    wording: Wording<'_>,
-    input: &Result<Vec<u8>, InputFault>,
-    name: &str,
-    is_one: bool,
+/// Prints the name of an image, and then what the query asks for.
+fn print_headed<W: Write + Drop, E: MessageSink>(
+    rt: &HostRuntime,
+    settings: &Settings,
+    query: &Query,
+    file: Option<&Word>,
+    is_only_input: bool,
     out: &mut Output<W>,
     err: &mut E,
 ) -> (u8, bool)
-    ensures { RunsEach (PrintsRun wording.entry name.now is_one input.now) (Tells name.now is_one) commands.now
-        out.old out.new (E.received err.old) (E.received err.new) result }
+    requires { IsQuery query.now }
+    ensures { PrintsFile true settings.now query.now (option_map (λ file. file.now) file.entry) is_only_input
+        (out_of out.old) (out_of out.new) (E.received err.old) (E.received err.new) result }
 {
+    let name = input_name(file);
+    match print_header(out, name) {
+        Ok(()) => print_named(rt, settings, query, file, is_only_input, out, err),
+        Err(fault) => {
+            let report = settings.report(&[], name, is_only_input);
+            let error = RunError::of(Err(Failure::from(fault)), false, is_closed(out));
+            report.tell(&error, err)
+        }
+    }
+}
+
+/// Prints what the query asks for from an image, after its name where texts of several are printed.
+fn print_image<W: Write + Drop, E: MessageSink>(
+    rt: &HostRuntime,
+    settings: &Settings,
+    query: &Query,
+    image: Option<&Word>,
+    is_only_input: bool,
+    out: &mut Output<W>,
+    err: &mut E,
+) -> (u8, bool)
+    requires { IsQuery query.now }
+    ensures { PrintsImage settings.now query.now is_only_input (option_map (λ image. image.now) image.entry)
+        (out_of out.old) (out_of out.new) (E.received err.old) (E.received err.new) result }
+{
+    let file = file_of(image);
+    if settings.is_json() || is_only_input {
+        return print_named(rt, settings, query, file, is_only_input, out, err);
+    }
+    print_headed(rt, settings, query, file, is_only_input, out, err)
+}
+
+/// Prints what the query asks for from each image, or from standard input if none is named. Returns the highest exit status, and
+/// whether more can be printed; after a write fault nothing more is.
+pub(crate) fn print_images<W: Write + Drop, E: MessageSink>(
+    rt: &HostRuntime,
+    settings: &Settings,
+    query: &Query,
+    images: &[Word],
+    out: &mut Output<W>,
+    err: &mut E,
+) -> (u8, bool)
+    requires { IsQuery query.now }
+    ensures { PrintsImages settings.now query.now images.now (out_of out.old) (out_of out.new)
+        (E.received err.old) (E.received err.new) result }
+{
+    if images.is_empty() {
+        return print_image(rt, settings, query, None, true, out, err);
+    }
+    let is_only_input = images.len() == 1;
     let mut highest = 0;
-    for command in commands {
-        let problem = print_run(alloc, command, wording, input, name, is_one, out);
-        highest = highest.max(say_problem(&problem, name, is_one, err));
-        if !Problem::goes_on(&problem) {
-            return (highest, Problem::has_room(&problem));
+    for image in images {
+        let (status, is_open) = print_image(rt, settings, query, Some(image), is_only_input, out, err);
+        highest = highest.max(status);
+        if !is_open {
+            return (highest, false);
         }
     }
     (highest, true)
-}
-
-/// The wording of texts, in words or in codes.
-pub(crate) fn wording_of<'a>(in_words: bool) -> Wording<'a>
-    ensures { result ≡ text_wording in_words }
-{
-    if in_words {
-        Wording::Words
-    } else {
-        Wording::Codes
-    }
-}
-
-/// Runs the commands over the file, or standard input, in this wording ([`print_each`]).
-fn print_file<W: Write + Drop, E: MessageSink>(
-    rt: &HostRuntime,
-    commands: &[Command],
-    wording: Wording<'_>,
-    file: Option<&Word>,
-    is_one: bool,
-    out: &mut Output<W>,
-    err: &mut E,
-) -> (u8, bool)
-    ensures { PrintsRuns wording.entry (input_name (option_map (λ file. file.now) file.entry)) is_one commands.now
-        out.old out.new (E.received err.old) (E.received err.new) result }
-{
-    let input = read_input(rt, file);
-    let name = input_name(file);
-    print_each(
-        rt.alloc(),
-        commands,
-        wording,
-        &input,
-        name,
-        is_one,
-        out,
-        err,
-    )
-}
-
-/// Prints the name of one of several images, and then its texts.
-fn print_named<W: Write + Drop, E: MessageSink>(
-    rt: &HostRuntime,
-    commands: &[Command],
-    wording: Wording<'_>,
-    file: Option<&Word>,
-    out: &mut Output<W>,
-    err: &mut E,
-) -> (u8, bool)
-    ensures { PrintsTexts wording.entry (input_name (option_map (λ file. file.now) file.entry)) false commands.now
-        out.old out.new (E.received err.old) (E.received err.new) result }
-{
-    let name = input_name(file);
-    match print_name(out, name) {
-        Ok(()) => print_file(rt, commands, wording, file, false, out, err),
-        Err(fault) => {
-            let is_closed = out.get_ref().get_ref().is_closed();
-            let problem = Problem::of(Err(Failure::from(fault)), None, false, is_closed);
-            (say_problem(&problem, name, false, err), false)
-        }
-    }
-}
-
-/// Runs the commands over an image and prints texts, after its name if it is one of several.
-fn print_texts<W: Write + Drop, E: MessageSink>(
-    rt: &HostRuntime,
-    commands: &Commands,
-    file: Option<&Word>,
-    is_one: bool,
-    out: &mut Output<W>,
-    err: &mut E,
-) -> (u8, bool)
-    ensures { PrintsTexts (text_wording commands.now.in_words) (input_name (option_map (λ file. file.now) file.entry)) is_one
-        commands.now.all.items out.old out.new (E.received err.old) (E.received err.new) result }
-{
-    let (all, wording) = (commands.all.as_slice(), wording_of(commands.in_words));
-    if is_one {
-        return print_file(rt, all, wording, file, true, out, err);
-    }
-    print_named(rt, all, wording, file, out, err)
-}
-
-/// Runs the commands over an image and prints objects, each with the image's name if it is one of several.
-fn print_objects<W: Write + Drop, E: MessageSink>(
-    rt: &HostRuntime,
-    commands: &Commands,
-    own: &Own,
-    file: Option<&Word>,
-    is_one: bool,
-    out: &mut Output<W>,
-    err: &mut E,
-) -> (u8, bool)
-    ensures { PrintsObjects own.now.labels (input_name (option_map (λ file. file.now) file.entry)) is_one
-        commands.now.all.items out.old out.new (E.received err.old) (E.received err.new) result }
-{
-    let name = input_name(file);
-    let image = if is_one { None } else { Some(name) };
-    let Ok(labels) = labels_of(rt.alloc(), own, image) else {
-        let problem = Some(Problem::Failed(Failure::OutOfMemory));
-        return (say_problem(&problem, name, is_one, err), true);
-    };
-    let json = Wording::Json(labels.as_slice());
-    print_file(rt, commands.all.as_slice(), json, file, is_one, out, err)
-}
-
-/// Runs the commands over an image.
-fn print_image<W: Write + Drop, E: MessageSink>(
-    rt: &HostRuntime,
-    commands: &Commands,
-    own: &Own,
-    image: Option<&Word>,
-    out: &mut Output<W>,
-    err: &mut E,
-) -> (u8, bool)
-    ensures { PrintsImage own.now commands.now (option_map (λ image. image.now) image.entry) out.old out.new
-        (E.received err.old) (E.received err.new) result }
-{
-    let file = file_of(image);
-    let is_one = own.images.as_slice().is_empty();
-    if own.json {
-        print_objects(rt, commands, own, file, is_one, out, err)
-    } else {
-        print_texts(rt, commands, file, is_one, out, err)
-    }
-}
-
-/// Runs the commands over this image and the others after it, and returns the highest exit status. After a write fault nothing
-/// more is printed.
-pub(crate) fn print_images<W: Write + Drop, E: MessageSink>(
-    rt: &HostRuntime,
-    commands: &Commands,
-    first: Option<&Word>,
-    own: &Own,
-    out: &mut Output<W>,
-    err: &mut E,
-) -> u8
-    ensures { PrintsEach (PrintsImage own.now commands.now)
-        (option_map (λ image. image.now) first.entry ∷ map Some own.now.images) out.old out.new
-        (E.received err.old) (E.received err.new) result }
-{
-    let (mut highest, has_room) = print_image(rt, commands, own, first, out, err);
-    if !has_room {
-        return highest;
-    }
-    for image in own.images.as_slice() {
-        let (status, has_room) = print_image(rt, commands, own, Some(image), out, err);
-        highest = highest.max(status);
-        if !has_room {
-            return highest;
-        }
-    }
-    highest
 }

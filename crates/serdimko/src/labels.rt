@@ -5,7 +5,7 @@ ghost use Rattle.ipmi_output.specs.Failure.{joined_parts};
 ghost use Rattle.serdimko.specs.Labels.{fault_of_label, key_value, label_of, labels_of, name_in, value_in, with_label, wrong_label};
 
 use crate::mistake::{Line, line};
-use crate::own::Own;
+use ipmi_command_line::Word;
 use ipmi_json::Label;
 use ipmi_output::Part::{Name, Text};
 use std::alloc::{AllocError, Global};
@@ -150,26 +150,29 @@ fn add<'a>(labels: &mut Vec<Label<'a>>, label: Option<Label<'a>>) -> Result<(), 
 /// The labels of all objects: the image's name if it is one of several, and those of `--label`.
 pub(crate) fn labels_of<'a>(
     alloc: Global,
-    own: &'a Own,
+    texts: &'a [Word],
     image: Option<&'a str>,
 ) -> Result<Vec<Label<'a>>, AllocError>
     ensures { IfOk result (λ labels. map key_value labels.items ≡
-        labels_of (option_map (λ name. name.now) image.entry) own.now.labels) }
+        labels_of (option_map (λ name. name.now) image.entry) texts.now) }
 {
     let mut labels = Vec::new(alloc);
     add(&mut labels, image.map(|value| Label { key: IMAGE, value }))?;
-    for text in own.labels.as_slice() {
+    for text in texts {
         add(&mut labels, label_of(text.as_str()))?;
     }
     Ok(labels)
 }
 
 /// What is wrong with the first wrong value of `--label`.
-pub(crate) fn wrong_label<'a>(alloc: Global, own: &'a Own) -> Result<Option<Line<'a>>, AllocError>
-    ensures { IfOk result (λ found. option_map (λ line. joined_parts line.items) found ≡ wrong_label [] own.now.labels) }
+pub(crate) fn wrong_label<'a>(
+    alloc: Global,
+    texts: &'a [Word],
+) -> Result<Option<Line<'a>>, AllocError>
+    ensures { IfOk result (λ found. option_map (λ line. joined_parts line.items) found ≡ wrong_label [] texts.now) }
 {
     let mut labels = Vec::new(alloc);
-    for text in own.labels.as_slice() {
+    for text in texts {
         let text = text.as_str();
         let label = label_of(text);
         if let Some(fault) = fault_of(label, labels.as_slice()) {

@@ -1,21 +1,17 @@
-//! Runs commands over a live controller. A stock tool holds a session with it, and pipes in a folder lead to the tool.
-ghost use Rattle.std.specs.Prelude.{◌≡◌, ◌+◌, ℕ, ⊤, Bool, codes, List, None, Option, option_map, true};
-ghost use Rattle.ipmi_bus.specs.Seen.{Seen};
-ghost use Rattle.ipmi_raw.specs.Controller.{last_words, seen_of};
-ghost use Rattle.serdimko.specs.Live.{tool_of};
-ghost use Rattle.serdimko.specs.Objects.{PrintsLiveObjects, PrintsLiveRun, PrintsLiveRuns, text_wording};
-ghost use Rattle.serdimko.specs.Problem.{faults_of_problem, live_state, PrintsLive, RunsEach, Tells};
+//! Prints what a command asks for from a live controller. A stock tool holds a session with it, and pipes in a folder lead to the tool.
+ghost use Rattle.std.specs.Prelude.{◌≡◌, ⊤, None};
+ghost use Rattle.ipmi_raw.specs.Controller.{last_words};
+ghost use Rattle.serdimko.specs.Live.{PrintsLive, tool_of};
+ghost use Rattle.serdimko.specs.Out.{out_of};
+ghost use Rattle.serdimko.specs.Settings.{IsQuery};
 
-use crate::asked::Commands;
-use crate::images::{Output, lines_of, say_problem, wording_of};
+use crate::closable::Output;
+use crate::driver::{Connection, Query, print_query};
 use crate::labels::labels_of;
-use crate::objects::end_run;
-use crate::own::Own;
-use crate::problem::Problem;
-use ipmi_command_line::{Command, LiveTool};
-use ipmi_commands::Wording;
-use ipmi_output::{Failure, MessageSink, Sink};
-use ipmi_program::print_live;
+use crate::report::Settings;
+use crate::run_error::RunError;
+use ipmi_command_line::LiveTool;
+use ipmi_output::{Failure, MessageSink};
 use ipmi_raw::{Open, Peer, Piped, RawController, Tool};
 use std::alloc::{AllocError, Global};
 use std::fs::{self, File, Files, OpenOptions};
@@ -112,32 +108,12 @@ pub(crate) fn lost_line(alloc: Global, text: &[u8]) -> Result<String, AllocError
     Ok(line)
 }
 
-/// Runs the command over the controller. Returns the problem, if it did not print everything.
-#[tactic(auto, using(crate::proofs::ProblemLemmas::live_faults))]
-fn print_over<'a, P: Peer + Drop, K: Clock + Drop, W: Write + Drop>(
-    alloc: Global,
-    command: &'a Command,
-    wording: Wording<'a>,
-    controller: &mut RawController<P, K>,
-    out: &mut Output<W>,
-) -> Option<Problem<'a>>
-    ensures faults { ⟦<Output<W> as Sink>⟧.faults out.new ≡
-        ⟦<Output<W> as Sink>⟧.faults out.old + faults_of_problem result }
-    ensures prints { PrintsLive wording.entry command.now
-        (live_state (seen_of P.seen controller.old) (last_words controller.old) out.old)
-        (live_state (seen_of P.seen controller.new) (last_words controller.new) out.new) result }
-{
-    let before = out.get_ref().get_ref().faults();
-    let ending = print_live(alloc, controller, command, wording, out);
-    let watch = out.get_ref().get_ref();
-    let has_faults = watch.faults() != before;
-    let is_closed = watch.is_closed();
-    let problem = Problem::of(ending, None, has_faults, is_closed);
-    // if out of memory for the tool's output, the message is that of the refusal
-    let said = controller
-        .lost()
-        .and_then(|text| lost_line(alloc, text).ok());
-    Problem::of_live(problem, said)
+impl<P: Peer + Drop, K: Clock + Drop> Connection for RawController<P, K> {
+    ghost lost = { λ controller. last_words controller };
+
+    fn last_line(&self, alloc: Global) -> Option<String> {
+        self.lost().and_then(|text| lost_line(alloc, text).ok())
+    }
 }
 
 /// The controller that the pipes lead to.
@@ -155,97 +131,24 @@ pub(crate) fn controller_of<'a, R: Files + Clock + AllocGlobal>(
     RawController::new(Piped::new(live.tool, pipes), rt, pause)
 }
 
-/// Runs the command over the controller, and prints the line at the end of objects. Returns the problem, if it did not print
-/// everything.
-fn print_run_over<'a, P: Peer + Drop, K: Clock + Drop, W: Write + Drop>(
-    alloc: Global,
-    command: &'a Command,
-    wording: Wording<'a>,
-    controller: &mut RawController<P, K>,
-    out: &mut Output<W>,
-) -> Option<Problem<'a>>
-    ensures faults { ⟦<Output<W> as Sink>⟧.faults out.new ≡
-        ⟦<Output<W> as Sink>⟧.faults out.old + faults_of_problem result }
-    ensures prints { PrintsLiveRun wording.entry command.now
-        (live_state (seen_of P.seen controller.old) (last_words controller.old) out.old)
-        (live_state (seen_of P.seen controller.new) (last_words controller.new) out.new) result }
-{
-    let before = lines_of(out);
-    let problem = print_over(alloc, command, wording, controller, out);
-    end_run(alloc, wording, before, problem, NAME, true, out)
-}
-
-/// Runs each command over the controller, in this wording, reports its problem, and returns the highest exit status.
-fn print_each_over<P: Peer + Drop, K: Clock + Drop, W: Write + Drop, E: MessageSink>(
-    alloc: Global,
-    commands: &[Command],
-    wording: Wording<'_>,
-    controller: &mut RawController<P, K>,
-    out: &mut Output<W>,
-    err: &mut E,
-) -> u8
-    ensures { (room : Bool) × RunsEach (PrintsLiveRun wording.entry) (Tells (codes "the controller") true) commands.now
-        (live_state (seen_of P.seen controller.old) (last_words controller.old) out.old)
-        (live_state (seen_of P.seen controller.new) (last_words controller.new) out.new)
-        (E.received err.old) (E.received err.new) (result, room) }
-{
-    let mut highest = 0;
-    for command in commands {
-        let problem = print_run_over(alloc, command, wording, controller, out);
-        highest = highest.max(say_problem(&problem, NAME, true, err));
-        if !Problem::goes_on(&problem) {
-            return highest;
-        }
-    }
-    highest
-}
-
-/// Runs the commands over the live controller, in this wording, and returns the highest exit status.
-fn print_live_controller<R: Files + Clock + AllocGlobal, W: Write + Drop, E: MessageSink>(
+/// Prints what the query asks for from the live controller, and returns the exit status.
+pub(crate) fn print_live<R: Files + Clock + AllocGlobal, W: Write + Drop, E: MessageSink>(
     rt: &R,
-    commands: &[Command],
-    wording: Wording<'_>,
+    settings: &Settings,
+    query: &Query,
     live: Live<'_>,
     out: &mut Output<W>,
     err: &mut E,
-) -> u8
-    ensures { PrintsLiveRuns wording.entry commands.now out.old out.new (E.received err.old) (E.received err.new) result }
+) -> (u8, bool)
+    requires { IsQuery query.now }
+    ensures { PrintsLive settings.now query.now (out_of out.old) (out_of out.new) (E.received err.old) (E.received err.new) result }
 {
-    let mut controller = controller_of(rt, live);
-    print_each_over(rt.alloc(), commands, wording, &mut controller, out, err)
-}
-
-/// Runs the commands over the live controller, prints texts, and returns the highest exit status.
-pub(crate) fn print_live_texts<R: Files + Clock + AllocGlobal, W: Write + Drop, E: MessageSink>(
-    rt: &R,
-    commands: &Commands,
-    live: Live<'_>,
-    out: &mut Output<W>,
-    err: &mut E,
-) -> u8
-    ensures { PrintsLiveRuns (text_wording commands.now.in_words) commands.now.all.items out.old out.new
-        (E.received err.old) (E.received err.new) result }
-{
-    let wording = wording_of(commands.in_words);
-    print_live_controller(rt, commands.all.as_slice(), wording, live, out, err)
-}
-
-/// Runs the commands over the live controller, prints objects, and returns the highest exit status.
-pub(crate) fn print_live_objects<R: Files + Clock + AllocGlobal, W: Write + Drop, E: MessageSink>(
-    rt: &R,
-    commands: &Commands,
-    own: &Own,
-    live: Live<'_>,
-    out: &mut Output<W>,
-    err: &mut E,
-) -> u8
-    ensures { PrintsLiveObjects own.now.labels commands.now.all.items out.old out.new
-        (E.received err.old) (E.received err.new) result }
-{
-    let Ok(labels) = labels_of(rt.alloc(), own, None) else {
-        let problem = Some(Problem::Failed(Failure::OutOfMemory));
-        return say_problem(&problem, NAME, true, err);
+    let alloc = rt.alloc();
+    let Ok(labels) = labels_of(alloc, settings.labels(), None) else {
+        let report = settings.report(&[], NAME, true);
+        return report.tell(&Some(RunError::Failed(Failure::OutOfMemory)), err);
     };
-    let json = Wording::Json(labels.as_slice());
-    print_live_controller(rt, commands.all.as_slice(), json, live, out, err)
+    let report = settings.report(labels.as_slice(), NAME, true);
+    let mut controller = controller_of(rt, live);
+    print_query(alloc, &mut controller, settings.limits, query, &report, out, err)
 }

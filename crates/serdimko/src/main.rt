@@ -3,44 +3,44 @@
 #![tactic(auto)]
 
 ghost use Rattle.std.specs.Prelude.{◌≤◌, IfSome};
-ghost use Rattle.ipmi_command_line.specs.Request.{IsAction, IsRequest};
+ghost use Rattle.ipmi_command_line.specs.Request.{IsRequest};
+ghost use Rattle.serdimko.specs.Settings.{IsQuery};
 
-mod asked;
 mod capture;
 mod causes;
-mod fault_lines;
+mod closable;
+mod driver;
+mod ending;
 mod help;
 mod images;
 mod labels;
 mod live;
 mod mistake;
-mod objects;
-mod own;
-mod problem;
-mod watch;
+mod report;
+mod run_error;
 
-use asked::{Commands, commands_of, part_of};
 use capture::capture_live;
+use closable::Closable;
+use driver::Query;
 use help::{SHORT, VERSION, help_on};
 use images::print_images;
 use ipmi_command_line::{
-    Action, Command, Format, Limits, LiveTool, Request, Source, Task, UsageError, UsageFault, Word,
-    Words, request_of,
+    Action, DEFAULT_PART, Format, Limits, LiveTool, Request, Source, Task, UsageError, UsageFault,
+    Word, Words, request_of,
 };
-use ipmi_commands::report;
+use ipmi_commands::{RequestLimits, report};
 use ipmi_output::Part::{self, Name, Number, Text};
 use ipmi_output::{Failure, MessageSink, Written, say_line};
 use ipmi_program::read_words;
 use labels::wrong_label;
-use live::{Live, print_live_objects, print_live_texts};
+use live::{Live, print_live};
 use mistake::maybe_unquoted;
-use own::Own;
-use problem::{CLOSED, INCOMPLETE};
+use report::Settings;
+use run_error::{CLOSED, INCOMPLETE};
 use std::alloc::{AllocError, Global};
 use std::env::{Env, FillError};
 use std::io::{self, BufWriter, ErrorKind, IsTerminal, Write};
 use std::process::ExitCode;
-use watch::Watch;
 
 /// The exit status of an invalid command line.
 const USAGE: u8 = 2;
@@ -126,96 +126,71 @@ fn run<E: MessageSink>(rt: &HostRuntime, request: Request, err: &mut E) -> Resul
             quiet,
             err,
         ),
-        action => run_action(rt, action, &source, &limits, format, strict, err),
+        Action::Print(task, from) => {
+            let settings = settings_of(limits, format, strict);
+            run_query(rt, &Query::Print(task, from), &source, &settings, err)
+        }
+        Action::GetSensors(names, from) => {
+            let settings = settings_of(limits, format, strict);
+            run_query(rt, &Query::Sensors(names, from), &source, &settings, err)
+        }
+        Action::Rewrite => {
+            let settings = settings_of(limits, format, strict);
+            run_query(rt, &Query::Print(Task::Rewrite, None), &source, &settings, err)
+        }
     }
 }
 
-/// Copies of all words but the first.
-fn after_first(alloc: Global, words: &[Word]) -> Result<Words, AllocError> {
-    let mut rest = Words::new(alloc);
-    for word in words.get(1..).unwrap_or(&[]) {
-        rest.push(word.as_str())?;
-    }
-    Ok(rest)
+/// The largest number of bytes per request, if none was given, and the tries.
+fn limits_of(limits: Limits) -> RequestLimits
+    requires { IfSome limits.part (λ n. (1 ≤ n) × (n ≤ 254)) }
+{
+    RequestLimits::new(limits.part.unwrap_or(DEFAULT_PART), limits.tries)
 }
 
-/// Prints what an action asks for, from each input.
-fn run_action<E: MessageSink>(
+fn settings_of(limits: Limits, format: Format, strict: bool) -> Settings
+    requires { IfSome limits.part (λ n. (1 ≤ n) × (n ≤ 254)) }
+{
+    Settings {
+        limits: limits_of(limits),
+        format,
+        strict,
+    }
+}
+
+/// Prints what a query asks for, from each input.
+fn run_query<E: MessageSink>(
     rt: &HostRuntime,
-    action: Action,
+    query: &Query,
     source: &Source,
-    limits: &Limits,
-    format: Format,
-    strict: bool,
+    settings: &Settings,
     err: &mut E,
 ) -> Result<u8, AllocError>
-    requires action { IsAction action }
-    requires part { IfSome limits.now.part (λ n. (1 ≤ n) × (n ≤ 254)) }
+    requires { IsQuery query.now }
 {
-    let in_words = matches!(format, Format::Descriptive);
-    let (json, labels) = match format {
-        Format::Json(labels) => (true, labels),
-        Format::Plain | Format::Descriptive => (false, Words::new(rt.alloc())),
-    };
-    if json && strict {
-        // faults are counted in lines of text
-        let rule = "--strict does not go with --json: each object names its faults";
-        return Ok(refuse(&[Text(rule)], err));
-    }
-    let images = match source {
-        Source::Images(images) => after_first(rt.alloc(), images.as_slice())?,
-        Source::Live(..) => Words::new(rt.alloc()),
-    };
-    let own = Own {
-        strict,
-        json,
-        labels,
-        images,
-    };
-    if let Some(line) = wrong_label(rt.alloc(), &own)? {
+    if let Some(line) = wrong_label(rt.alloc(), settings.labels())? {
         return Ok(refuse(&line, err));
     }
-    let is_of_names = matches!(action, Action::GetSensors(..));
-    let all = commands_of(rt.alloc(), action, limits)?;
-    let commands = Commands { all, in_words };
-    let status = run_commands(rt, &commands, source, &own, err)?;
-    if is_of_names {
-        advise(rt, status, &commands, err);
+    let status = match source {
+        Source::Images(images) => print_from(rt, query, images.as_slice(), None, settings, err)?,
+        Source::Live(tool, folder) => match live_of(rt, *tool, folder.as_str(), err)? {
+            Some(live) => print_from(rt, query, &[], Some(live), settings, err)?,
+            None => return Ok(USAGE),
+        },
+    };
+    if let Query::Sensors(names, _) = query {
+        advise(rt, status, names.as_slice(), err);
     }
     Ok(status)
 }
 
-/// Runs the commands, all over the same images or the same controller.
-fn run_commands<E: MessageSink>(
-    rt: &HostRuntime,
-    commands: &Commands,
-    source: &Source,
-    own: &Own,
-    err: &mut E,
-) -> Result<u8, AllocError> {
-    match source {
-        Source::Images(images) => print_commands(
-            rt,
-            commands,
-            images.as_slice().first(),
-            own,
-            None,
-            err,
-        ),
-        Source::Live(tool, folder) => match live_of(rt, *tool, folder.as_str(), err)? {
-            Some(live) => print_commands(rt, commands, None, own, Some(live), err),
-            None => Ok(USAGE),
-        },
-    }
-}
-
 /// Says, after a run that lacks something, that the words may be one name.
-fn advise<E: MessageSink>(rt: &HostRuntime, status: u8, commands: &Commands, err: &mut E) {
+fn advise<E: MessageSink>(rt: &HostRuntime, status: u8, names: &[Word], err: &mut E) {
     if status != INCOMPLETE {
         return;
     }
     // without memory there is no advice
-    if let Ok(Some(line)) = maybe_unquoted(rt.alloc(), commands.all.as_slice()) {
+    if let Ok(Some(line)) = maybe_unquoted(rt.alloc(), names) {
         let _ = say_line(err, &line);
     }
 }
@@ -260,12 +235,11 @@ fn run_capture<E: MessageSink>(
     let Some(live) = live_of(rt, *tool, folder.as_str(), err)? else {
         return Ok(USAGE);
     };
-    let command = Command::new(Task::Hex, None, part_of(limits), limits.tries, None);
     let is_shown = !quiet && rt.stderr().is_terminal();
     let terminal = if is_shown { Some(rt.stderr()) } else { None };
     capture_live(
         rt,
-        &command,
+        limits_of(*limits),
         live,
         output,
         terminal,
@@ -274,16 +248,18 @@ fn run_capture<E: MessageSink>(
     )
 }
 
-/// Runs the commands over each image, of which `image` is the first, or over the controller, with buffered output.
-fn print_commands<E: MessageSink>(
+/// Prints what a query asks for from these images, or from the live controller if there is one, with buffered output.
+fn print_from<E: MessageSink>(
     rt: &HostRuntime,
-    commands: &Commands,
-    image: Option<&Word>,
-    own: &Own,
+    query: &Query,
+    images: &[Word],
     live: Option<Live<'_>>,
+    settings: &Settings,
     err: &mut E,
-) -> Result<u8, AllocError> {
-    if live.is_none() && image.is_none() && rt.stdin().is_terminal() {
+) -> Result<u8, AllocError>
+    requires { IsQuery query.now }
+{
+    if live.is_none() && images.is_empty() && rt.stdin().is_terminal() {
         // otherwise it would wait for an image in silence
         let _ = say_line(
             err,
@@ -292,12 +268,11 @@ fn print_commands<E: MessageSink>(
             )],
         );
     }
-    let writer = Watch::new(io::writer(rt), own.strict);
+    let writer = Closable::new(io::writer(rt));
     let mut out = Written::new(BufWriter::new(rt.alloc(), writer).or(Err(AllocError))?);
-    let status = match live {
-        Some(live) if own.json => print_live_objects(rt, commands, own, live, &mut out, err),
-        Some(live) => print_live_texts(rt, commands, live, &mut out, err),
-        None => print_images(rt, commands, image, own, &mut out, err),
+    let (status, _) = match live {
+        Some(live) => print_live(rt, settings, query, live, &mut out, err),
+        None => print_images(rt, settings, query, images, &mut out, err),
     };
     // bytes left by a failed flush are not written again
     let _ = out.into_inner().into_parts();

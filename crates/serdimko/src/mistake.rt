@@ -1,7 +1,7 @@
 //! Messages as the parts of a line.
 ghost use Rattle.std.specs.Prelude.{◌≡◌, IfOk};
 
-use ipmi_command_line::{Command, Task};
+use ipmi_command_line::Word;
 use ipmi_output::Part::{self, Name, Text};
 use std::alloc::{AllocError, Global};
 
@@ -20,26 +20,18 @@ fn is_quoted(name: &str) -> bool {
     name.bytes().any(|byte| byte == b' ' || byte == b'\'' || byte.is_ascii_control())
 }
 
-/// The name in a command.
-fn name_of(command: &Command) -> &str {
-    match command.task() {
-        Task::Get(name) => name.as_str(),
-        _ => "",
-    }
-}
-
 /// What to say after a run of `sensor get` that lacks something: the words may be one name that was not quoted.
 pub(crate) fn maybe_unquoted<'a>(
     alloc: Global,
-    commands: &'a [Command],
+    names: &'a [Word],
 ) -> Result<Option<Line<'a>>, AllocError> {
-    if commands.len() < 2 || commands.iter().any(|command| is_quoted(name_of(command))) {
+    if names.len() < 2 || names.iter().any(|name| is_quoted(name.as_str())) {
         return Ok(None);
     }
     let rule = "'sensor get' takes each word as a name: quote a name that has spaces";
     let mut parts = line(alloc, &[Text(rule)])?;
-    if let [first, second] = commands {
-        let (first, second) = (Name(name_of(first)), Name(name_of(second)));
+    if let [first, second] = names {
+        let (first, second) = (Name(first.as_str()), Name(second.as_str()));
         for part in [Text(", as '"), first, Text(" "), second, Text("'")] {
             parts.push(part)?;
         }

@@ -3,19 +3,19 @@ use Rattle.serdimko.proofs.ImageLemmas.{from_next, none_left, printed_all, print
 use Rattle.serdimko.specs.Objects.{PrintsImage}
 use Rattle.serdimko.proofs.images.print_images.Goals as goal
 
-pub returns-then-not-has_room : goal.returns-then-not-has_room
-returns-then-not-has_room g c =
+pub returns-then-not-is_output_open : goal.returns-then-not-is_output_open
+returns-then-not-is_output_open g c =
     printed_last (PrintsImage c.args.own.now c.args.commands.now) (option_map (λ image. image.now) c.args.first) _ c.args.out.now _
-    (g.E.MessageSink.received c.args.err.now) _ c.print_image-highest.result c.print_image-highest.ensures c.if-not-has_room.true
+    (g.E.MessageSink.received c.args.err.now) _ c.print_image-highest.result c.print_image-highest.ensures c.if-not-is_output_open.true
 
 pub loop-image-init : goal.loop-image-init
 loop-image-init g c =
     printed_first (PrintsImage c.args.own.now c.args.commands.now) (option_map (λ image. image.now) c.args.first)
     (map Some c.args.own.now.images) c.args.out.now _ (g.E.MessageSink.received c.args.err.now) _
-    c.print_image-highest.result c.print_image-highest.ensures c.if-not-has_room.false
+    c.print_image-highest.result c.print_image-highest.ensures c.if-not-is_output_open.false
 
-pub returns-then-not-has_room-2 : goal.returns-then-not-has_room-2
-returns-then-not-has_room-2 g c =
+pub returns-then-not-is_output_open-2 : goal.returns-then-not-is_output_open-2
+returns-then-not-is_output_open-2 g c =
     let items = c.as_slice-image-items.ensures in
     let test = rw items at c.loop-image-test.true in
     rw c.max-highest.ensures (printed_up_to (PrintsImage c.args.own.now c.args.commands.now) (Some c.image-item.result)
@@ -24,7 +24,7 @@ returns-then-not-has_room-2 g c =
     (option_map (λ image. image.now) c.args.first ∷ map Some c.args.own.now.images) c.args.out.now
     (g.E.MessageSink.received c.args.err.now) c.loop-image.highest
     (rw (from_next c.args.own.now.images c.loop-image.image-index _ _ (omega (arith, test)) (rw items at c.image-item.is))
-    at c.loop-image.invariant) c.if-not-has_room-2.true)
+    at c.loop-image.invariant) c.if-not-is_output_open-2.true)
 
 pub loop-image-preserved : goal.loop-image-preserved
 loop-image-preserved g c =
@@ -36,7 +36,7 @@ loop-image-preserved g c =
     (option_map (λ image. image.now) c.args.first ∷ map Some c.args.own.now.images) c.args.out.now
     (g.E.MessageSink.received c.args.err.now) c.loop-image.highest
     (rw (from_next c.args.own.now.images c.loop-image.image-index _ _ (omega (arith, test)) (rw items at c.image-item.is))
-    at c.loop-image.invariant) c.if-not-has_room-2.false)
+    at c.loop-image.invariant) c.if-not-is_output_open-2.false)
 
 pub returns : goal.returns
 returns g c =

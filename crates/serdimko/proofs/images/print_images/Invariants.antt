@@ -1,11 +1,10 @@
 -- So far each image before this one was printed.
-use Rattle.std.proofs.Common.{◌∷◌, Some, drop, map, option_map}
-use Rattle.serdimko.specs.Objects.{PrintsImage}
-use Rattle.serdimko.proofs.ImageLemmas.{PrintedTo}
+use Rattle.serdimko.specs.Images.{PrintsOne}
+use Rattle.serdimko.specs.Out.{out_of}
+use Rattle.serdimko.proofs.EachLemmas.{PrintedTo}
 use Rattle.serdimko.proofs.images.print_images.Given as goal
 
 abbrev pub invariant-loop-image : goal.invariant-loop-image
 invariant-loop-image g l =
-    PrintedTo (PrintsImage l.own l.commands)
-    (option_map (λ image. image.now) l.first ∷ map Some l.own.images) l.fn.out (g.E.MessageSink.received l.fn.err)
-    (map Some (drop l.image-index l.own.images)) l.out (g.E.MessageSink.received l.err) l.highest
+    PrintedTo (PrintsOne l.settings l.query l.is_only_input) l.images (out_of l.fn.out) (g.E.MessageSink.received l.fn.err)
+    l.image-index (out_of l.out) (g.E.MessageSink.received l.err) l.highest

@@ -1,5 +1,0 @@
-use Rattle.std.proofs.Common.{rules}
-use Rattle.serdimko.proofs.problem.Problem.status.Goals as goal
-
-pub returns-in-Faulty : goal.returns-in-Faulty
-returns-in-Faulty c = search rules

@@ -1,0 +1,138 @@
+-- What is printed of each image.
+use Rattle.std.specs.Prelude.{◌≡◌, ◌⊎◌, ◌+◌, ◌==◌, ◌||◌, not, ℕ, Bool, true, false, IsTrue, List, [], ◌∷◌, ◌++◌, bytes_eq, codes, length, map, Option, None, Some, Result, Ok, Err, Vec, if◌then◌else◌}
+use Rattle.std.specs.Borrow.{Bor}
+use Rattle.std.specs.declared.alloc.Global.{Global}
+use Rattle.ipmi_bus.specs.Seen.{IsHonest, Seen}
+use Rattle.ipmi_bus.specs.Store.{Store}
+use Rattle.ipmi_command_line.specs.declared.request.Format.{Format}
+use Rattle.ipmi_command_line.specs.declared.task.Task.{Task}
+use Rattle.ipmi_commands.specs.Prelude.{IsRewriting}
+use Rattle.ipmi_commands.specs.declared.limits.RequestLimits.{RequestLimits}
+use Rattle.ipmi_json.specs.declared.object.Label.{Label}
+use Rattle.ipmi_image.specs.Cause.{cause_of}
+use Rattle.ipmi_image.specs.Image.{store_of_image}
+use Rattle.ipmi_image.specs.declared.cause.FaultCause.{FaultCause}
+use Rattle.ipmi_image.specs.declared.image.ImageFault.{ImageFault}
+use Rattle.ipmi_output.specs.Failure.{escaped_name, line_text}
+use Rattle.ipmi_output.specs.Received.{Received}
+use Rattle.ipmi_output.specs.Sink.{TakesPart}
+use Rattle.ipmi_output.specs.declared.failure.Failure.{Failure}
+use Rattle.ipmi_program.specs.Input.{input_name}
+use Rattle.ipmi_program.specs.declared.input.InputFault.{InputFault}
+use Rattle.serdimko.specs.Labels.{key_value, labels_of}
+use Rattle.serdimko.specs.declared.driver.Query.{Query}
+use Rattle.serdimko.specs.declared.report.Report.{Report}
+use Rattle.serdimko.specs.declared.report.Settings.{Settings}
+use Rattle.serdimko.specs.declared.run_error.RunError.{RunError}
+use Rattle.serdimko.specs.Out.{Out, state}
+use Rattle.serdimko.specs.Printing.{Each, EndsIn, PrintsQuery, Reports, RunsThenEnds}
+use Rattle.serdimko.specs.RunError.{faults_of_error, is_output_open, no_image, output_error, Tells, unread}
+use Rattle.serdimko.specs.Settings.{is_json, texts_of, wording_of}
+
+-- ---- one image
+
+-- no run: only the error is reported, and the line at the end of objects is printed
+pub record Fails (report : Report) (error : RunError) (old new : Out) (said said' : Received) (result : ℕ × Bool) : Type 0 where
+  pub last : Option RunError
+  pub ends : EndsIn report 0 old new (Some error) last
+  pub counts : new.faults + faults_of_error (Some error) ≡ old.faults + faults_of_error last
+  pub reports : Reports report last said said' result
+
+-- the image is rewritten
+pub record Rewrites (report : Report) (store : Store) (old new : Out) (said said' : Received) (result : ℕ × Bool) : Type 0 where
+  pub last : Option RunError
+  pub runs : RunsThenEnds report (λ before after ending. IsRewriting store before after ending) None old new last
+  pub reports : Reports report last said said' result
+
+-- the query runs over a controller that holds the image, is honest, never busy, and cancels nothing
+abbrev pub PrintsStore : RequestLimits → Query → Report → Store → Out → Out → Received → Received → ℕ × Bool → Type 0
+PrintsStore limits (Query.Print Task.Rewrite from) report store old new said said' result =
+    Rewrites report store old new said said' result
+PrintsStore limits query report store old new said said' result =
+    (seen seen' : Seen) × IsHonest seen × IsTrue seen.plain × (seen.store ≡ store)
+    × PrintsQuery limits query report (state seen None old) (state seen' None new) said said' result
+
+-- the rule that the bytes break; None also if memory ran out
+abbrev pub IsCause : List ℕ → ImageFault → Option FaultCause → Type 0
+IsCause bytes fault cause = (cause ≡ None) ⊎ (cause ≡ cause_of bytes fault)
+
+-- the bytes are an image, or they have a fault; memory may run out before that is known
+abbrev pub PrintsBytes : RequestLimits → Query → Report → List ℕ → Out → Out → Received → Received → ℕ × Bool → Type 0
+PrintsBytes limits query report bytes old new said said' result =
+    ((store : Store) × (store_of_image bytes ≡ Ok store) × PrintsStore limits query report store old new said said' result)
+    ⊎ ((fault : ImageFault) × (cause : Option FaultCause) × ((fault ≡ ImageFault.Memory) ⊎ (store_of_image bytes ≡ Err fault))
+    × IsCause bytes fault cause × Fails report (no_image fault cause) old new said said' result)
+
+abbrev pub PrintsInput : RequestLimits → Query → Report → Result (Vec ℕ Global) InputFault → Out → Out → Received → Received
+    → ℕ × Bool → Type 0
+PrintsInput limits query report (Err fault) old new said said' result = Fails report (unread fault) old new said said' result
+PrintsInput limits query report (Ok image) old new said said' result =
+    PrintsBytes limits query report image.items old new said said' result
+
+-- ---- its name and its labels
+
+-- what is reported of an input with this name; objects have the labels of these texts, and those of one of several images its name
+pub record IsReport (settings : Settings) (image : Option (List ℕ)) (name : List ℕ) (is_only_input : Bool) (report : Report) : Type 0 where
+  pub labels : Bor (List Label)
+  pub labels_are : map key_value labels.now ≡ labels_of image (texts_of settings.format)
+  pub wording : report.wording ≡ wording_of settings.format labels
+  pub strict : report.strict ≡ settings.strict
+  pub name_is : report.name.now ≡ name
+  pub input : report.is_only_input ≡ is_only_input
+
+-- texts of one of several images follow its name
+abbrev pub is_headed : Format → Bool → Bool
+is_headed format is_only_input = not (is_json format || is_only_input)
+
+abbrev pub header : List ℕ → List ℕ
+header name = line_text (codes "== " ++ escaped_name name)
+
+-- the label with the name of one of several images
+abbrev pub image_label : Bool → List ℕ → Option (List ℕ)
+image_label true name = None
+image_label false name = Some name
+
+-- nothing was printed, for this reason
+abbrev pub ReportsError : RunError → List ℕ → Bool → Received → Received → ℕ × Bool → Type 0
+ReportsError error name is_only_input said said' result =
+    Tells name is_only_input (Some error) said said' result.0 × (result.1 ≡ is_output_open (Some error))
+
+-- memory for the labels ran out, or the input is printed
+abbrev pub PrintsNamed : Settings → Query → Option (List ℕ) → Bool → Out → Out → Received → Received → ℕ × Bool → Type 0
+PrintsNamed settings query file is_only_input old new said said' result =
+    ((new ≡ old) × ReportsError (RunError.Failed Failure.OutOfMemory) (input_name file) is_only_input said said' result)
+    ⊎ ((report : Report) × (input : Result (Vec ℕ Global) InputFault)
+    × IsReport settings (image_label is_only_input (input_name file)) (input_name file) is_only_input report
+    × PrintsInput settings.limits query report input old new said said' result)
+
+-- after its name, if that could be printed
+abbrev pub PrintsFile : Bool → Settings → Query → Option (List ℕ) → Bool → Out → Out → Received → Received → ℕ × Bool → Type 0
+PrintsFile false settings query file is_only_input old new said said' result =
+    PrintsNamed settings query file is_only_input old new said said' result
+PrintsFile true settings query file is_only_input old new said said' result =
+    ((now : Out) × (now.taken ≡ old.taken ++ header (input_name file)) × (now.held ≡ [])
+    × PrintsNamed settings query file is_only_input now new said said' result)
+    ⊎ (TakesPart old.taken new.taken (header (input_name file)) × (new.faults ≡ old.faults + 1)
+    × ReportsError (output_error new.closed) (input_name file) is_only_input said said' result)
+
+-- the file, or standard input for `-`
+abbrev pub file_of : Option (List ℕ) → Option (List ℕ)
+file_of None = None
+file_of (Some name) = if bytes_eq name (codes "-") then None else Some name
+
+abbrev pub PrintsImage : Settings → Query → Bool → Option (List ℕ) → Out → Out → Received → Received → ℕ × Bool → Type 0
+PrintsImage settings query is_only_input image old new said said' result =
+    PrintsFile (is_headed settings.format is_only_input) settings query (file_of image) is_only_input old new said said' result
+
+-- ---- all images
+
+-- the next image follows if more can be printed
+abbrev pub PrintsOne : Settings → Query → Bool → List ℕ → Out → Out → Received → Received → ℕ × Bool → Bool → Type 0
+PrintsOne settings query is_only_input image old new said said' result follows =
+    PrintsImage settings query is_only_input (Some image) old new said said' result × (follows ≡ result.1)
+
+-- standard input if none is named
+abbrev pub PrintsImages : Settings → Query → List (List ℕ) → Out → Out → Received → Received → ℕ × Bool → Type 0
+PrintsImages settings query [] old new said said' result = PrintsImage settings query true None old new said said' result
+PrintsImages settings query (image ∷ images) old new said said' result =
+    Each (PrintsOne settings query (length (image ∷ images) == 1)) (image ∷ images) old new said said' result

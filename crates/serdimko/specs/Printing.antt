@@ -1,0 +1,179 @@
+-- What a run prints, how it ends, and what is reported.
+use Rattle.std.specs.Prelude.{◌≡◌, ◌⊎◌, ◌+◌, ◌-◌, ◌^◌, ◌≤◌, ◌==◌, ◌&&◌, not, if◌then◌else◌, ℕ, Bool, true, false, List, [], ◌++◌, ◌∷◌, max, min, Option, Some, None, Result, Ok, Err, String}
+use Rattle.std.specs.Str.Lossy.{utf8_lossy}
+use Rattle.std.specs.declared.alloc.Global.{Global}
+use Rattle.ipmi_bus.specs.CursorState.{start_of}
+use Rattle.ipmi_bus.specs.Seen.{AsksAtMost, IsHonest}
+use Rattle.ipmi_command_line.specs.declared.task.Task.{Task}
+use Rattle.ipmi_commands.specs.Prelude.{change, Job, job_in, most_on_walk, Output, Runs, Wording}
+use Rattle.ipmi_commands.specs.Sensors.{EndsSearch, Found, PrintsFound, Searches, with_readings}
+use Rattle.ipmi_commands.specs.declared.limits.RequestLimits.{RequestLimits}
+use Rattle.ipmi_json.specs.Info.{end_members}
+use Rattle.ipmi_json.specs.Object.{IsLineOf}
+use Rattle.ipmi_json.specs.declared.object.Label.{Label}
+use Rattle.ipmi_output.specs.Failure.{Ending}
+use Rattle.ipmi_output.specs.Received.{Received}
+use Rattle.ipmi_output.specs.Sink.{TakesPart}
+use Rattle.ipmi_output.specs.declared.failure.Failure.{Failure}
+use Rattle.ipmi_program.specs.Printing.{IsFlushed}
+use Rattle.serdimko.specs.declared.driver.Query.{Query}
+use Rattle.serdimko.specs.declared.report.Report.{Report}
+use Rattle.serdimko.specs.declared.run_error.RunError.{RunError}
+use Rattle.serdimko.specs.Out.{Out, State}
+use Rattle.serdimko.specs.RunError.{error_of, error_text, faults_of_error, is_output_open, is_recoverable, lost_error, output_error, status_of_error, Tells}
+
+-- ---- the object at the end of a run
+
+-- the message of an error; it is UTF-8, so nothing in it is replaced
+abbrev pub message_of : Report → Option RunError → Option (List ℕ)
+message_of report None = None
+message_of report (Some error) = Some (utf8_lossy (error_text report.name.now report.is_only_input error))
+
+-- the line with the status and the message of a run, and the number of its objects
+abbrev pub IsEndLine : List Label → ℕ → Report → Option RunError → List ℕ → Type 0
+IsEndLine labels count report error line =
+    IsLineOf (end_members (status_of_error error) (message_of report error) count) labels line
+
+-- the whole line was written, or only a part
+abbrev pub WritesEnd : List ℕ → Out → Out → Option RunError → Option RunError → Type 0
+WritesEnd line old new error last =
+    ((new.taken ≡ old.taken ++ line) × (new.held ≡ []) × (last ≡ error))
+    ⊎ (TakesPart old.taken new.taken line × (last ≡ Some (output_error new.closed)))
+
+-- `error` is that of the run, and `last` that of the run and its end line. Without room in the output nothing is printed.
+-- Otherwise a line with `IsEnd` is printed, or memory for it runs out.
+abbrev pub PrintsEnd : Bool → (List ℕ → Type 0) → Out → Out → Option RunError → Option RunError → Type 0
+PrintsEnd false IsEnd old new error last = (new ≡ old) × (last ≡ error)
+PrintsEnd true IsEnd old new error last =
+    ((new ≡ old) × (last ≡ Some (RunError.Failed Failure.OutOfMemory)))
+    ⊎ ((line : List ℕ) × IsEnd line × WritesEnd line old new error last)
+
+-- only objects are followed by such a line
+abbrev pub EndsInWording : Wording → Report → ℕ → Out → Out → Option RunError → Option RunError → Type 0
+EndsInWording (Wording.Json labels) report pieces old new error last =
+    PrintsEnd (is_output_open error) (IsEndLine labels.now pieces report error) old new error last
+EndsInWording wording report pieces old new error last = (new ≡ old) × (last ≡ error)
+
+abbrev pub EndsIn : Report → ℕ → Out → Out → Option RunError → Option RunError → Type 0
+EndsIn report pieces old new error last = EndsInWording report.wording report pieces old new error last
+
+-- ---- the end of a run
+
+-- a number as a `u64` shows it
+abbrev pub shown : ℕ → ℕ
+shown n = min n (2 ^ 64 - 1)
+
+-- the output of a run with this ending was flushed, which may have failed, and the end line follows; so many pieces were printed, and
+-- so many of them have a fault
+pub record EndsRun (report : Report) (pieces faults : ℕ) (said : Option (String Global)) (printed : Ending) (old new : Out)
+    (last : Option RunError) : Type 0 where
+  pub flushed : Out
+  pub ending : Ending
+  pub taken : flushed.taken ≡ old.taken
+  pub same_end : (ending ≡ printed) ⊎ (ending ≡ Err Failure.WriteFault)
+  pub empty : IsFlushed flushed.held ending
+  pub ends : EndsIn report (shown pieces) flushed new
+      (lost_error said (error_of ending (report.strict && not (faults == 0)) flushed.closed)) last
+
+-- A run whose output and ending `Prints` relates, and its end. `Prints` sees what was printed and counted: nothing before the run.
+pub record RunsThenEnds (report : Report) (Prints : Output → Output → Ending → Type 0) (said : Option (String Global)) (old new : Out)
+    (last : Option RunError) : Type 0 where
+  pub after : Out
+  pub printed : Ending
+  pub pieces : ℕ
+  pub faults : ℕ
+  pub prints : Prints (record { bytes = old.taken; pieces = 0; faults = 0 })
+      (record { bytes = after.taken; pieces = pieces; faults = faults }) printed
+  pub ends : EndsRun report pieces faults said printed after new last
+  pub counts : new.faults ≡ old.faults + faults_of_error last
+
+-- ---- a task
+
+-- over a controller; `image rewrite` is none
+abbrev pub RunsJob : Option Job → RequestLimits → State → State → Output → Output → Ending → Type 0
+RunsJob None limits old new before after ending =
+    (ending ≡ Err Failure.Usage) × (new.seen ≡ old.seen) × (after ≡ before)
+RunsJob (Some job) limits old new before after ending =
+    Runs job limits.tries (change old.seen new.seen before after) ending
+
+-- what a task prints of a controller: no part requested is too long; the tool's words are told only if the connection was lost
+pub record PrintsTask (limits : RequestLimits) (task : Task) (from : Option ℕ) (report : Report) (old new : State)
+    (last : Option RunError) : Type 0 where
+  pub said : Option (String Global)
+  pub lost : new.lost ≡ None → said ≡ None
+  pub asked : AsksAtMost limits.part old.seen new.seen
+  pub runs : RunsThenEnds report (RunsJob (job_in report.wording task from) limits old new) said old.out new.out last
+
+-- the exit status, and whether more can be printed, after a run with this error
+abbrev pub Reports : Report → Option RunError → Received → Received → ℕ × Bool → Type 0
+Reports report error said said' result =
+    Tells report.name.now report.is_only_input error said said' result.0 × (result.1 ≡ is_output_open error)
+
+-- ---- one after another
+
+-- Each item is printed and reported (`One` relates what is before and after it, its result, and whether the next one follows), up to
+-- one after which none follows. The result is the highest status, and whether more can be printed.
+abbrev pub Each : {A S : Type 0} → (A → S → S → Received → Received → ℕ × Bool → Bool → Type 0) → List A → S → S → Received → Received
+    → ℕ × Bool → Type 0
+Each One [] old new said said' result = (new ≡ old) × (said' ≡ said) × (result ≡ (0, true))
+Each {S = S} One (item ∷ items) old new said said'' result =
+    (now : S) × (said' : Received) × (one : ℕ × Bool) × (follows : Bool) × One item old now said said' one follows
+    × (((follows ≡ true) × ((rest : ℕ × Bool)
+    × Each One items now new said' said'' rest × (result ≡ (max one.0 rest.0, rest.1))))
+    ⊎ ((follows ≡ false) × (new ≡ now) × (said'' ≡ said') × (result ≡ one)))
+
+-- ---- sensors by their names
+
+-- the end of a run that printed so many blocks: there has to be one
+abbrev pub named_end : List ℕ → ℕ → Ending → Ending
+named_end name pieces (Ok done) = if pieces == 0 then Err (Failure.NoName name) else Ok done
+named_end name pieces (Err failure) = Err failure
+
+-- the blocks of what was found with this name
+pub record PrintsName (report : Report) (found : List Found) (name : List ℕ) (before after : Output) (ending : Ending) : Type 0 where
+  pub printed : Ending
+  pub prints : PrintsFound report.wording name found before after printed
+  pub ends : ending ≡ named_end name after.pieces printed
+
+-- the blocks of each name; the run ends with this failure, or with that of printing
+abbrev pub PrintsNames : Report → List Found → Failure → List (List ℕ) → Output → Output → Ending → Type 0
+PrintsNames report found failure [] before after ending = (after ≡ before) × (ending ≡ Err failure)
+PrintsNames report found failure (name ∷ names) before after ending =
+    ((now : Output) × PrintsFound report.wording name found before now (Ok tt)
+    × PrintsNames report found failure names now after ending)
+    ⊎ ((other : Failure) × PrintsFound report.wording name found before after (Err other) × (ending ≡ Err other))
+
+-- a run for one name; the next one follows, unless the error is not this run's own
+abbrev pub RunsName : Report → List Found → List ℕ → Out → Out → Received → Received → ℕ × Bool → Bool → Type 0
+RunsName report found name old new said said' result follows =
+    (error : Option RunError) × RunsThenEnds report (PrintsName report found name) None old new error
+    × Reports report error said said' result × (follows ≡ is_recoverable error)
+
+-- After a whole search each name has a run of its own, in the order of the names. After one that broke, what was found is printed, and
+-- one end follows.
+abbrev pub PrintsSearched : Ending → Report → List Found → List (List ℕ) → State → State → Received → Received → ℕ × Bool → Type 0
+PrintsSearched (Ok done) report found names old new said said' result =
+    Each (RunsName report found) names old.out new.out said said' result
+PrintsSearched (Err failure) report found names old new said said' result =
+    (line : Option (String Global)) × (last : Option RunError) × (new.lost ≡ None → line ≡ None)
+    × RunsThenEnds report (PrintsNames report found failure names) line old.out new.out last × Reports report last said said' result
+
+-- one walk finds the sensors with these names, and then they are printed
+pub record PrintsSensors (limits : RequestLimits) (names : List (List ℕ)) (from : Option ℕ) (report : Report) (old new : State)
+    (said said' : Received) (result : ℕ × Bool) : Type 0 where
+  pub found : List Found
+  pub searched : Ending
+  pub asked : AsksAtMost limits.part old.seen new.seen
+  pub calls : new.seen.calls ≤ old.seen.calls + most_on_walk with_readings limits.tries
+  pub may_end : EndsSearch new.seen searched
+  pub searches : IsHonest old.seen
+      → Searches names (start_of from) limits.tries old.seen new.seen [] found searched
+  pub prints : PrintsSearched searched report found names old new said said' result
+
+-- ---- a query
+
+abbrev pub PrintsQuery : RequestLimits → Query → Report → State → State → Received → Received → ℕ × Bool → Type 0
+PrintsQuery limits (Query.Print task from) report old new said said' result =
+    (last : Option RunError) × PrintsTask limits task from report old new last × Reports report last said said' result
+PrintsQuery limits (Query.Sensors names from) report old new said said' result =
+    PrintsSensors limits names from report old new said said' result

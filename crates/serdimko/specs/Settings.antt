@@ -1,0 +1,29 @@
+-- What the settings of a request ask for.
+use Rattle.std.specs.Prelude.{ℕ, Bool, true, false, List, []}
+use Rattle.std.specs.Borrow.{Bor}
+use Rattle.ipmi_command_line.specs.Command.{IsTask}
+use Rattle.ipmi_command_line.specs.declared.request.Format.{Format}
+use Rattle.ipmi_commands.specs.Job.{IsFrom}
+use Rattle.serdimko.specs.declared.driver.Query.{Query}
+use Rattle.ipmi_commands.specs.declared.job.Wording.{Wording}
+use Rattle.ipmi_json.specs.declared.object.Label.{Label}
+
+-- the numbers of a query are in their ranges
+abbrev pub IsQuery : Query → Type 0
+IsQuery (Query.Print task from) = IsTask task × IsFrom from
+IsQuery (Query.Sensors names from) = IsFrom from
+
+abbrev pub is_json : Format → Bool
+is_json (Format.Json texts) = true
+is_json format = false
+
+-- the labels of objects, as they were given
+abbrev pub texts_of : Format → List (List ℕ)
+texts_of (Format.Json texts) = texts
+texts_of format = []
+
+-- objects have these labels
+abbrev pub wording_of : Format → Bor (List Label) → Wording
+wording_of Format.Plain labels = Wording.Codes
+wording_of Format.Descriptive labels = Wording.Words
+wording_of (Format.Json texts) labels = Wording.Json labels

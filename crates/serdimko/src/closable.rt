@@ -1,0 +1,52 @@
+//! The output of the program, which may be closed by its reader.
+ghost use Rattle.std.specs.Prelude.{◌≡◌};
+ghost use Rattle.serdimko.specs.Out.{is_closed};
+
+use ipmi_output::Written;
+use std::io::{BufWriter, ErrorKind, Result, Write};
+
+/// A writer that notes when its reader has closed it.
+#[derive(Drop)]
+pub(crate) struct Closable<W: Write> {
+    writer: W,
+    is_closed: bool,
+}
+
+/// The output: a buffer over such a writer.
+pub(crate) type Output<W> = Written<BufWriter<Closable<W>>>;
+
+impl<W: Write> Closable<W> {
+    /// Over a writer, which is open.
+    pub(crate) fn new(writer: W) -> Closable<W>
+        ensures open { result.is_closed ≡ false }
+        ensures writer { result.writer ≡ writer }
+    {
+        Closable {
+            writer,
+            is_closed: false,
+        }
+    }
+}
+
+impl<W: Write> Write for Closable<W> {
+    ghost contents = { λ closable. W.contents closable.writer };
+
+    fn write(&mut self, buf: &[u8]) -> Result<usize> {
+        let taken = self.writer.write(buf);
+        if let Err(error) = &taken {
+            self.is_closed |= error.kind() == ErrorKind::BrokenPipe;
+        }
+        taken
+    }
+
+    fn flush(&mut self) -> Result<()> {
+        self.writer.flush()
+    }
+}
+
+/// Whether a write failed because the reader of the output has closed it.
+pub(crate) fn is_closed<W: Write + Drop>(out: &Output<W>) -> bool
+    ensures { result ≡ is_closed out.now }
+{
+    out.get_ref().get_ref().is_closed
+}

@@ -1,0 +1,195 @@
+//! Prints what a command asks for from a controller, live or over an image, and reports how each run ended.
+ghost use Rattle.std.specs.Prelude.{◌≡◌, List, None, Option, ℕ};
+ghost use Rattle.serdimko.specs.Out.{out_of, state};
+ghost use Rattle.ipmi_command_line.specs.Command.{IsTask};
+ghost use Rattle.ipmi_commands.specs.Prelude.{IsFrom, printed};
+ghost use Rattle.ipmi_output.specs.Failure.{write_faults};
+ghost use Rattle.serdimko.specs.Settings.{IsQuery};
+ghost use Rattle.serdimko.specs.Printing.{PrintsName, PrintsNames, PrintsQuery, PrintsSensors, PrintsTask, Each, RunsName, RunsThenEnds};
+
+use crate::closable::Output;
+use crate::ending::end_run;
+use crate::report::Report;
+use crate::run_error::RunError;
+use ipmi_bus::Controller;
+use ipmi_command_line::{Task, Word, Words};
+use ipmi_commands::{FoundSensors, Job, RequestLimits, Summary, execute, find_sensors, print_sensors};
+use ipmi_image::ImageController;
+use ipmi_output::{Failure, MessageSink, Name};
+use std::alloc::Global;
+use std::io::Write;
+
+/// A controller that may lose the connection to what it controls.
+pub(crate) trait Connection: Controller {
+    /// What its tool said at last, if the connection was lost.
+    ghost lost: { Self → Option (List ℕ) };
+
+    /// The same on a line. None also if memory ran out; the message is then that of a refusal.
+    fn last_line(&self, alloc: Global) -> Option<String>
+        ensures { lost self.now ≡ None → result ≡ None };
+}
+
+impl Connection for ImageController {
+    ghost lost = { λ _. None };
+
+    fn last_line(&self, _alloc: Global) -> Option<String> {
+        None
+    }
+}
+
+/// What is printed of each image or controller.
+#[derive(Drop)]
+pub(crate) enum Query {
+    /// What the task says, from this id on.
+    Print(Task, Option<u16>),
+    /// The block of each sensor with one of these names, from this id on.
+    Sensors(Words, Option<u16>),
+}
+
+/// Prints what the task says. Returns why it did not finish, if it did not.
+fn run_task<'a, C: Connection, W: Write + Drop>(
+    alloc: Global,
+    ctl: &mut C,
+    limits: RequestLimits,
+    task: &'a Task,
+    from: Option<u16>,
+    report: &Report<'a>,
+    out: &mut Output<W>,
+) -> Option<RunError<'a>>
+    requires task { IsTask task.now }
+    requires from { IsFrom from }
+    ensures { PrintsTask limits task.now from report.now
+        (state (C.seen ctl.old) (⟦<C as Connection>⟧.lost ctl.old) (out_of out.old))
+        (state (C.seen ctl.new) (⟦<C as Connection>⟧.lost ctl.new) (out_of out.new)) result }
+{
+    let mut summary = Summary::new();
+    let ending = match Job::of(task, from, report.wording) {
+        Some(job) => execute(alloc, ctl, limits, job, out, &mut summary),
+        // only an image can be rewritten
+        None => Err(Failure::Usage),
+    };
+    let said = ctl.last_line(alloc);
+    end_run(alloc, report, ending, said, &summary, out)
+}
+
+/// Prints the blocks of the found sensors with this name. Returns why it did not, also if there is none.
+fn run_name<'a, W: Write + Drop>(
+    alloc: Global,
+    found: &FoundSensors,
+    name: &'a str,
+    report: &Report<'_>,
+    out: &mut Output<W>,
+) -> Option<RunError<'a>>
+    ensures { RunsThenEnds report.now (PrintsName report.now found.now name.entry.now) None
+        (out_of out.old) (out_of out.new) result }
+{
+    let mut summary = Summary::new();
+    let ending = match print_sensors(alloc, found, name, report.wording, out, &mut summary) {
+        Ok(()) if summary.pieces() == 0 => Err(Failure::NoName(Name::new(name))),
+        ending => ending,
+    };
+    end_run(alloc, report, ending, None, &summary, out)
+}
+
+/// Prints the blocks of each name in turn, and reports each that no sensor has. Returns the highest exit status, and whether more
+/// can be printed.
+fn print_each_name<W: Write + Drop, E: MessageSink>(
+    alloc: Global,
+    found: &FoundSensors,
+    names: &[Word],
+    report: &Report<'_>,
+    out: &mut Output<W>,
+    err: &mut E,
+) -> (u8, bool)
+    ensures { Each (RunsName report.now found.now) names.now (out_of out.old) (out_of out.new)
+        (E.received err.old) (E.received err.new) result }
+{
+    let mut highest = 0;
+    for name in names {
+        let error = run_name(alloc, found, name.as_str(), report, out);
+        let (status, is_open) = report.tell(&error, err);
+        highest = highest.max(status);
+        if !RunError::is_recoverable(&error) {
+            return (highest, is_open);
+        }
+    }
+    (highest, true)
+}
+
+/// Prints the blocks of each name, after a search that ended with this failure.
+fn print_names<'a, W: Write + Drop>(
+    alloc: Global,
+    found: &FoundSensors,
+    names: &[Word],
+    failure: Failure<'a>,
+    report: &Report<'_>,
+    out: &mut Output<W>,
+    summary: &mut Summary,
+) -> Result<(), Failure<'a>>
+    ensures faults { (out_of out.new).faults ≡ (out_of out.old).faults + write_faults result }
+    ensures prints { PrintsNames report.now found.now failure.entry names.now
+        (printed (out_of out.old).taken summary.old) (printed (out_of out.new).taken summary.new) result }
+{
+    for name in names {
+        print_sensors(alloc, found, name.as_str(), report.wording, out, summary)?;
+    }
+    Err(failure)
+}
+
+/// Finds the sensors with these names in one walk, and prints their blocks in the order of the names.
+fn print_by_name<C: Connection, W: Write + Drop, E: MessageSink>(
+    alloc: Global,
+    ctl: &mut C,
+    limits: RequestLimits,
+    names: &[Word],
+    from: Option<u16>,
+    report: &Report<'_>,
+    out: &mut Output<W>,
+    err: &mut E,
+) -> (u8, bool)
+    requires { IsFrom from }
+    ensures { PrintsSensors limits names.now from report.now
+        (state (C.seen ctl.old) (⟦<C as Connection>⟧.lost ctl.old) (out_of out.old))
+        (state (C.seen ctl.new) (⟦<C as Connection>⟧.lost ctl.new) (out_of out.new))
+        (E.received err.old) (E.received err.new) result }
+{
+    let mut found = FoundSensors::new(alloc);
+    match find_sensors(alloc, ctl, limits, names, from, &mut found) {
+        Ok(()) => print_each_name(alloc, &found, names, report, out, err),
+        Err(failure) => {
+            let said = ctl.last_line(alloc);
+            let mut summary = Summary::new();
+            let ending = print_names(alloc, &found, names, failure, report, out, &mut summary);
+            let error = end_run(alloc, report, ending, said, &summary, out);
+            report.tell(&error, err)
+        }
+    }
+}
+
+/// Prints what the query asks for from the controller, and reports how each run ended. Returns the highest exit status, and whether
+/// more can be printed.
+pub(crate) fn print_query<C: Connection, W: Write + Drop, E: MessageSink>(
+    alloc: Global,
+    ctl: &mut C,
+    limits: RequestLimits,
+    query: &Query,
+    report: &Report<'_>,
+    out: &mut Output<W>,
+    err: &mut E,
+) -> (u8, bool)
+    requires { IsQuery query.now }
+    ensures { PrintsQuery limits query.now report.now
+        (state (C.seen ctl.old) (⟦<C as Connection>⟧.lost ctl.old) (out_of out.old))
+        (state (C.seen ctl.new) (⟦<C as Connection>⟧.lost ctl.new) (out_of out.new))
+        (E.received err.old) (E.received err.new) result }
+{
+    match query {
+        Query::Print(task, from) => {
+            let error = run_task(alloc, ctl, limits, task, *from, report, out);
+            report.tell(&error, err)
+        }
+        Query::Sensors(names, from) => {
+            print_by_name(alloc, ctl, limits, names.as_slice(), *from, report, out, err)
+        }
+    }
+}

@@ -1,0 +1,157 @@
+//! The end of a run: its output is flushed, and the object `end` follows the objects of a run.
+ghost use Rattle.std.specs.Prelude.{◌≡◌, ◌+◌, ◌-◌, ◌<◌, ◌++◌, [], IfOk, OnErr, OnOk, length, option_map, string_bytes, take};
+ghost use Rattle.std.specs.Str.Lossy.{utf8_lossy};
+ghost use Rattle.ipmi_commands.specs.Printed.{faults_of, pieces_of};
+ghost use Rattle.ipmi_output.specs.Failure.{write_faults};
+ghost use Rattle.ipmi_output.specs.Sink.{TakesPart};
+ghost use Rattle.ipmi_output.specs.Writer.{flush_faults};
+ghost use Rattle.serdimko.specs.Out.{out_of};
+ghost use Rattle.serdimko.specs.Printing.{EndsIn, EndsRun, IsEndLine, message_of, PrintsEnd, shown};
+ghost use Rattle.serdimko.specs.RunError.{error_text, faults_of_error, is_output_open, status_of_error};
+
+use crate::closable::{Output, is_closed};
+use crate::report::Report;
+use crate::run_error::RunError;
+use ipmi_commands::{Summary, Wording};
+use ipmi_json::{Label, end_line};
+use ipmi_output::{Failure, Sink, SinkFault, say_line, write_all};
+use ipmi_program::flush;
+use std::alloc::{AllocError, Global};
+use std::io::Write;
+
+/// A line without its line feed.
+fn without_line_feed(line: &[u8]) -> &[u8]
+    requires { 0 < length line.now }
+    ensures { result.now ≡ take (length line.now - 1) line.now }
+{
+    &line[..line.len() - 1]
+}
+
+/// The text of an error, as in its message.
+fn text_of(alloc: Global, error: &RunError<'_>, report: &Report<'_>) -> Result<String, AllocError>
+    ensures { IfOk result (λ text. string_bytes text ≡
+        utf8_lossy (error_text report.now.name.now report.now.is_only_input error.now)) }
+{
+    let mut line = Vec::new(alloc);
+    // the only failure is out of memory
+    say_line(&mut line, &error.parts(report.name, report.is_only_input)).or(Err(AllocError))?;
+    String::from_utf8_lossy(alloc, without_line_feed(line.as_slice()))
+}
+
+/// The message of an error, if there is one.
+fn message_of(
+    alloc: Global,
+    error: &Option<RunError<'_>>,
+    report: &Report<'_>,
+) -> Result<Option<String>, AllocError>
+    ensures { IfOk result (λ message.
+        option_map (λ text. string_bytes text) message ≡ message_of report.now error.now) }
+{
+    match error {
+        Some(error) => Ok(Some(text_of(alloc, error, report)?)),
+        None => Ok(None),
+    }
+}
+
+/// The exit status for an error, or for none.
+fn status_of(error: &Option<RunError<'_>>) -> u8
+    ensures { result ≡ status_of_error error.now }
+{
+    match error {
+        Some(error) => error.status(),
+        None => 0,
+    }
+}
+
+/// The line at the end of this many objects.
+fn line_at_end(
+    alloc: Global,
+    labels: &[Label<'_>],
+    count: u64,
+    error: &Option<RunError<'_>>,
+    report: &Report<'_>,
+) -> Result<Vec<u8>, AllocError>
+    ensures { IfOk result (λ line. IsEndLine labels.now count report.now error.now line.items) }
+{
+    let message = message_of(alloc, error, report)?;
+    let status = status_of(error);
+    end_line(alloc, status, message.as_deref(), count, labels)
+}
+
+/// Writes the line, and flushes it.
+fn write_line<W: Write + Drop>(out: &mut Output<W>, line: &[u8]) -> Result<(), SinkFault>
+    ensures ok { OnOk result (((out_of out.new).taken ≡ (out_of out.old).taken ++ line.now) × ((out_of out.new).held ≡ [])) }
+    ensures err { OnErr result (TakesPart (out_of out.old).taken (out_of out.new).taken line.now) }
+    ensures faults { (out_of out.new).faults ≡ (out_of out.old).faults + flush_faults result }
+{
+    write_all(out, line)?;
+    out.flush()
+}
+
+/// Prints the line at the end of this many objects of a run with this error, or without one, unless the output accepts no more.
+/// Returns the error, or that of this line.
+fn print_end<'a, W: Write + Drop>(
+    alloc: Global,
+    labels: &[Label<'_>],
+    count: u64,
+    error: Option<RunError<'a>>,
+    report: &Report<'_>,
+    out: &mut Output<W>,
+) -> Option<RunError<'a>>
+    ensures faults { (out_of out.new).faults + faults_of_error error.entry ≡
+        (out_of out.old).faults + faults_of_error result }
+    ensures ends { PrintsEnd (is_output_open error.entry) (IsEndLine labels.now count report.now error.entry)
+        (out_of out.old) (out_of out.new) error.entry result }
+{
+    if !RunError::is_output_open(&error) {
+        return error;
+    }
+    let Ok(line) = line_at_end(alloc, labels, count, &error, report) else {
+        return Some(RunError::Failed(Failure::OutOfMemory));
+    };
+    match write_line(out, line.as_slice()) {
+        Ok(()) => error,
+        Err(fault) => RunError::of(Err(Failure::from(fault)), false, is_closed(out)),
+    }
+}
+
+/// Ends a run with this error, or without one, that printed so many pieces: prints the line at the end of objects. Returns the
+/// error, or that of this line.
+pub(crate) fn end_with<'a, W: Write + Drop>(
+    alloc: Global,
+    report: &Report<'_>,
+    pieces: u64,
+    error: Option<RunError<'a>>,
+    out: &mut Output<W>,
+) -> Option<RunError<'a>>
+    ensures faults { (out_of out.new).faults + faults_of_error error.entry ≡
+        (out_of out.old).faults + faults_of_error result }
+    ensures ends { EndsIn report.now pieces (out_of out.old) (out_of out.new) error.entry result }
+{
+    match report.wording {
+        Wording::Json(labels) => print_end(alloc, labels, pieces, error, report, out),
+        Wording::Codes | Wording::Words => error,
+    }
+}
+
+/// Ends a run with this ending that printed this: flushes the output, and prints the line at the end of objects. `said` is what the
+/// tool of a live controller said if the connection was lost. Returns why the run did not finish, if it did not.
+pub(crate) fn end_run<'a, W: Write + Drop>(
+    alloc: Global,
+    report: &Report<'_>,
+    ending: Result<(), Failure<'a>>,
+    said: Option<String>,
+    summary: &Summary,
+    out: &mut Output<W>,
+) -> Option<RunError<'a>>
+    ensures faults { (out_of out.new).faults + write_faults ending.entry ≡
+        (out_of out.old).faults + faults_of_error result }
+    ensures ends { EndsRun report.now (pieces_of summary.now) (faults_of summary.now) said.entry ending.entry
+        (out_of out.old) (out_of out.new) result }
+{
+    let ending = flush(ending, out);
+    let is_faulty = report.strict && summary.faults() != 0;
+    let error = RunError::of(ending, is_faulty, is_closed(out));
+    let error = RunError::of_connection(error, said);
+    end_with(alloc, report, summary.pieces(), error, out)
+}

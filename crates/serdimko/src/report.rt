@@ -1,0 +1,107 @@
+//! How runs over one input are printed, and what is said of one that did not finish.
+ghost use Rattle.std.specs.Prelude.{◌≡◌, Some};
+ghost use Rattle.serdimko.specs.RunError.{is_output_open, Tells};
+ghost use Rattle.serdimko.specs.Settings.{is_json, texts_of, wording_of};
+
+use crate::run_error::{CLOSED, RunError};
+use ipmi_command_line::{Format, Word};
+use ipmi_commands::{RequestLimits, Wording};
+use ipmi_json::Label;
+use ipmi_output::{MessageSink, say_line};
+
+/// What holds for all inputs of a request.
+#[derive(Drop)]
+pub(crate) struct Settings {
+    /// What may be taken of a controller.
+    pub(crate) limits: RequestLimits,
+    /// The form of the output.
+    pub(crate) format: Format,
+    /// Whether a printed fault, or a missing device, is an error.
+    pub(crate) strict: bool,
+}
+
+impl Settings {
+    /// Whether objects are printed.
+    pub(crate) fn is_json(&self) -> bool
+        ensures { result ≡ is_json self.now.format }
+    {
+        matches!(self.format, Format::Json(_))
+    }
+
+    /// The labels of objects, each `KEY=VALUE`.
+    pub(crate) fn labels(&self) -> &[Word]
+        ensures { result.now ≡ texts_of self.now.format }
+    {
+        match &self.format {
+            Format::Json(labels) => labels.as_slice(),
+            Format::Plain | Format::Descriptive => &[],
+        }
+    }
+
+    /// How runs over this input are printed and reported; objects have these labels.
+    pub(crate) fn report<'a>(
+        &self,
+        labels: &'a [Label<'a>],
+        name: &'a str,
+        is_only_input: bool,
+    ) -> Report<'a>
+        ensures wording { result.wording ≡ wording_of self.now.format labels.entry }
+        ensures strict { result.strict ≡ self.now.strict }
+        ensures name { result.name.now ≡ name.entry.now }
+        ensures input { result.is_only_input ≡ is_only_input }
+    {
+        let wording = match &self.format {
+            Format::Plain => Wording::Codes,
+            Format::Descriptive => Wording::Words,
+            Format::Json(_) => Wording::Json(labels),
+        };
+        Report {
+            wording,
+            strict: self.strict,
+            name,
+            is_only_input,
+        }
+    }
+}
+
+/// How runs over one input are printed and reported.
+#[derive(Clone, Copy)]
+pub(crate) struct Report<'a> {
+    /// The form of the output.
+    pub(crate) wording: Wording<'a>,
+    /// Whether a printed fault, or a missing device, is an error.
+    pub(crate) strict: bool,
+    /// The name of the input in messages.
+    pub(crate) name: &'a str,
+    /// Whether it is the only input.
+    pub(crate) is_only_input: bool,
+}
+
+impl Report<'_> {
+    /// Writes the message of the error, unless the output was closed, and returns the exit status.
+    #[tactic(auto, using(crate::proofs::RunErrorLemmas::said_unless_closed))]
+    fn tell_one<E: MessageSink>(&self, error: &RunError<'_>, err: &mut E) -> u8
+        ensures { Tells self.now.name.now self.now.is_only_input (Some error.now) (E.received err.old) (E.received err.new) result }
+    {
+        match error {
+            RunError::Closed => CLOSED,
+            _ => {
+                // there is nowhere left to report that this failed
+                let _ = say_line(err, &error.parts(self.name, self.is_only_input));
+                error.status()
+            }
+        }
+    }
+
+    /// Writes the message of the error, if there is one, and returns the exit status, and whether more can be printed.
+    pub(crate) fn tell<E: MessageSink>(&self, error: &Option<RunError<'_>>, err: &mut E) -> (u8, bool)
+        ensures tells { Tells self.now.name.now self.now.is_only_input error.now (E.received err.old) (E.received err.new) result.0 }
+        ensures open { result.1 ≡ is_output_open error.now }
+    {
+        let status = match error {
+            Some(error) => self.tell_one(error, err),
+            None => 0,
+        };
+        (status, RunError::is_output_open(error))
+    }
+}
