@@ -15,6 +15,7 @@ mod PageLemmas
 mod PagesLaw
 mod PerformLemmas
 mod RunLemmas
+mod SensorLemmas
 mod SpotLemmas
 mod TraceLemmas
 mod UniqueLemmas

@@ -118,11 +118,11 @@ module _ (s s' : Seen) (honest : IsHonest s) (stays : KeepsStore s s') (Holds : 
 pub keeps_inventory : (id : ℕ) (s s' : Seen) → Keeps (λ store. store.inventories) s s' → Keeps (inventory_of id) s s'
 keeps_inventory id s s' keeps = keeps_through (λ (store : Store). store.inventories) (λ (l : List Inventory). inventory_in l id) s s' keeps
 
-if_keeps : (b : Bool) (spots : List Spot) (s s' : Seen) → KeepsAt spots s s' → KeepsAt (cond b spots []) s s'
+pub if_keeps : (b : Bool) (spots : List Spot) (s s' : Seen) → KeepsAt spots s s' → KeepsAt (cond b spots []) s s'
 if_keeps true spots s s' keeps = keeps
 if_keeps false spots s s' keeps = tt
 
-reading_keeps : (id : ℕ) (view : Result SdrView SdrFault) (s s' : Seen) → KeepsAt (reading_spots id view) s s'
+pub reading_keeps : (id : ℕ) (view : Result SdrView SdrFault) (s s' : Seen) → KeepsAt (reading_spots id view) s s'
 reading_keeps id (Ok view) s s' = if_keeps (is_some (sdr.reading_of view)) (AtRecord id ∷ []) s s' tt
 reading_keeps id (Err fault) s s' = tt
 
