@@ -156,6 +156,16 @@ keeps_at_same (AtInventory id ∷ spots) s s' keeps same = (keeps_same (inventor
 
 -- ---- the texts of steps
 
+-- from the next step on
+pub next_stays : (c : CursorState) (s : Seen) (steps : List Stepped) (seen' : Seen) → IsHonest s → AreSteps c s steps → StaysHonest (seen_after s steps) seen'
+    → StaysHonest s (seen_next steps seen') × StaysHonest (seen_next steps seen') seen'
+next_stays c s [] seen' honest are after = (after, stays_refl seen' after.honest)
+next_stays c s (step ∷ steps) seen' honest are after = (
+  are.0,
+  let made = (are.1.honest are.0.honest).stays in
+      stays_trans step.before step.seen seen' made (stays_trans step.seen (seen_after step.seen steps) seen' (steps_stay step.cursor step.seen steps made.honest are.2) after),
+)
+
 module _ (form : Form) (first last : Seen) (keeps : KeepsFor form first last) where
   abbrev W : Subject → Output → Type 0
   W = IsTextWhile first last
@@ -179,16 +189,6 @@ module _ (form : Form) (first last : Seen) (keeps : KeepsFor form first last) wh
       subst (AreTexts W (row_items form start rows)) (sym (joined ∙ ap (λ (o : Output). and_then o rest) is ∙ nothing_then rest)) (more start)
   of_result (Err ended) rows s s' start text one rest before stays after is more joined =
       subst (AreTexts W (row_items form start rows)) (sym (joined ∙ ap (λ (o : Output). and_then o rest) is ∙ nothing_then rest)) (more start)
-
-  -- from the next step on
-  next_stays : (c : CursorState) (s : Seen) (steps : List Stepped) (seen' : Seen) → IsHonest s → AreSteps c s steps → StaysHonest (seen_after s steps) seen'
-      → StaysHonest s (seen_next steps seen') × StaysHonest (seen_next steps seen') seen'
-  next_stays c s [] seen' honest are after = (after, stays_refl seen' after.honest)
-  next_stays c s (step ∷ steps) seen' honest are after = (
-    are.0,
-    let made = (are.1.honest are.0.honest).stays in
-        stays_trans step.before step.seen seen' made (stays_trans step.seen (seen_after step.seen steps) seen' (steps_stay step.cursor step.seen steps made.honest are.2) after),
-  )
 
   steps_texts : (c : CursorState) (s : Seen) (steps : List Stepped) (start : Place) (seen' : Seen) (text : Output)
       → StaysHonest first s → AreSteps c s steps → StaysHonest (seen_after s steps) seen' → StaysHonest seen' last

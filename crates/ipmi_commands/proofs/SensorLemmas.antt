@@ -2,11 +2,12 @@
 use Rattle.std.proofs.Common.{◌≡◌, ◌⊎◌, inl, inr, ℕ, ◌+◌, ◌<◌, ◌≤◌, IsTrue, Option, None, Some, Result, Ok, Err, List, [], ◌∷◌, ◌++◌, length, take, refl, sym, ap, subst, ◌∙◌, arith, append-nil, append_assoc, take_all, Bool, true, false, cond}
 use Rattle.std.specs.FinSet as set
 use Rattle.std.specs.List.{list_any}
+use Rattle.std.proofs.lemmas.Bool.Decides.{nat_tests}
 use Rattle.ipmi_bus.proofs.GrowthLaws.{steps_stay}
 use Rattle.ipmi_bus.proofs.StepsLaws.{steps_follow}
 use Rattle.ipmi_bus.proofs.WalkLemmas.{all_at_end}
 use Rattle.ipmi_commands.specs.Below.{AreSteps, CommandState, cursor_after, CursorHoldsCurrent, CursorState, Done, CycleAt, MissingAt, digits, End, Ended, EndsBy, Ending, Failure, First, first_row, handed_out, HandsOut, Id, IsHonest, IsShelf, IsStep, IsWalk, last_next, Place, place_after, place_after_rows, Reading, Row, rows_of, Sdr, SdrView, sdr_view_of, Seen, seen_after, Shelf, StandsAt, start_of, StaysHonest, StepIsHonest, Stepped, stays_refl, stays_trans, store_shelf, Store, WalkEnd, with_handed}
-use Rattle.ipmi_commands.specs.Prelude.{AsksAt, AtEnd, Cause, cause_of, cause_of_unread, EndsFor, failure_of, FindsIt, FindsNone, Form, IsFresh, is_name, KeepsAt, listing_cursor, most_after, most_for_one, NoMemory, OnWalk, reading_for, reading_spots, shelf_of, Unread}
+use Rattle.ipmi_commands.specs.Prelude.{AsksAt, AtEnd, Cause, cause_of, cause_of_unread, EndsFor, failure_of, FindsIt, FindsNone, Form, IsFresh, is_name, KeepsAt, listing_cursor, most_after, most_for_one, most_on_walk, NoMemory, OnWalk, reading_for, reading_spots, shelf_of, Unread}
 use Rattle.ipmi_records.specs.Sdr.{name_of}
 use Rattle.ipmi_commands.specs.Sensors.{EndsFound, FindsAlong, FindsBy, Found, found_among, found_by, found_of, found_of_result, found_spots, has_one_of, RowIsLost, SearchCalls, Searches, SearchesBy, StepEnds, with_readings}
 use Rattle.ipmi_commands.specs.Traced.{IsTraced, seen_next}
@@ -15,7 +16,7 @@ use Rattle.ipmi_commands.proofs.CallLemmas.{called_more, called_stopped, calls_e
 use Rattle.ipmi_commands.proofs.CountLemmas.{between, ends_here, ends_since}
 use Rattle.ipmi_commands.proofs.GrownListing.{split_last}
 use Rattle.ipmi_commands.proofs.ListingLemmas.{current-kept, holds_none, step_cause, step_ends}
-use Rattle.ipmi_commands.proofs.MeanwhileLemmas.{if_keeps, reading_keeps}
+use Rattle.ipmi_commands.proofs.MeanwhileLemmas.{if_keeps, next_stays, reading_keeps}
 use Rattle.ipmi_commands.proofs.TraceLemmas.{cursor_more, handed_joined, next_more, seen_more, steps_more}
 
 -- ---- what is found of a row
@@ -244,4 +245,127 @@ module _ {names : List (List ℕ)} {tries : ℕ} {begun now : CursorState} {s s'
             traced = all_traced step h last found.asks.ends.stays;
             found = all_found step h last more (found.is (if_keeps (has_one_of names (sdr_view_of row.bytes)) (reading_spots row.id (sdr_view_of row.bytes)) s'' last (reading_keeps row.id (sdr_view_of row.bytes) s'' last)));
           };
+    }
+
+-- ---- along a walk, if no store was added
+
+same_shelf : (c : CursorState) (s : Seen) (steps : List Stepped) → AreSteps c s steps
+    → (cursor_after c steps).shelf ≡ c.shelf
+same_shelf c s [] are = refl
+same_shelf c s (step ∷ steps) are = same_shelf step.cursor step.seen steps are.2 ∙ are.1.same.shelf
+
+found_result : (names : List (List ℕ)) (store : Store) (result : Result (Option Row) Ended) (rows : List Row)
+    → found_among names store (with_handed result rows)
+    ≡ found_of_result names store result ++ found_among names store rows
+found_result names store (Ok (Some row)) rows = refl
+found_result names store (Ok None) rows = refl
+found_result names store (Err ended) rows = refl
+
+-- each reading is over the same store
+found_steps : (names : List (List ℕ)) (c : CursorState) (s : Seen) (steps : List Stepped) (last : Seen)
+    → IsHonest s → AreSteps c s steps → StaysHonest (seen_after s steps) last → last.stores_added ≡ s.stores_added
+    → found_by names steps last ≡ found_among names s.store (handed_out steps)
+found_steps names c s [] last honest are stays same = refl
+found_steps names c s (step ∷ steps) last honest are stays same =
+    let made = (are.1.honest are.0.honest).stays in
+    let to_here = stays_trans s step.before step.seen are.0 made in
+    let next = next_stays step.cursor step.seen steps last made.honest are.2 stays in
+    let on = stays_trans s step.seen (seen_next steps last) to_here next.0 in
+    let here = between s step.seen last to_here (stays_trans step.seen (seen_next steps last) last next.0 next.1) same in
+    let there = between s (seen_next steps last) last on next.1 same in
+    let rest = found_steps names step.cursor step.seen steps last made.honest are.2 stays here.1 in
+    rw (on.store.stays there.0, rest, to_here.store.stays here.0) (sym (found_result names s.store step.result (handed_out steps)))
+
+-- the place after a whole walk is the end only if the walk ends with `Done`
+last_at_end : (next : ℕ) (walk : List Row) → place_after_rows (place_after next) walk ≡ End → last_next next walk ≡ 0xFFFF
+last_at_end next [] at = grind (arith, nat_tests)
+last_at_end next (row ∷ walk) at = last_at_end row.next walk at
+
+ends_done : (rows : List Row) (start : Place) (walk : List Row) (end : WalkEnd) → EndsBy rows start walk end
+    → place_after_rows start walk ≡ End → end ≡ Done
+ends_done rows start walk Done ends at = refl
+ends_done rows First [] (CycleAt n) ends at = absurd ends
+ends_done rows (Id id) [] (CycleAt n) ends at = cc at
+ends_done rows End [] (CycleAt n) ends at = absurd ends
+ends_done rows start (row ∷ walk) (CycleAt n) ends at = absurd (ends.1 (last_at_end row.next walk at))
+ends_done rows First [] (MissingAt n) ends at = absurd ends
+ends_done rows (Id id) [] (MissingAt n) ends at = cc at
+ends_done rows End [] (MissingAt n) ends at = absurd ends
+ends_done rows start (row ∷ walk) (MissingAt n) ends at = absurd (ends.1 (last_at_end row.next walk at))
+
+-- so does the walk of an empty shelf
+empty_done : (rows walk : List Row) (end : WalkEnd) → IsWalk rows First walk → EndsBy rows First walk end
+    → first_row rows ≡ None → end ≡ Done
+empty_done rows [] Done w ends none = refl
+empty_done rows [] (CycleAt n) w ends none = absurd ends
+empty_done rows [] (MissingAt n) w ends none = absurd ends
+empty_done rows (row ∷ walk) end w ends none = let is = w.first in cc (is, none)
+
+module _ (names : List (List ℕ)) (begun now : CursorState) (s s' : Seen) (old new : List Found) (start : Place)
+    (honest : IsHonest s) (same : s'.stores_added ≡ s.stores_added) (walk : List Row) (end : WalkEnd)
+    (w : IsWalk (rows_of begun.shelf s.store) start walk) (ends : EndsBy (rows_of begun.shelf s.store) start walk end)
+    (stands : StandsAt (rows_of begun.shelf s.store) start walk 0 begun) where
+  -- what was found by some steps is what is found of the first rows
+  first_found : (steps : List Stepped) (last : Seen) → AreSteps begun s steps → StaysHonest (seen_after s steps) last
+      → last.stores_added ≡ s.stores_added → new ≡ old ++ found_by names steps last
+      → (count : ℕ) × (new ≡ old ++ found_among names s.store (take count walk))
+      × StandsAt (rows_of begun.shelf s.store) start walk count (cursor_after begun steps)
+  first_found steps last are stays unchanged found =
+      let parts = between s (seen_after s steps) last (steps_stay begun s steps honest are) stays unchanged in
+      let at = steps_follow begun s steps start walk end honest w ends stands are parts.0 in
+      let those = found_steps names begun s steps last honest are stays unchanged in
+      (at.0, found ∙ ap (λ (l : List Found). old ++ l) (those ∙ ap (found_among names s.store) at.1), at.2)
+
+  -- a cursor at the end is after the whole walk
+  whole_walk : (k : ℕ) (c : CursorState) → c.shelf ≡ begun.shelf → StandsAt (rows_of begun.shelf s.store) start walk k c
+      → c.place ≡ End → (end ≡ Done) × (take k walk ≡ walk)
+  whole_walk k c shelf at place =
+      let all : k ≡ length walk = all_at_end c c s start walk k (store_shelf c.shelf s.store honest.store)
+      (subst (λ (x : Shelf). IsWalk (rows_of x s.store) start walk) (sym shelf) w)
+      (subst (λ (x : Shelf). StandsAt (rows_of x s.store) start walk k c) (sym shelf) at) place in
+      let rows : take k walk ≡ walk = take_all k walk (omega (arith, all)) in (
+        elim at.place [
+          | inl here ↦ ends_done (rows_of begun.shelf s.store) start walk end ends (ap (place_after_rows start) (sym rows) ∙ sym here ∙ place)
+          | inr none ↦ empty_done (rows_of begun.shelf s.store) walk end (rw none.1 at w) (rw none.1 at ends) none.2
+        ],
+        rows,
+      )
+
+  along : (ending : Ending) → FindsBy names begun now s s' old new ending → FindsAlong names s.store walk end old new ending
+  along (Ok done) f =
+      let at = first_found f.steps s' f.traced.are f.traced.stays same f.ends.1 in
+      let all = whole_walk at.0 (cursor_after begun f.steps) (same_shelf begun s f.steps f.traced.are) at.2 (ap (λ (c : CursorState). c.place) f.traced.cursor ∙ f.ends.0) in
+      (all.0, at.1 ∙ ap (λ (l : List Row). old ++ found_among names s.store l) all.1)
+  along (Err failure) f = elim f.ends [
+    | inl ended ↦ let at = first_found f.steps s' f.traced.are f.traced.stays same ended.found in (at.0, at.1)
+    | inr lost ↦
+        let parts = split_last begun s lost.done lost.step (subst (AreSteps begun s) lost.are f.traced.are) in
+        let before = stays_trans s (seen_after s lost.done) lost.step.before (steps_stay begun s lost.done honest parts.0) parts.1 in
+        let after = stays_trans lost.step.before lost.step.seen s' (parts.2.honest parts.1.honest).stays
+        (subst (λ (x : Seen). StaysHonest x s') (ap (seen_after s) lost.are ∙ seen_more s lost.done lost.step) f.traced.stays) in
+        let at = first_found lost.done lost.step.before parts.0 parts.1 (between s lost.step.before s' before after same).0 lost.found in
+        (at.0, at.1)
+  ]
+
+-- ---- a new cursor
+
+pub search_by_cursor : {command : CommandState} {form : Form} {from : Option ℕ} {names : List (List ℕ)} {tries : ℕ}
+    {begun now : CursorState} {s s' : Seen} {old new : List Found} {ending : Ending}
+    → IsFresh command form from begun → shelf_of form ≡ Sdr → IsHonest s
+    → SearchesBy names tries begun now s s' old new ending
+    → Searches names (start_of from) tries s s' old new ending
+search_by_cursor {form = form} {from = from} {names} {begun = begun} {now = now} {s = s} {s' = s'} {old = old} {new = new} {ending = ending} fresh on honest by_cursor =
+    let shelf : begun.shelf ≡ Sdr = ap (λ (c : CursorState). c.shelf) fresh.is ∙ on in
+    record {
+      why = record { stays = by_cursor.why.stays; grows = by_cursor.why.grows; counts = by_cursor.why.counts; plain = λ p. by_cursor.why.plain (p, holds_none fresh s) };
+      traces = inr (record {
+        begun = begun;
+        now = now;
+        shelf = shelf;
+        place = ap (λ (c : CursorState). c.place) fresh.is;
+        ids = ap (λ (c : CursorState). c.ids) fresh.is;
+        finds = by_cursor.finds;
+      });
+      along = λ same. subst (λ (x : Shelf). OnWalk x (start_of from) s.store (λ walk end. FindsAlong names s.store walk end old new ending)) shelf
+          (λ walk end w ends. along names begun now s s' old new (start_of from) honest same walk end w ends (fresh.stands (rows_of begun.shelf s.store) walk) ending by_cursor.finds);
     }
