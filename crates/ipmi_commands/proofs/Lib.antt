@@ -1,4 +1,5 @@
 mod AskLemmas
+mod BlockLemmas
 mod CallLemmas
 mod CountLemmas
 mod ExistenceLemmas
