@@ -35,7 +35,7 @@ seen_joined s s' last [] (step ∷ more) stays later = later
 seen_joined s s' last (one ∷ steps) more stays later = seen_joined one.seen s' last steps more stays later
 
 -- all steps but the last, and the last
-split_last : (c : CursorState) (s : Seen) (done : List Stepped) (step : Stepped) → AreSteps c s (done ++ step ∷ [])
+pub split_last : (c : CursorState) (s : Seen) (done : List Stepped) (step : Stepped) → AreSteps c s (done ++ step ∷ [])
     → AreSteps c s done × StaysHonest (seen_after s done) step.before
     × IsStep (cursor_after c done) step.cursor step.before step.seen step.result
 split_last c s [] step are = (tt, are.0, are.1)

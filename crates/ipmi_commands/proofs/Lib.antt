@@ -1,4 +1,5 @@
 mod AskLemmas
+mod BlockLemmas
 mod CallLemmas
 mod CountLemmas
 mod ExistenceLemmas
@@ -15,6 +16,7 @@ mod PageLemmas
 mod PagesLaw
 mod PerformLemmas
 mod RunLemmas
+mod SensorLemmas
 mod SpotLemmas
 mod TraceLemmas
 mod UniqueLemmas

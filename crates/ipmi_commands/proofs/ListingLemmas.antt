@@ -78,7 +78,7 @@ pub record Listed (form : Form) (tries : ℕ) (most : Option ℕ) (count : ℕ) 
 -- ---- a step
 
 -- the cause of an ending, from the result of a step
-abbrev step_cause : Result (Option Row) Ended → Cause
+abbrev pub step_cause : Result (Option Row) Ended → Cause
 step_cause (Ok row) = AtEnd
 step_cause (Err ended) = cause_of (Err (Failure.Ended ended))
 
@@ -87,7 +87,7 @@ step_counts : (old : CursorState) (s s' : Seen) (result : Result (Option Row) En
     × CountsSo old.tries s s' (step_cause result)
 step_counts old s s' result answers = grind arith
 
-step_ends : (tries : ℕ) (old new : CursorState) (s s' : Seen) (result : Result (Option Row) Ended)
+pub step_ends : (tries : ℕ) (old new : CursorState) (s s' : Seen) (result : Result (Option Row) Ended)
     → old.tries ≡ tries → StepIsHonest old new s s' result
     → EndsFor tries (IsTrue s.plain × CursorHoldsCurrent old s) s s' (step_cause result)
 step_ends tries old new s s' result tries_are step = let counts = step_counts old s s' result step.answers in record {
@@ -111,7 +111,7 @@ on_walk : (rows : List Row) (start now there : Place)
     → now ≡ there
 on_walk rows start now there at not_end = grind arith
 
-current-kept : (shelf : Shelf) (s s' : Seen) → KeepsReservations s s'
+pub current-kept : (shelf : Shelf) (s s' : Seen) → KeepsReservations s s'
     → current shelf s' ≡ current shelf s
 current-kept shelf s s' keeps = grind arith
 

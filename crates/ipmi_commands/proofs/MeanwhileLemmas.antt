@@ -118,11 +118,11 @@ module _ (s s' : Seen) (honest : IsHonest s) (stays : KeepsStore s s') (Holds : 
 pub keeps_inventory : (id : ℕ) (s s' : Seen) → Keeps (λ store. store.inventories) s s' → Keeps (inventory_of id) s s'
 keeps_inventory id s s' keeps = keeps_through (λ (store : Store). store.inventories) (λ (l : List Inventory). inventory_in l id) s s' keeps
 
-if_keeps : (b : Bool) (spots : List Spot) (s s' : Seen) → KeepsAt spots s s' → KeepsAt (cond b spots []) s s'
+pub if_keeps : (b : Bool) (spots : List Spot) (s s' : Seen) → KeepsAt spots s s' → KeepsAt (cond b spots []) s s'
 if_keeps true spots s s' keeps = keeps
 if_keeps false spots s s' keeps = tt
 
-reading_keeps : (id : ℕ) (view : Result SdrView SdrFault) (s s' : Seen) → KeepsAt (reading_spots id view) s s'
+pub reading_keeps : (id : ℕ) (view : Result SdrView SdrFault) (s s' : Seen) → KeepsAt (reading_spots id view) s s'
 reading_keeps id (Ok view) s s' = if_keeps (is_some (sdr.reading_of view)) (AtRecord id ∷ []) s s' tt
 reading_keeps id (Err fault) s s' = tt
 
@@ -156,6 +156,16 @@ keeps_at_same (AtInventory id ∷ spots) s s' keeps same = (keeps_same (inventor
 
 -- ---- the texts of steps
 
+-- from the next step on
+pub next_stays : (c : CursorState) (s : Seen) (steps : List Stepped) (seen' : Seen) → IsHonest s → AreSteps c s steps → StaysHonest (seen_after s steps) seen'
+    → StaysHonest s (seen_next steps seen') × StaysHonest (seen_next steps seen') seen'
+next_stays c s [] seen' honest are after = (after, stays_refl seen' after.honest)
+next_stays c s (step ∷ steps) seen' honest are after = (
+  are.0,
+  let made = (are.1.honest are.0.honest).stays in
+      stays_trans step.before step.seen seen' made (stays_trans step.seen (seen_after step.seen steps) seen' (steps_stay step.cursor step.seen steps made.honest are.2) after),
+)
+
 module _ (form : Form) (first last : Seen) (keeps : KeepsFor form first last) where
   abbrev W : Subject → Output → Type 0
   W = IsTextWhile first last
@@ -179,16 +189,6 @@ module _ (form : Form) (first last : Seen) (keeps : KeepsFor form first last) wh
       subst (AreTexts W (row_items form start rows)) (sym (joined ∙ ap (λ (o : Output). and_then o rest) is ∙ nothing_then rest)) (more start)
   of_result (Err ended) rows s s' start text one rest before stays after is more joined =
       subst (AreTexts W (row_items form start rows)) (sym (joined ∙ ap (λ (o : Output). and_then o rest) is ∙ nothing_then rest)) (more start)
-
-  -- from the next step on
-  next_stays : (c : CursorState) (s : Seen) (steps : List Stepped) (seen' : Seen) → IsHonest s → AreSteps c s steps → StaysHonest (seen_after s steps) seen'
-      → StaysHonest s (seen_next steps seen') × StaysHonest (seen_next steps seen') seen'
-  next_stays c s [] seen' honest are after = (after, stays_refl seen' after.honest)
-  next_stays c s (step ∷ steps) seen' honest are after = (
-    are.0,
-    let made = (are.1.honest are.0.honest).stays in
-        stays_trans step.before step.seen seen' made (stays_trans step.seen (seen_after step.seen steps) seen' (steps_stay step.cursor step.seen steps made.honest are.2) after),
-  )
 
   steps_texts : (c : CursorState) (s : Seen) (steps : List Stepped) (start : Place) (seen' : Seen) (text : Output)
       → StaysHonest first s → AreSteps c s steps → StaysHonest (seen_after s steps) seen' → StaysHonest seen' last

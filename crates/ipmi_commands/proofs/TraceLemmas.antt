@@ -9,19 +9,19 @@ use Rattle.ipmi_commands.proofs.OutputLemmas.{nothing_then, then_assoc, then_not
 
 -- ---- one more step
 
-steps_more : (c : CursorState) (s : Seen) (steps : List Stepped) (step : Stepped) → AreSteps c s steps
+pub steps_more : (c : CursorState) (s : Seen) (steps : List Stepped) (step : Stepped) → AreSteps c s steps
     → StaysHonest (seen_after s steps) step.before
     → IsStep (cursor_after c steps) step.cursor step.before step.seen step.result
     → AreSteps c s (steps ++ step ∷ [])
 steps_more c s [] step are stays made = (stays, made, tt)
 steps_more c s (one ∷ steps) step are stays made = (are.0, are.1, steps_more one.cursor one.seen steps step are.2 stays made)
 
-cursor_more : (c : CursorState) (steps : List Stepped) (step : Stepped)
+pub cursor_more : (c : CursorState) (steps : List Stepped) (step : Stepped)
     → cursor_after c (steps ++ step ∷ []) ≡ step.cursor
 cursor_more c [] step = refl
 cursor_more c (one ∷ steps) step = cursor_more one.cursor steps step
 
-seen_more : (s : Seen) (steps : List Stepped) (step : Stepped)
+pub seen_more : (s : Seen) (steps : List Stepped) (step : Stepped)
     → seen_after s (steps ++ step ∷ []) ≡ step.seen
 seen_more s [] step = refl
 seen_more s (one ∷ steps) step = seen_more one.seen steps step
@@ -38,7 +38,7 @@ handed_joined (one ∷ steps) more = rw (handed_joined steps more) (with_more on
 
 -- ---- its text
 
-next_more : (steps : List Stepped) (step : Stepped) (last : Seen)
+pub next_more : (steps : List Stepped) (step : Stepped) (last : Seen)
     → seen_next (steps ++ step ∷ []) last ≡ seen_next steps step.before
 next_more [] step last = refl
 next_more (one ∷ steps) step last = refl

@@ -14,5 +14,6 @@ pub mod Plan
 pub mod Prelude
 pub mod Printed
 pub mod Run
+pub mod Sensors
 pub mod Texts
 pub mod Traced

@@ -46,7 +46,7 @@ fn is_of_kind(kind: Kind, record_type: u8) -> bool
 }
 
 /// Requests the reading that belongs to a record, if there is one. An `Ended` in the error names the record's id.
-fn reading_for<C: Controller>(
+pub(crate) fn reading_for<C: Controller>(
     ctl: &mut C,
     id: u16,
     view: &SdrView<'_>,
@@ -135,7 +135,7 @@ fn listed_line<C: Controller>(
 }
 
 /// Whether a record with the printed name `own` has this name.
-fn is_name(name: &str, own: &Option<String>) -> bool
+pub(crate) fn is_name(name: &str, own: &Option<String>) -> bool
     ensures { result ≡ is_name name.now (option_map (λ text. string_bytes text) own.now) }
 {
     match own {
@@ -145,7 +145,7 @@ fn is_name(name: &str, own: &Option<String>) -> bool
 }
 
 /// The block of a record with its reading, in this wording.
-fn block_of(
+pub(crate) fn block_of(
     alloc: Global,
     wording: Wording<'_>,
     id: u16,

@@ -1,0 +1,371 @@
+-- A search for sensors, step by step of its cursor.
+use Rattle.std.proofs.Common.{◌≡◌, ◌⊎◌, inl, inr, ℕ, ◌+◌, ◌<◌, ◌≤◌, IsTrue, Option, None, Some, Result, Ok, Err, List, [], ◌∷◌, ◌++◌, length, take, refl, sym, ap, subst, ◌∙◌, arith, append-nil, append_assoc, take_all, Bool, true, false, cond}
+use Rattle.std.specs.FinSet as set
+use Rattle.std.specs.List.{list_any}
+use Rattle.std.proofs.lemmas.Bool.Decides.{nat_tests}
+use Rattle.ipmi_bus.proofs.GrowthLaws.{steps_stay}
+use Rattle.ipmi_bus.proofs.StepsLaws.{steps_follow}
+use Rattle.ipmi_bus.proofs.WalkLemmas.{all_at_end}
+use Rattle.ipmi_commands.specs.Below.{AreSteps, CommandState, cursor_after, CursorHoldsCurrent, CursorState, Done, CycleAt, MissingAt, digits, End, Ended, EndsBy, Ending, Failure, First, first_row, handed_out, HandsOut, Id, IsHonest, IsShelf, IsStep, IsWalk, last_next, Place, place_after, place_after_rows, Reading, Row, rows_of, Sdr, SdrView, sdr_view_of, Seen, seen_after, Shelf, StandsAt, start_of, StaysHonest, StepIsHonest, Stepped, stays_refl, stays_trans, store_shelf, Store, WalkEnd, with_handed}
+use Rattle.ipmi_commands.specs.Prelude.{AsksAt, AtEnd, Cause, cause_of, cause_of_unread, EndsFor, failure_of, FindsIt, FindsNone, Form, IsFresh, is_name, KeepsAt, listing_cursor, most_after, most_for_one, most_on_walk, NoMemory, OnWalk, reading_for, reading_spots, shelf_of, Unread}
+use Rattle.ipmi_records.specs.Sdr.{name_of}
+use Rattle.ipmi_commands.specs.Sensors.{EndsFound, FindsAlong, FindsBy, Found, found_among, found_by, found_of, found_of_result, found_spots, has_one_of, RowIsLost, SearchCalls, Searches, SearchesBy, StepEnds, with_readings}
+use Rattle.ipmi_commands.specs.Traced.{IsTraced, seen_next}
+use Rattle.ipmi_commands.proofs.AskLemmas.{asks_nothing, then_no_memory}
+use Rattle.ipmi_commands.proofs.CallLemmas.{called_more, called_stopped, calls_ended, HandsNothing, HasCalled}
+use Rattle.ipmi_commands.proofs.CountLemmas.{between, ends_here, ends_since}
+use Rattle.ipmi_commands.proofs.GrownListing.{split_last}
+use Rattle.ipmi_commands.proofs.ListingLemmas.{current-kept, holds_none, step_cause, step_ends}
+use Rattle.ipmi_commands.proofs.MeanwhileLemmas.{if_keeps, next_stays, reading_keeps}
+use Rattle.ipmi_commands.proofs.TraceLemmas.{cursor_more, handed_joined, next_more, seen_more, steps_more}
+
+-- ---- what is found of a row
+
+module _ (names : List (List ℕ)) (tries : ℕ) (row : Row) {view : SdrView} (is : sdr_view_of row.bytes ≡ Ok view)
+    {own : Option (List ℕ)} (own_is : own ≡ name_of view) {one : Bool}
+    (one_is : one ≡ list_any (λ name. is_name name own) names) where
+  whether : has_one_of names (sdr_view_of row.bytes) ≡ one
+  whether = ap (has_one_of names) is ∙ ap (λ (o : Option (List ℕ)). list_any (λ name. is_name name o) names) (sym own_is) ∙ sym one_is
+
+  -- nothing, as it has none of the names
+  pub none_named : (s : Seen) (found : List Found) → one ≡ false → IsHonest s
+      → FindsIt (λ store. found ≡ found ++ found_of names store row) (found_spots names row) tries s s
+  none_named s found none honest = record {
+    asks = asks_nothing (found_spots names row) tries s honest;
+    is = λ keeps. rw (whether ∙ none) (sym (append-nil found));
+  }
+
+  module _ (named : one ≡ true) where
+    spots_are : found_spots names row ≡ reading_spots row.id (Ok view)
+    spots_are = rw (whether ∙ named, is) refl
+
+    -- its reading was not found
+    pub named_lost : {s s' : Seen} {cause : Cause} → FindsNone (reading_spots row.id (Ok view)) tries s s' cause
+        → FindsNone (found_spots names row) tries s s' cause
+    named_lost none = rw spots_are none
+
+    -- its reading was found, but there is no memory for it
+    pub named_unkept : {reading : Option Reading} {s s' : Seen}
+        → FindsIt (λ store. reading ≡ reading_for store view) (reading_spots row.id (Ok view)) tries s s'
+        → FindsNone (found_spots names row) tries s s' NoMemory
+    named_unkept found = rw spots_are (then_no_memory found.asks)
+
+    -- the row with its reading
+    pub named_found : {reading : Option Reading} {s s' : Seen} (old new : List Found)
+        → FindsIt (λ store. reading ≡ reading_for store view) (reading_spots row.id (Ok view)) tries s s'
+        → new ≡ old ++ record { id = row.id; bytes = row.bytes; reading = reading } ∷ []
+        → FindsIt (λ store. new ≡ old ++ found_of names store row) (found_spots names row) tries s s'
+    named_found old new found kept = record {
+      asks = rw spots_are found.asks;
+      is = λ keeps. rw (whether ∙ named, is) (kept ∙ ap (λ (r : Option Reading). old ++ record { id = row.id; bytes = row.bytes; reading = r } ∷ []) (found.is (rw spots_are at keeps)));
+    }
+
+-- ---- what is found by one more step
+
+found_more : (names : List (List ℕ)) (steps : List Stepped) (step : Stepped) (last : Seen)
+    → found_by names (steps ++ step ∷ []) last
+    ≡ found_by names steps step.before ++ found_of_result names last.store step.result
+found_more names [] step last = append-nil (found_of_result names last.store step.result)
+found_more names (one ∷ steps) step last =
+    rw (next_more steps step last, found_more names steps step last)
+    (sym (append_assoc (found_of_result names (seen_next steps step.before).store one.result) (found_by names steps step.before) (found_of_result names last.store step.result)))
+
+-- ---- a search that goes on
+
+-- over an honest controller
+pub record Searched (names : List (List ℕ)) (tries : ℕ) (begun now : CursorState) (s s' : Seen)
+    (old new : List Found) : Type 0 where
+  pub ends : EndsFor tries (IsTrue s.plain × CursorHoldsCurrent begun s) s s' AtEnd
+  pub holds : IsTrue s.plain → CursorHoldsCurrent begun s → CursorHoldsCurrent now s'
+  pub steps : List Stepped
+  pub traced : IsTraced begun now s s' steps
+  pub found : new ≡ old ++ found_by names steps s'
+
+pub record Searching (names : List (List ℕ)) (tries : ℕ) (begun now : CursorState) (s s' : Seen)
+    (old new : List Found) : Type 0 where
+  pub shelf : now.shelf ≡ Sdr
+  pub tries_are : now.tries ≡ tries
+  pub count : ℕ
+  pub called : HasCalled (most_for_one with_readings tries) count begun now s s'
+  pub went : IsHonest s → Searched names tries begun now s s' old new
+
+pub search_begun : (names : List (List ℕ)) (tries : ℕ) (begun : CursorState) (s : Seen) (old : List Found)
+    → begun.shelf ≡ Sdr → begun.tries ≡ tries → set.len begun.ids ≤ 65536
+    → Searching names tries begun begun s s old old
+search_begun names tries begun s old shelf tries_are room = record {
+  shelf = shelf;
+  tries_are = tries_are;
+  count = 0;
+  called = record {
+    keeps = record { shelf = refl; tries = refl; part = λ some. some; part_falls = omega arith; room = room; place = λ at. at };
+    calls = omega arith;
+    ids = omega arith;
+  };
+  went = λ h. record {
+    ends = ends_here h refl tt;
+    holds = λ plain held. held;
+    steps = [];
+    traced = record { are = tt; cursor = refl; stays = stays_refl s h };
+    found = sym (append-nil old);
+  };
+}
+
+module _ {names : List (List ℕ)} {tries : ℕ} {begun now : CursorState} {s s' : Seen} {old new : List Found}
+    (kept : Searching names tries begun now s s' old new) where
+  module _ {next : CursorState} {s'' : Seen} {result : Result (Option Row) Ended}
+      (step : IsStep now next s' s'' result) where
+    honest_step : IsHonest s → StepIsHonest now next s' s'' result
+    honest_step h = step.honest (kept.went h).ends.stays.honest
+
+    all_ends : IsHonest s → EndsFor tries (IsTrue s.plain × CursorHoldsCurrent begun s) s s'' (step_cause result)
+    all_ends h =
+        let went = kept.went h in
+        ends_since went.ends (λ p. (went.ends.stays.plain p.0, went.holds p.0 p.1)) (step_ends tries now next s' s'' result kept.tries_are (honest_step h))
+
+    abbrev last_step : Stepped
+    last_step = record { before = s'; result = result; cursor = next; seen = s'' }
+
+    abbrev all_steps : IsHonest s → List Stepped
+    all_steps h = (kept.went h).steps ++ last_step ∷ []
+
+    all_traced : (h : IsHonest s) (last : Seen) → StaysHonest s'' last → IsTraced begun next s last (all_steps h)
+    all_traced h last stays =
+        let went = kept.went h in record {
+          are = steps_more begun s went.steps last_step went.traced.are went.traced.stays (subst (λ (c : CursorState). IsStep c next s' s'' result) (sym went.traced.cursor) step);
+          cursor = cursor_more begun went.steps last_step;
+          stays = rw (seen_more s went.steps last_step) stays;
+        }
+
+    -- what was found, and what is found of what the step returned
+    all_found : (h : IsHonest s) (last : Seen) (more : List Found)
+        → more ≡ new ++ found_of_result names last.store result
+        → more ≡ old ++ found_by names (all_steps h) last
+    all_found h last more is =
+        let went = kept.went h in
+        let of_step = found_of_result names last.store result in
+        is ∙ ap (λ (l : List Found). l ++ of_step) went.found ∙ append_assoc old (found_by names went.steps s') of_step
+        ∙ ap (λ (l : List Found). old ++ l) (sym (found_more names went.steps last_step last))
+
+    search_calls : HandsNothing result → SearchCalls tries begun s s''
+    search_calls none = λ some.
+        (calls_ended (most_after with_readings tries) refl kept.shelf kept.tries_are kept.called step None (Err Failure.OutOfMemory) none tt).all some
+
+  -- ---- a search that ends
+
+  -- there are no more records
+  module _ {next : CursorState} {s'' : Seen} (step : IsStep now next s' s'' (Ok None)) where
+    pub search_done : IsHonest s → SearchesBy names tries begun next s s'' old new (Ok tt)
+    search_done h = record {
+      why = all_ends step h;
+      finds = record {
+        steps = all_steps step h;
+        traced = all_traced step h s'' (stays_refl s'' (honest_step step h).stays.honest);
+        ends = (step.leaves.1.place, all_found step h s'' new (sym (append-nil new)));
+      };
+    }
+
+    pub done_calls : SearchCalls tries begun s s''
+    done_calls = search_calls step tt
+
+  -- the cursor returned no record, for this reason
+  module _ {next : CursorState} {s'' : Seen} (ended : Ended) (step : IsStep now next s' s'' (Err ended)) where
+    pub search_ended : IsHonest s → SearchesBy names tries begun next s s'' old new (Err (Failure.Ended ended))
+    search_ended h = record {
+      why = all_ends step h;
+      finds = record {
+        steps = all_steps step h;
+        traced = all_traced step h s'' (stays_refl s'' (honest_step step h).stays.honest);
+        ends = inl (record {
+          ended = ended;
+          is = refl;
+          done = (kept.went h).steps;
+          step = last_step step;
+          are = refl;
+          returned = refl;
+          found = all_found step h s'' new (sym (append-nil new));
+        });
+      };
+    }
+
+    pub ended_calls : SearchCalls tries begun s s''
+    ended_calls = search_calls step tt
+
+  -- a record was returned
+  module _ {next : CursorState} {s'' : Seen} {row : Row} (step : IsStep now next s' s'' (Ok (Some row)))
+      (last : Seen) (asked : last.calls ≤ s''.calls + (tries + 1)) where
+    more_called : HasCalled (most_for_one with_readings tries) (kept.count + 1) begun next s last
+    more_called = called_more (most_after with_readings tries) refl kept.shelf kept.tries_are kept.called step last refl asked
+
+    pub lost_calls : SearchCalls tries begun s last
+    lost_calls = λ some. (called_stopped (most_for_one with_readings tries) (kept.count + 1) None begun next s last (Err Failure.OutOfMemory) more_called).all some
+
+    row_ends : {cause : Cause} → (h : IsHonest s) → AsksAt (found_spots names row) tries s'' last cause
+        → EndsFor tries (IsTrue s.plain × CursorHoldsCurrent begun s) s last cause
+    row_ends h asks = ends_since (all_ends step h) (λ p. (all_ends step h).stays.plain p.0) asks.ends
+
+    -- its reading was not found
+    pub search_lost : (unread : Unread)
+        → (IsHonest s'' → FindsNone (found_spots names row) tries s'' last (cause_of_unread unread))
+        → IsHonest s → SearchesBy names tries begun next s last old new (Err (failure_of unread))
+    search_lost unread none h =
+        let lost = none (honest_step step h).stays.honest in record {
+          why = row_ends h lost.asks;
+          finds = record {
+            steps = all_steps step h;
+            traced = all_traced step h last lost.asks.ends.stays;
+            ends = inr (record {
+              done = (kept.went h).steps;
+              step = last_step step;
+              row = row;
+              are = refl;
+              returned = refl;
+              there = lost.there;
+              found = (kept.went h).found;
+            });
+          };
+        }
+
+    -- it was searched
+    pub search_more : (more : List Found)
+        → (IsHonest s'' → FindsIt (λ store. more ≡ new ++ found_of names store row) (found_spots names row) tries s'' last)
+        → Searching names tries begun next s last old more
+    search_more more finds = record {
+      shelf = step.same.shelf ∙ kept.shelf;
+      tries_are = step.same.tries ∙ kept.tries_are;
+      count = kept.count + 1;
+      called = more_called;
+      went = λ h.
+          let found = finds (honest_step step h).stays.honest in
+          let ends = all_ends step h in record {
+            ends = row_ends h found.asks;
+            holds = λ p held.
+                let on = ((honest_step step h).plain ((kept.went h).ends.stays.plain p) ((kept.went h).holds p held)).holds in
+                record { held = λ n is. current-kept next.shelf s'' last (found.asks.keeps (ends.stays.plain p)) ∙ on.held n is };
+            steps = all_steps step h;
+            traced = all_traced step h last found.asks.ends.stays;
+            found = all_found step h last more (found.is (if_keeps (has_one_of names (sdr_view_of row.bytes)) (reading_spots row.id (sdr_view_of row.bytes)) s'' last (reading_keeps row.id (sdr_view_of row.bytes) s'' last)));
+          };
+    }
+
+-- ---- along a walk, if no store was added
+
+same_shelf : (c : CursorState) (s : Seen) (steps : List Stepped) → AreSteps c s steps
+    → (cursor_after c steps).shelf ≡ c.shelf
+same_shelf c s [] are = refl
+same_shelf c s (step ∷ steps) are = same_shelf step.cursor step.seen steps are.2 ∙ are.1.same.shelf
+
+found_result : (names : List (List ℕ)) (store : Store) (result : Result (Option Row) Ended) (rows : List Row)
+    → found_among names store (with_handed result rows)
+    ≡ found_of_result names store result ++ found_among names store rows
+found_result names store (Ok (Some row)) rows = refl
+found_result names store (Ok None) rows = refl
+found_result names store (Err ended) rows = refl
+
+-- each reading is over the same store
+found_steps : (names : List (List ℕ)) (c : CursorState) (s : Seen) (steps : List Stepped) (last : Seen)
+    → IsHonest s → AreSteps c s steps → StaysHonest (seen_after s steps) last → last.stores_added ≡ s.stores_added
+    → found_by names steps last ≡ found_among names s.store (handed_out steps)
+found_steps names c s [] last honest are stays same = refl
+found_steps names c s (step ∷ steps) last honest are stays same =
+    let made = (are.1.honest are.0.honest).stays in
+    let to_here = stays_trans s step.before step.seen are.0 made in
+    let next = next_stays step.cursor step.seen steps last made.honest are.2 stays in
+    let on = stays_trans s step.seen (seen_next steps last) to_here next.0 in
+    let here = between s step.seen last to_here (stays_trans step.seen (seen_next steps last) last next.0 next.1) same in
+    let there = between s (seen_next steps last) last on next.1 same in
+    let rest = found_steps names step.cursor step.seen steps last made.honest are.2 stays here.1 in
+    rw (on.store.stays there.0, rest, to_here.store.stays here.0) (sym (found_result names s.store step.result (handed_out steps)))
+
+-- the place after a whole walk is the end only if the walk ends with `Done`
+last_at_end : (next : ℕ) (walk : List Row) → place_after_rows (place_after next) walk ≡ End → last_next next walk ≡ 0xFFFF
+last_at_end next [] at = grind (arith, nat_tests)
+last_at_end next (row ∷ walk) at = last_at_end row.next walk at
+
+ends_done : (rows : List Row) (start : Place) (walk : List Row) (end : WalkEnd) → EndsBy rows start walk end
+    → place_after_rows start walk ≡ End → end ≡ Done
+ends_done rows start walk Done ends at = refl
+ends_done rows First [] (CycleAt n) ends at = absurd ends
+ends_done rows (Id id) [] (CycleAt n) ends at = cc at
+ends_done rows End [] (CycleAt n) ends at = absurd ends
+ends_done rows start (row ∷ walk) (CycleAt n) ends at = absurd (ends.1 (last_at_end row.next walk at))
+ends_done rows First [] (MissingAt n) ends at = absurd ends
+ends_done rows (Id id) [] (MissingAt n) ends at = cc at
+ends_done rows End [] (MissingAt n) ends at = absurd ends
+ends_done rows start (row ∷ walk) (MissingAt n) ends at = absurd (ends.1 (last_at_end row.next walk at))
+
+-- so does the walk of an empty shelf
+empty_done : (rows walk : List Row) (end : WalkEnd) → IsWalk rows First walk → EndsBy rows First walk end
+    → first_row rows ≡ None → end ≡ Done
+empty_done rows [] Done w ends none = refl
+empty_done rows [] (CycleAt n) w ends none = absurd ends
+empty_done rows [] (MissingAt n) w ends none = absurd ends
+empty_done rows (row ∷ walk) end w ends none = let is = w.first in cc (is, none)
+
+module _ (names : List (List ℕ)) (begun now : CursorState) (s s' : Seen) (old new : List Found) (start : Place)
+    (honest : IsHonest s) (same : s'.stores_added ≡ s.stores_added) (walk : List Row) (end : WalkEnd)
+    (w : IsWalk (rows_of begun.shelf s.store) start walk) (ends : EndsBy (rows_of begun.shelf s.store) start walk end)
+    (stands : StandsAt (rows_of begun.shelf s.store) start walk 0 begun) where
+  -- what was found by some steps is what is found of the first rows
+  first_found : (steps : List Stepped) (last : Seen) → AreSteps begun s steps → StaysHonest (seen_after s steps) last
+      → last.stores_added ≡ s.stores_added → new ≡ old ++ found_by names steps last
+      → (count : ℕ) × (new ≡ old ++ found_among names s.store (take count walk))
+      × StandsAt (rows_of begun.shelf s.store) start walk count (cursor_after begun steps)
+  first_found steps last are stays unchanged found =
+      let parts = between s (seen_after s steps) last (steps_stay begun s steps honest are) stays unchanged in
+      let at = steps_follow begun s steps start walk end honest w ends stands are parts.0 in
+      let those = found_steps names begun s steps last honest are stays unchanged in
+      (at.0, found ∙ ap (λ (l : List Found). old ++ l) (those ∙ ap (found_among names s.store) at.1), at.2)
+
+  -- a cursor at the end is after the whole walk
+  whole_walk : (k : ℕ) (c : CursorState) → c.shelf ≡ begun.shelf → StandsAt (rows_of begun.shelf s.store) start walk k c
+      → c.place ≡ End → (end ≡ Done) × (take k walk ≡ walk)
+  whole_walk k c shelf at place =
+      let all : k ≡ length walk = all_at_end c c s start walk k (store_shelf c.shelf s.store honest.store)
+      (subst (λ (x : Shelf). IsWalk (rows_of x s.store) start walk) (sym shelf) w)
+      (subst (λ (x : Shelf). StandsAt (rows_of x s.store) start walk k c) (sym shelf) at) place in
+      let rows : take k walk ≡ walk = take_all k walk (omega (arith, all)) in (
+        elim at.place [
+          | inl here ↦ ends_done (rows_of begun.shelf s.store) start walk end ends (ap (place_after_rows start) (sym rows) ∙ sym here ∙ place)
+          | inr none ↦ empty_done (rows_of begun.shelf s.store) walk end (rw none.1 at w) (rw none.1 at ends) none.2
+        ],
+        rows,
+      )
+
+  along : (ending : Ending) → FindsBy names begun now s s' old new ending → FindsAlong names s.store walk end old new ending
+  along (Ok done) f =
+      let at = first_found f.steps s' f.traced.are f.traced.stays same f.ends.1 in
+      let all = whole_walk at.0 (cursor_after begun f.steps) (same_shelf begun s f.steps f.traced.are) at.2 (ap (λ (c : CursorState). c.place) f.traced.cursor ∙ f.ends.0) in
+      (all.0, at.1 ∙ ap (λ (l : List Row). old ++ found_among names s.store l) all.1)
+  along (Err failure) f = elim f.ends [
+    | inl ended ↦ let at = first_found f.steps s' f.traced.are f.traced.stays same ended.found in (at.0, at.1)
+    | inr lost ↦
+        let parts = split_last begun s lost.done lost.step (subst (AreSteps begun s) lost.are f.traced.are) in
+        let before = stays_trans s (seen_after s lost.done) lost.step.before (steps_stay begun s lost.done honest parts.0) parts.1 in
+        let after = stays_trans lost.step.before lost.step.seen s' (parts.2.honest parts.1.honest).stays
+        (subst (λ (x : Seen). StaysHonest x s') (ap (seen_after s) lost.are ∙ seen_more s lost.done lost.step) f.traced.stays) in
+        let at = first_found lost.done lost.step.before parts.0 parts.1 (between s lost.step.before s' before after same).0 lost.found in
+        (at.0, at.1)
+  ]
+
+-- ---- a new cursor
+
+pub search_by_cursor : {command : CommandState} {form : Form} {from : Option ℕ} {names : List (List ℕ)} {tries : ℕ}
+    {begun now : CursorState} {s s' : Seen} {old new : List Found} {ending : Ending}
+    → IsFresh command form from begun → shelf_of form ≡ Sdr → IsHonest s
+    → SearchesBy names tries begun now s s' old new ending
+    → Searches names (start_of from) tries s s' old new ending
+search_by_cursor {form = form} {from = from} {names} {begun = begun} {now = now} {s = s} {s' = s'} {old = old} {new = new} {ending = ending} fresh on honest by_cursor =
+    let shelf : begun.shelf ≡ Sdr = ap (λ (c : CursorState). c.shelf) fresh.is ∙ on in
+    record {
+      why = record { stays = by_cursor.why.stays; grows = by_cursor.why.grows; counts = by_cursor.why.counts; plain = λ p. by_cursor.why.plain (p, holds_none fresh s) };
+      traces = inr (record {
+        begun = begun;
+        now = now;
+        shelf = shelf;
+        place = ap (λ (c : CursorState). c.place) fresh.is;
+        ids = ap (λ (c : CursorState). c.ids) fresh.is;
+        finds = by_cursor.finds;
+      });
+      along = λ same. subst (λ (x : Shelf). OnWalk x (start_of from) s.store (λ walk end. FindsAlong names s.store walk end old new ending)) shelf
+          (λ walk end w ends. along names begun now s s' old new (start_of from) honest same walk end w ends (fresh.stands (rows_of begun.shelf s.store) walk) ending by_cursor.finds);
+    }

@@ -1,0 +1,213 @@
+-- Sensors that one walk of the sensor data records finds by their names, and the blocks that are printed of them.
+use Rattle.std.specs.Prelude.{◌≡◌, ◌⊎◌, ℕ, ◌+◌, ◌*◌, ◌<◌, ◌≤◌, Bool, false, IsTrue, if◌then◌else◌, Option, None, Some, Result, Ok, Err, List, [], ◌∷◌, ◌++◌, length, take}
+use Rattle.std.specs.FinSet as set
+use Rattle.std.specs.List.{list_any}
+use Rattle.ipmi_commands.specs.Below.{CursorState, CursorHoldsCurrent, digits, Done, End, Ended, Ending, Failure, IsHonest, Kind, LastCallSays, Place, Reading, RefusesRecord, Row, Sdr, SdrFault, SdrView, sdr_view_of, Seen, Stepped, Store, WalkEnd}
+use Rattle.ipmi_records.specs.Sdr as sdr
+use Rattle.ipmi_commands.specs.declared.job.Detail.{Detail}
+use Rattle.ipmi_commands.specs.declared.job.Form.{Form}
+use Rattle.ipmi_commands.specs.declared.job.Wording.{Wording}
+use Rattle.ipmi_commands.specs.Allowed.{cause_of, EndsFor, TextsJoined}
+use Rattle.ipmi_commands.specs.Calls.{most_for_one}
+use Rattle.ipmi_commands.specs.Output.{and_then, IsCut, no_output, Output, piece_of}
+use Rattle.ipmi_commands.specs.Plan.{OnWalk, reading_spots, Spot}
+use Rattle.ipmi_commands.specs.Texts.{IfChosen, IsBlockIn, is_name, reading_for}
+use Rattle.ipmi_commands.specs.Traced.{IsStopAmong, IsTraced, seen_next}
+
+-- ---- what is found
+
+-- a record that was found: its id, its bytes and its reading
+pub record Found : Type 0 where
+  pub id : ℕ
+  pub bytes : List ℕ
+  pub reading : Option Reading
+
+-- the printed name of a record is one of the names
+abbrev pub has_one_of : List (List ℕ) → Result SdrView SdrFault → Bool
+has_one_of names (Ok view) = list_any (λ name. is_name name (sdr.name_of view)) names
+has_one_of names (Err fault) = false
+
+-- the store's reading that belongs to a record; a record with a fault has none
+abbrev pub reading_in : Store → Result SdrView SdrFault → Option Reading
+reading_in store (Ok view) = reading_for store view
+reading_in store (Err fault) = None
+
+-- a row that is found, with the store's reading
+abbrev pub found_row : Store → Row → Found
+found_row store row =
+    record { id = row.id; bytes = row.bytes; reading = reading_in store (sdr_view_of row.bytes) }
+
+-- what is found of a row: the row if it has one of the names
+abbrev pub found_of : List (List ℕ) → Store → Row → List Found
+found_of names store row =
+    if has_one_of names (sdr_view_of row.bytes) then found_row store row ∷ [] else []
+
+-- what is found of the rows over one store, in their order
+abbrev pub found_among : List (List ℕ) → Store → List Row → List Found
+found_among names store [] = []
+found_among names store (row ∷ rows) = found_of names store row ++ found_among names store rows
+
+-- what is found of what a step returned
+abbrev pub found_of_result : List (List ℕ) → Store → Result (Option Row) Ended → List Found
+found_of_result names store (Ok (Some row)) = found_of names store row
+found_of_result names store _ = []
+
+-- what is found by these steps, in their order: each reading is that of the store which the controller
+-- held after the requests for it
+abbrev pub found_by : List (List ℕ) → List Stepped → Seen → List Found
+found_by names [] last = []
+found_by names (step ∷ steps) last =
+    found_of_result names (seen_next steps last).store step.result ++ found_by names steps last
+
+-- ---- a search over any controller
+
+-- a listing that requests a reading for each record: a search makes at most as many calls
+abbrev pub with_readings : Form
+with_readings = Form.Line Detail.Short Kind.All
+
+-- the possible ends of a search: a failure at a record or a reading agrees with the last call
+abbrev pub EndsSearch : Seen → Ending → Type 0
+EndsSearch seen (Ok done) = Unit {0}
+EndsSearch seen (Err (Failure.Ended ended)) = LastCallSays RefusesRecord ended seen
+EndsSearch seen (Err Failure.OutOfMemory) = Unit {0}
+EndsSearch seen _ = ⊥
+
+-- ---- a search over an honest controller, whatever its store does
+
+-- the spot of the reading of a row with one of the names
+abbrev pub found_spots : List (List ℕ) → Row → List Spot
+found_spots names row =
+    if has_one_of names (sdr_view_of row.bytes) then reading_spots row.id (sdr_view_of row.bytes) else []
+
+-- the last step returned no record, for this reason; all that the steps returned was searched
+pub record StepEnds (names : List (List ℕ)) (steps : List Stepped) (last : Seen) (old new : List Found)
+    (failure : Failure) : Type 0 where
+  pub ended : Ended
+  pub is : failure ≡ Failure.Ended ended
+  pub done : List Stepped
+  pub step : Stepped
+  pub are : steps ≡ done ++ step ∷ []
+  pub returned : step.result ≡ Err ended
+  pub found : new ≡ old ++ found_by names steps last
+
+-- the last record was not kept: it has one of the names and its reading was given up or refused, or memory
+-- ran out; all before it was searched
+pub record RowIsLost (names : List (List ℕ)) (steps : List Stepped) (old new : List Found)
+    (failure : Failure) : Type 0 where
+  pub done : List Stepped
+  pub step : Stepped
+  pub row : Row
+  pub are : steps ≡ done ++ step ∷ []
+  pub returned : step.result ≡ Ok (Some row)
+  pub there : IsStopAmong (found_spots names row) (cause_of (Err failure))
+  pub found : new ≡ old ++ found_by names done step.before
+
+-- at Ok the cursor is at the end, and all that it returned was searched
+abbrev pub EndsFound : List (List ℕ) → CursorState → List Stepped → Seen → List Found → List Found
+    → Ending → Type 0
+EndsFound names now steps last old new (Ok done) = (now.place ≡ End) × (new ≡ old ++ found_by names steps last)
+EndsFound names now steps last old new (Err failure) =
+    StepEnds names steps last old new failure ⊎ RowIsLost names steps old new failure
+
+-- the steps of a cursor, and what was found by them
+pub record FindsBy (names : List (List ℕ)) (begun now : CursorState) (s s' : Seen)
+    (old new : List Found) (ending : Ending) : Type 0 where
+  pub steps : List Stepped
+  pub traced : IsTraced begun now s s' steps
+  pub ends : EndsFound names now steps s' old new ending
+
+-- from this place with a new cursor, which has returned nothing
+pub record FindsFrom (names : List (List ℕ)) (start : Place) (s s' : Seen) (old new : List Found)
+    (ending : Ending) : Type 0 where
+  pub begun : CursorState
+  pub now : CursorState
+  pub shelf : begun.shelf ≡ Sdr
+  pub place : begun.place ≡ start
+  pub ids : begun.ids ≡ set.empty
+  pub finds : FindsBy names begun now s s' old new ending
+
+-- without memory for the cursor nothing was requested, and nothing found
+abbrev pub HasNoMemory : Seen → Seen → List Found → List Found → Ending → Type 0
+HasNoMemory s s' old new ending = (ending ≡ Err Failure.OutOfMemory) × (s' ≡ s) × (new ≡ old)
+
+-- along a walk: at Ok it ends with `Done` and all its rows were searched, otherwise its first `count` rows
+abbrev pub FindsAlong : List (List ℕ) → Store → List Row → WalkEnd → List Found → List Found → Ending
+    → Type 0
+FindsAlong names store walk end old new (Ok done) =
+    (end ≡ Done) × (new ≡ old ++ found_among names store walk)
+FindsAlong names store walk end old new (Err failure) =
+    (count : ℕ) × (new ≡ old ++ found_among names store (take count walk))
+
+-- a search over an honest controller: why it ended; what was found, whatever the store does; and along the
+-- walk, if no store was added
+pub record Searches (names : List (List ℕ)) (start : Place) (tries : ℕ) (s s' : Seen)
+    (old new : List Found) (ending : Ending) : Type 0 where
+  pub why : EndsFor tries (IsTrue s.plain) s s' (cause_of ending)
+  pub traces : HasNoMemory s s' old new ending ⊎ FindsFrom names start s s' old new ending
+  pub along : s'.stores_added ≡ s.stores_added
+      → OnWalk Sdr start s.store (λ walk end. FindsAlong names s.store walk end old new ending)
+
+-- ---- for the contracts of private functions
+
+-- a search by a cursor, over an honest controller
+pub record SearchesBy (names : List (List ℕ)) (tries : ℕ) (begun now : CursorState) (s s' : Seen)
+    (old new : List Found) (ending : Ending) : Type 0 where
+  pub why : EndsFor tries (IsTrue s.plain × CursorHoldsCurrent begun s) s s' (cause_of ending)
+  pub finds : FindsBy names begun now s s' old new ending
+
+-- the calls of a search by a cursor, over any controller
+abbrev pub SearchCalls : ℕ → CursorState → Seen → Seen → Type 0
+SearchCalls tries begun s s' = 0 < begun.part
+    → s'.calls + 1 + set.len begun.ids * most_for_one with_readings tries
+    ≤ s.calls + 65536 * most_for_one with_readings tries + digits begun.part
+
+-- ---- the blocks of what was found
+
+-- the block of a found sensor with this name, in this wording; nothing for any other, or with a fault
+abbrev pub IsBlockOfFound : Wording → List ℕ → Found → Result SdrView SdrFault → List ℕ → Type 0
+IsBlockOfFound wording name found (Ok view) text =
+    IfChosen (is_name name (sdr.name_of view)) (λ t. IsBlockIn wording found.id view found.reading t) text
+IsBlockOfFound wording name found (Err fault) text = text ≡ []
+
+-- it was printed, and counted as an item without a fault
+pub record IsPieceOfFound (wording : Wording) (name : List ℕ) (found : Found) (piece : Output) : Type 0 where
+  pub is_text : IsBlockOfFound wording name found (sdr_view_of found.bytes) piece.bytes
+  pub counted : piece ≡ piece_of piece.bytes false
+
+-- the blocks of the found sensors with this name, in their order, one after another
+abbrev pub AreBlocks : Wording → List ℕ → List Found → Output → Type 0
+AreBlocks wording name [] text = text ≡ no_output
+AreBlocks wording name (found ∷ rest) text = TextsJoined
+    (λ first. IsPieceOfFound wording name found first) (λ more. AreBlocks wording name rest more) text
+
+-- the blocks were printed, and nothing else
+pub record PrintsBlocks (wording : Wording) (name : List ℕ) (found : List Found) (old new : Output) : Type 0 where
+  pub text : Output
+  pub are : AreBlocks wording name found text
+  pub new_is : new ≡ and_then old text
+
+-- the blocks of the first of them were printed
+pub record PrintsFirst (wording : Wording) (name : List ℕ) (found : List Found) (old new : Output) : Type 0 where
+  pub done : List Found
+  pub rest : List Found
+  pub are : found ≡ done ++ rest
+  pub printed : PrintsBlocks wording name done old new
+
+-- the blocks of the first of them were printed, then a part of the next block
+pub record CutsBlock (wording : Wording) (name : List ℕ) (found : List Found) (old new : Output) : Type 0 where
+  pub whole : Output
+  pub first : PrintsFirst wording name found old whole
+  pub next : Found
+  pub later : List Found
+  pub rest_is : first.rest ≡ next ∷ later
+  pub block : Output
+  pub is_block : IsPieceOfFound wording name next block
+  pub some : 0 < length block.bytes
+  pub part : IsCut whole new block
+
+-- the output by how the printing ended
+abbrev pub PrintsFound : Wording → List ℕ → List Found → Output → Output → Ending → Type 0
+PrintsFound wording name found old new (Ok done) = PrintsBlocks wording name found old new
+PrintsFound wording name found old new (Err Failure.OutOfMemory) = PrintsFirst wording name found old new
+PrintsFound wording name found old new (Err Failure.WriteFault) = CutsBlock wording name found old new
+PrintsFound wording name found old new (Err failure) = ⊥
