@@ -130,11 +130,13 @@ module _ (line : (view : SdrView) (reading : Option Reading) → HasText (IsSdrL
   has_texts store [] ok in_text = (no_output, refl)
   has_texts store (item ∷ items) ok in_text =
       let first = has_item store item.subject ok in_text.0 in
-      let rest = has_texts store items ok in_text.1 in
-      (_, record {
-        first = piece_of first.0 (is_faulty store item.subject);
-        rest = rest.0;
-        is_first = record { is_text = first.1; counted = refl };
-        is_rest = rest.1;
-        joined = refl;
-      })
+      let rest = has_texts store items ok in_text.1 in (
+        _,
+        record {
+          first = piece_of first.0 (is_faulty store item.subject);
+          rest = rest.0;
+          is_first = record { is_text = first.1; counted = refl };
+          is_rest = rest.1;
+          joined = refl;
+        },
+      )

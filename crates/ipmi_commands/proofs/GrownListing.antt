@@ -2,9 +2,10 @@
 use Rattle.std.proofs.Common.{◌≡◌, ◌≢◌, ℕ, ◌+◌, ◌≤◌, Option, None, Some, IfOk, Result, Ok, Err, List, [], ◌∷◌, ◌++◌, inl, inr, length, take, drop, refl, sym, ap, subst, ◌∙◌, arith, take_all, take-add, append_assoc, length-append, length-take-le, take-append-drop}
 use Rattle.std.proofs.Math.Seq.{drop-append_seam, take-append_seam}
 use Rattle.ipmi_bus.proofs.GrowthLaws.{growth, Moment, moment, steps_stay}
-use Rattle.ipmi_commands.specs.Below.{AllFollowOrStop, WasLog, AreSteps, asked_at, CommandState, cursor_after, CursorState, Done, End, Ended, EndsBy, Ending, FailsAt, Failure, First, FollowsOrStops, handed_out, Id, IsHonest, IsLog, IsStep, last_next, OnlyGrew, place_after, Place, place_after_rows, Row, rows_of, Seen, seen_after, Shelf, StandsAt, start_of, StepLeaves, StaysHonest, Stepped, stays_refl, stays_trans, WalkEnd, with_handed}
+use Rattle.ipmi_commands.specs.Below.{AllFollowOrStop, WasLog, AreSteps, asked_at, cursor_after, CursorState, Done, End, Ended, EndsBy, Ending, FailsAt, Failure, First, FollowsOrStops, handed_out, Id, IsHonest, IsLog, IsStep, last_next, OnlyGrew, place_after, Place, place_after_rows, Row, rows_of, Seen, seen_after, Shelf, StandsAt, start_of, StepLeaves, StaysHonest, Stepped, stays_refl, stays_trans, WalkEnd, with_handed}
 use Rattle.ipmi_commands.specs.Meanwhile.{IsTextWhile, KeepsFor, OnGrowingListing}
 use Rattle.ipmi_commands.specs.Traced.{EndsTrace, IsListed, IsWithin, PrintsSteps, ReturnsLast, Traces, TracesListing}
+use Rattle.ipmi_commands.specs.declared.limits.RequestLimits.{RequestLimits}
 use Rattle.ipmi_commands.specs.Prelude.{AtEnd, AtRecord, cause_of, Change, ending_of, first_end, first_rows, Form, HasFirstItems, IsAllowed, IsAmong, IsFresh, Item, listing, listing_plan, next_spots, Plan, Printed, row_items, rows_end, shelf_of, Spot, spots_at_walk_end, StopsAt, Subject}
 use Rattle.ipmi_commands.specs.Output.{Output}
 use Rattle.ipmi_commands.proofs.CallLemmas.{none_left, place_after_rows-append}
@@ -344,8 +345,8 @@ module _ (begun : CursorState) (s : Seen) (start : Place) (first : List Row) (ho
 
 -- ---- a new cursor
 
-module _ {command : CommandState} {form : Form} {from : Option ℕ} {most : Option ℕ} {begun now : CursorState} {c : Change}
-    {result : Result ℕ Failure} (fresh : IsFresh command form from begun)
+module _ {limits : RequestLimits} {form : Form} {from : Option ℕ} {most : Option ℕ} {begun now : CursorState} {c : Change}
+    {result : Result ℕ Failure} (fresh : IsFresh limits form from begun)
     (trace : TracesListing form most begun now c result) (honest : IsHonest c.seen) where
   shelf_is : begun.shelf ≡ shelf_of form
   shelf_is = ap (λ (x : CursorState). x.shelf) fresh.is

@@ -2,8 +2,9 @@
 use Rattle.std.proofs.Common.{◌≡◌, false, ℕ, ◌+◌, ◌-◌, ◌<◌, ◌≤◌, Option, None, Some, IfOk, Result, Ok, Err, List, [], ◌∷◌, ◌++◌, inl, inr, length, subst, take, drop, refl, sym, ap, ◌∙◌, append_assoc, append-nil, arith, length-append, length-drop, length-take-le, take-append-drop}
 use Rattle.std.proofs.lemmas.List.{nil_from_length}
 use Rattle.std.proofs.Math.Seq.{drop-nil}
-use Rattle.ipmi_commands.specs.Below.{handed_out, IsLog, OnlyGrew, Shelf, stays_refl, WasLog, Place, Sel, Row, Store, rows_of, WalkEnd, Done, place_after, place_after_rows, Seen, IsHonest, StaysHonest, CommandState, CursorState, StandsAt, start_of, Ending, Failure}
+use Rattle.ipmi_commands.specs.Below.{handed_out, IsLog, OnlyGrew, Shelf, stays_refl, WasLog, Place, Sel, Row, Store, rows_of, WalkEnd, Done, place_after, place_after_rows, Seen, IsHonest, StaysHonest, CursorState, StandsAt, start_of, Ending, Failure}
 use Rattle.ipmi_commands.specs.Traced.{EndsTrace}
+use Rattle.ipmi_commands.specs.declared.limits.RequestLimits.{RequestLimits}
 use Rattle.ipmi_commands.specs.Prelude.{AreTexts, calls_for, Cause, cause_of, Change, change, Counted, CountsEntries, spots_at_walk_end, end_spots_of_last, ending_of, EndsListing, Entries, first_end, first_rows, Form, IsAllowed, IsAmong, IsFresh, IsPieceOver, IsTextWhile, OfRow, OnGrowingLast, TracesListing, Item, Job, last_plan, Leaves, listing, listing_plan, ListsAfter, ListsHonestly, ListsAlong, Plan, Printed, Prints, row_items, rows_end, second_walk_bound, Spot, spots_of_rows, next_spots, spots_of_walk, Subject, walk_call_bound, with_first_spots}
 use Rattle.ipmi_commands.specs.Output.{and_then, no_output, Output}
 use Rattle.ipmi_commands.proofs.CallLemmas.{calls_split}
@@ -17,8 +18,8 @@ use Rattle.ipmi_commands.proofs.SpotLemmas.{among_after, quiet_there, spots_at_w
 use Rattle.ipmi_commands.proofs.OutputLemmas.{nothing_in, then_nothing}
 
 -- a new cursor is at the place where it starts
-pub starts_at : {command : CommandState} {form : Form} {from : Option ℕ} {cursor : CursorState}
-    → IsFresh command form from cursor → cursor.place ≡ start_of from
+pub starts_at : {limits : RequestLimits} {form : Form} {from : Option ℕ} {cursor : CursorState}
+    → IsFresh limits form from cursor → cursor.place ≡ start_of from
 starts_at fresh = ap (λ (c : CursorState). c.place) fresh.is
 
 -- ---- the spots of the first item
@@ -146,9 +147,9 @@ counts_grown from {begun} {now} {c} (Ok count) trace first g ends = (
 counts_grown from {begun} {now} {c} (Err failure) trace first g ends = λ entries n.
     passing_failed (IsTextWhile c.seen c.seen') (none_while c.seen c.seen') entries n None (start_of from) g.log Done refl c.old c.new failure (cause_of (Err failure)) g.allowed
 
-module _ {command : CommandState} {from : Option ℕ} {tries : ℕ} {begun now : CursorState}
+module _ {limits : RequestLimits} {from : Option ℕ} {tries : ℕ} {begun now : CursorState}
     {c : Change}
-    (fresh : IsFresh command Form.Passed from begun) where
+    (fresh : IsFresh limits Form.Passed from begun) where
   counts : (result : Result ℕ Failure) (walk : List Row) (end : WalkEnd)
       → ListsAlong Form.Passed tries None begun now c result (start_of from) walk end 0
       → Counted (IsPieceOver c.seen.store) (start_of from) walk end c.old c.new result
@@ -192,8 +193,8 @@ after_without_memory entries tries start passed s text honest = record {
   );
 }
 
-module _ (entries : Entries) {command : CommandState} {from : Option ℕ}
-    {tries passed : ℕ} {begun mid : CursorState} {s s' : Seen} {old text : Output} (fresh : IsFresh command Form.Passed from begun) where
+module _ (entries : Entries) {limits : RequestLimits} {from : Option ℕ}
+    {tries passed : ℕ} {begun mid : CursorState} {s s' : Seen} {old text : Output} (fresh : IsFresh limits Form.Passed from begun) where
   -- skipping failed
   pub after_failed : (failure : Failure) → IsHonest s
       → ListsHonestly Form.Passed tries (Some passed) begun mid (change s s' old text) (Err failure)

@@ -1,10 +1,11 @@
 -- A listing, step by step of its cursor, with the piece of each record.
-use Rattle.std.proofs.Common.{◌≡◌, ◌≢◌, ◌⊎◌, inl, inr, ℕ, ◌+◌, ◌<◌, ◌≤◌, true, false, IsTrue, Option, None, Some, IfOk, Result, Ok, Err, List, [], ◌∷◌, ◌++◌, ◌==◌, ◌||◌, not, length, take, drop, refl, sym, ap, ◌∙◌, arith, take_all, length-drop, length-take-le, take-add, take-append-drop, Bool}
+use Rattle.std.proofs.Common.{◌≡◌, ◌≢◌, ◌⊎◌, inl, inr, ℕ, ◌+◌, ◌<◌, ◌≤◌, true, false, IsTrue, Option, None, Some, IfOk, Result, Ok, Err, List, [], ◌∷◌, ◌==◌, ◌||◌, not, length, take, drop, refl, sym, ap, ◌∙◌, arith, take_all, length-drop, length-take-le, take-add, take-append-drop, Bool}
 use Rattle.std.proofs.lemmas.List.{drop-drop, take-take}
 use Rattle.std.specs.FinSet as set
 use Rattle.std.specs.FinSet.{len-empty}
 use Rattle.std.specs.Ordering.{nat_cmp}
-use Rattle.ipmi_commands.specs.Below.{step_call_bound, digits, End, First, first_row, KeepsReservations, len_of, look, Shelf, current, Place, Ended, Row, Store, rows_of, MayFail, WalkEnd, WalkStep, Done, CycleAt, MissingAt, place_after, place_after_rows, Seen, IsHonest, AsksNothing, CursorState, CursorHoldsCurrent, StandsAt, FailsAt, IsStep, NotGivenUpOrRefused, StepAnswers, StepIsHonest, StepLeaves, asked_at, Ending, Failure, CommandState, start_of}
+use Rattle.ipmi_commands.specs.Below.{step_call_bound, digits, End, First, first_row, KeepsReservations, len_of, look, Shelf, current, Place, Ended, Row, Store, rows_of, MayFail, WalkEnd, WalkStep, Done, CycleAt, MissingAt, place_after, place_after_rows, Seen, IsHonest, AsksNothing, CursorState, CursorHoldsCurrent, StandsAt, FailsAt, IsStep, NotGivenUpOrRefused, StepAnswers, StepIsHonest, StepLeaves, asked_at, Ending, Failure, start_of}
+use Rattle.ipmi_commands.specs.declared.limits.RequestLimits.{RequestLimits}
 use Rattle.ipmi_commands.specs.Prelude.{AsksAt, AtEnd, AtRecord, CallsAlong, calls_for, Cause, cause_of, cause_of_unread, Change, change, CountsSo, end_of, spots_at_walk_end, ending_of, EndsFor, failure_of, FindsIt, FindsNone, first_end, first_rows, Form, HasFirstItems, IsAllowed, IsAmong, IsFine, IsFresh, IsOnWalk, is_reached, OnWalk, walk_call_bound, IsPieceOver, listing, listing_plan, Lists, ListsAlong, ListsHonestly, Item, IsStopAmong, most_after, most_for_one, IsWithin, OnEachWalk, Plan, Printed, row_items, rows_end, OfRow, shelf_of, Spot, spots_because_of, StopsAt, TracesListing, Unread}
 use Rattle.ipmi_commands.specs.Output.{and_then, IsCut, Output, piece_of}
 use Rattle.ipmi_commands.proofs.AskLemmas.{asks_as}
@@ -487,8 +488,8 @@ module _ {form : Form} {tries : ℕ} {most : Option ℕ} {count : ℕ} {wrote : 
 
 -- ---- a new cursor
 
-module _ {command : CommandState} {form : Form} {from : Option ℕ} {begun : CursorState}
-    (fresh : IsFresh command form from begun) where
+module _ {limits : RequestLimits} {form : Form} {from : Option ℕ} {begun : CursorState}
+    (fresh : IsFresh limits form from begun) where
   -- it holds no reservation, and has returned no record
   pub holds_none : (s : Seen) → CursorHoldsCurrent begun s
   holds_none s = record { held = λ n held. let h = sym (ap (λ (x : CursorState). x.reservation) fresh.is) ∙ held in cc h }
@@ -499,9 +500,9 @@ module _ {command : CommandState} {form : Form} {from : Option ℕ} {begun : Cur
   pub fresh_room : set.len begun.ids ≤ 65536
   fresh_room = rw no_ids (omega arith)
 
-module _ {command : CommandState} {form : Form} {from : Option ℕ} {begun now : CursorState}
+module _ {limits : RequestLimits} {form : Form} {from : Option ℕ} {begun now : CursorState}
     {tries : ℕ} {most : Option ℕ}
-    {c : Change} {result : Result ℕ Failure} (fresh : IsFresh command form from begun) where
+    {c : Change} {result : Result ℕ Failure} (fresh : IsFresh limits form from begun) where
   pub fresh_ends : ListsHonestly form tries most begun now c result
       → EndsFor tries (IsTrue c.seen.plain) c.seen c.seen' (cause_of (ending_of result))
   fresh_ends lists = record { stays = lists.ends.stays; grows = lists.ends.grows; counts = lists.ends.counts; plain = λ p. lists.ends.plain (p, holds_none fresh c.seen) }

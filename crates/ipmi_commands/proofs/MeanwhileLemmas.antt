@@ -1,5 +1,5 @@
 -- What is printed while the store changes, over a part of a run and over all of it.
-use Rattle.std.proofs.Common.{◌≡◌, ℕ, Bool, true, false, cond, Option, None, Some, Result, Ok, Err, List, [], ◌∷◌, ◌++◌, ◌==◌, is_some, sym, ap, subst, ◌∙◌}
+use Rattle.std.proofs.Common.{◌≡◌, ℕ, Bool, true, false, cond, Option, None, Some, Result, Ok, Err, List, [], ◌∷◌, ◌==◌, is_some, sym, ap, subst, ◌∙◌}
 use Rattle.ipmi_bus.proofs.HeldLemmas.{begins_refl, begins_trans, grew_first, grew_second, grew_since, grows_over, held_at_first, held_at_last, held_in_first, held_in_second, keeps_first, keeps_same, keeps_second, keeps_through}
 use Rattle.ipmi_bus.proofs.GrowthLaws.{steps_stay}
 use Rattle.ipmi_bus.specs.Seen.{KeepsStore}

@@ -1,5 +1,5 @@
 -- The laws of one output after another.
-use Rattle.std.proofs.Common.{◌≡◌, Bool, true, ℕ, ◌+◌, List, [], ◌++◌, refl, ap, arith, append_assoc, append-nil}
+use Rattle.std.proofs.Common.{◌≡◌, Bool, true, ℕ, ◌+◌, List, [], ◌++◌, refl, arith, append_assoc, append-nil}
 use Rattle.ipmi_commands.specs.Output.{and_then, count_if, no_output, Output, piece_of}
 
 pub then_assoc : (a b c : Output) → and_then (and_then a b) c ≡ and_then a (and_then b c)

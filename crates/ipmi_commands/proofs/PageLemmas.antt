@@ -1,10 +1,11 @@
 -- Pages of a listing.
 use Rattle.std.specs.FinSet as set
-use Rattle.std.proofs.Common.{◌≡◌, ◌⊎◌, inl, inr, ℕ, Bool, sym, append-nil, zero, suc, ◌+◌, ◌*◌, ◌<◌, ◌≤◌, ◌==◌, false, Option, None, Some, Result, Ok, Err, List, [], ◌∷◌, length, take, drop, get_or, refl, ap, subst, ◌∙◌, arith, take_all, length-take}
+use Rattle.std.proofs.Common.{◌≡◌, ◌⊎◌, inl, inr, ℕ, Bool, sym, zero, suc, ◌+◌, ◌*◌, ◌<◌, ◌≤◌, ◌==◌, false, Option, None, Some, Result, Ok, Err, List, [], ◌∷◌, length, take, drop, get_or, refl, ap, subst, ◌∙◌, arith, take_all, length-take}
 use Rattle.std.proofs.lemmas.Grind.{common_steps}
 use Rattle.std.proofs.lemmas.List.{take_min, at_drop_more}
 use Rattle.ipmi_commands.specs.Pages.{PageAlong}
-use Rattle.ipmi_commands.specs.Below.{Place, End, Ended, Id, IsLog, Shelf, stays_refl, Store, Row, rows_of, WalkEnd, Done, CycleAt, MissingAt, EndsBy, row_at, IsWalk, place_after_rows, Seen, IsHonest, CommandState, CursorState, start_of, Ending, Failure}
+use Rattle.ipmi_commands.specs.Below.{Place, End, Ended, Id, IsLog, Shelf, stays_refl, Store, Row, rows_of, WalkEnd, Done, CycleAt, MissingAt, EndsBy, row_at, IsWalk, place_after_rows, Seen, IsHonest, CursorState, start_of, Ending, Failure}
+use Rattle.ipmi_commands.specs.declared.limits.RequestLimits.{RequestLimits}
 use Rattle.ipmi_commands.specs.Prelude.{ArePages, AtEnd, cause_of, Change, change, end_of, ending_of, first_end, first_rows, Form, IsAllowed, IsFresh, IsPage, IsPieceOver, IsTextWhile, IsWithin, Traces, listing, listing_plan, ListsHonestly, pages_made, shelf_of, Subject}
 use Rattle.ipmi_commands.specs.Output.{no_output, Output}
 use Rattle.ipmi_commands.proofs.OutputLemmas.{then_nothing}
@@ -134,9 +135,11 @@ page_of_cycle form tries most s text honest some = record {
   where
     cycle_left : (most : Option ℕ) → (most ≡ Some 0 → ⊥) → first_end most [] (CycleAt 0) ≡ CycleAt 0
     cycle_left most some = grind arith
+
     leaves : (end : WalkEnd) → end ≡ CycleAt 0 → IsAllowed (IsPieceOver s.store) (listing_plan (listing form (Id 0) most) [] end)
         text text (Err (Failure.Ended (Ended.Cycle 0)))
     leaves end is = rw (is, empty_rows most, cycle_left most some) (none_printed (IsPieceOver s.store) text text refl, refl)
+
     of_cycle : (walk : List Row) (end : WalkEnd) → walk ≡ [] → EndsBy (rows_of (shelf_of form) s.store) (Id 0) walk end
         → PageAlong form (Id 0) tries most (change s s text text) (Err (Failure.Ended (Ended.Cycle 0))) walk end
     of_cycle [] end empty ends = record { leaves = leaves end (grind arith); calls = omega arith; goes_on = tt }
@@ -149,9 +152,9 @@ abbrev pub page_result : Place → Result ℕ Failure → Result Place Failure
 page_result next (Ok count) = Ok next
 page_result next (Err failure) = Err failure
 
-pub page_by_cursor : {command : CommandState} {form : Form} {from : Option ℕ} {tries : ℕ}
+pub page_by_cursor : {limits : RequestLimits} {form : Form} {from : Option ℕ} {tries : ℕ}
     {most : Option ℕ}
-    {begun now : CursorState} {c : Change} (result : Result ℕ Failure) → IsFresh command form from begun
+    {begun now : CursorState} {c : Change} (result : Result ℕ Failure) → IsFresh limits form from begun
     → (most ≡ Some 0 → ⊥) → IsHonest c.seen → ListsHonestly form tries most begun now c result
     → IsPage form (start_of from) tries most c (page_result now.place result)
 page_by_cursor {from = from} {most = most} {now = now} (Ok count) fresh some honest lists = record {

@@ -4,8 +4,8 @@ use Rattle.std.proofs.lemmas.Bool.{or_parts}
 use Rattle.std.proofs.Math.Seq.{take-nil, drop-nil}
 use Rattle.std.proofs.lemmas.Bool.Decides.{nat_tests}
 use Rattle.std.proofs.lemmas.List.{drop_all}
-use Rattle.ipmi_commands.specs.Below.{Place, First, End, Row, IsShelf, Store, rows_of, store_shelf, IsWalk, TailIsWalk, WalkEnd, EndsBy, place_after, place_after_rows, Seen, IsHonest, step_call_bound, is_listing, CommandState, Ending, Failure}
-use Rattle.ipmi_commands.specs.Prelude.{ArePages, calls_for, cause_of, Change, change, EndsFor, EndsListing, Form, GoesOn, IsAllowed, IsOneListing, IsOpen, IsPieceOver, Job, job_of_command_in, Listing, listing, listing_in, listing_plan, most_on_walk, OnWalk, pages_made, Plan, Printed, row_items, rows_end, RunsPagedIn, shelf_of, Wording}
+use Rattle.ipmi_commands.specs.Below.{Place, First, End, Row, IsShelf, Store, rows_of, store_shelf, IsWalk, TailIsWalk, WalkEnd, EndsBy, place_after, place_after_rows, Seen, IsHonest, step_call_bound, Ending, Failure}
+use Rattle.ipmi_commands.specs.Prelude.{ArePages, calls_for, cause_of, Change, change, EndsFor, EndsListing, Form, GoesOn, IsAllowed, IsOneListing, IsOpen, IsPieceOver, Job, Listing, listing, listing_in, listing_plan, lists_all, most_on_walk, OnWalk, pages_made, Plan, Printed, row_items, rows_end, RunsPaged, shelf_of}
 use Rattle.ipmi_commands.specs.Output.{Output}
 use Rattle.ipmi_commands.proofs.CallLemmas.{calls_split}
 use Rattle.ipmi_commands.proofs.ItemLemmas.{after_items, leaves_joined, leaves_longer, row_items-split}
@@ -142,17 +142,16 @@ module _ (walk_tail : TailIsWalk) where
             );
       }
 
--- ---- a command that can be run in pages
+-- ---- a job that can be done in pages
 
 -- it lists all records of a shelf, in a form that does not search for a name; the result of the pages
-pub paged : TailIsWalk → (wording : Wording) (command : CommandState) (sizes : List ℕ) (s s' : Seen)
-    (old new : Output) (ending : Ending) (l : Listing) → is_listing command.task ≡ true
-    → listing_in (job_of_command_in wording command) ≡ Some l
-    → s'.calls ≤ s.calls + pages_made sizes * most_on_walk l.form command.tries
+pub paged : TailIsWalk → (job : Job) (tries : ℕ) (sizes : List ℕ) (s s' : Seen)
+    (old new : Output) (ending : Ending) (l : Listing) → lists_all job ≡ true → listing_in job ≡ Some l
+    → s'.calls ≤ s.calls + pages_made sizes * most_on_walk l.form tries
     → EndsListing l.form s' ending
-    → (IsHonest s → ArePages l.form command.tries l.start sizes (change s s' old new) ending)
-    → RunsPagedIn wording command sizes (change s s' old new) ending
-paged tail wording command sizes s s' old new ending l lists is calls may pages =
-    let job : (job_of_command_in wording command ≡ Job.Records l) × NamesNone l.form × (l.most ≡ None) = grind arith in
-    let one : IsHonest s → OneListing l.form l.start command.tries sizes (change s s' old new) ending = λ h. pages_are_one tail l.form command.tries l.start sizes s s' old new ending job.1 h (pages h) in
-    rw job.0 (job.2, record { calls = calls; ends = may; why = λ h. (one h).ends; pages = pages; prints = λ h. (one h).along })
+    → (IsHonest s → ArePages l.form tries l.start sizes (change s s' old new) ending)
+    → RunsPaged job tries sizes (change s s' old new) ending
+paged tail job tries sizes s s' old new ending l lists is calls may pages =
+    let is : (job ≡ Job.Records l) × NamesNone l.form × (l.most ≡ None) = grind arith in
+    let one : IsHonest s → OneListing l.form l.start tries sizes (change s s' old new) ending = λ h. pages_are_one tail l.form tries l.start sizes s s' old new ending is.1 h (pages h) in
+    rw is.0 (is.2, record { calls = calls; ends = may; why = λ h. (one h).ends; pages = pages; prints = λ h. (one h).along })

@@ -1,6 +1,6 @@
 -- Tasks that print one text, and the task of all inventories: one text, then a listing.
 use Rattle.std.proofs.Common.{◌≡◌, false, ℕ, ◌+◌, ◌≤◌, IsTrue, Option, None, Some, Result, Ok, Err, Vec, Global, List, [], ◌∷◌, ◌++◌, option_map, refl, arith}
-use Rattle.ipmi_commands.specs.Below.{Done, fru_call_bound, LastFailed, NotPresent, Sdr, Shelf, Place, First, Seen, IsHonest, Row, Store, info_of, inventory_of, WalkEnd, Ending, Failure}
+use Rattle.ipmi_commands.specs.Below.{Done, fru_call_bound, LastFailed, NotPresent, Sdr, Shelf, Place, First, Seen, IsHonest, Row, Store, info_of, WalkEnd, Ending, Failure}
 use Rattle.ipmi_commands.specs.Run.{EndsInfo, EndsInventory}
 use Rattle.ipmi_commands.specs.Prelude.{LacksInventory, LacksValue, AtEnd, AtRecord, cause_of, Change, change, ending_of, spots_at_walk_end, EndsFor, EndsListing, failure_of, Finds, Form, info_plan, inventories_plan, AtInventory, inventory_item, inventory_plan, most_on_walk, IsAllowed, IsAmong, IsInfoText, IsPage, IsPieceOver, IsTextWhile, Item, Job, Listing, listing, listing_plan, IsStopAmong, OfInfo, OfInventory, Plan, row_items, Runs, Spot, next_spots, Subject, text_plan, Unread, Wording, WritesPiece, shown}
 use Rattle.ipmi_commands.specs.Output.{Output, piece_of}

@@ -1,11 +1,42 @@
 -- A run over an image, and rewriting an image.
-use Rattle.std.proofs.Common.{◌≡◌, ◌⊎◌, inl, inr, ℕ, ◌+◌, arith, Bool, true, false, IsTrue, Result, Ok, Err, List, [], refl, subst, sym}
-use Rattle.ipmi_commands.specs.Below.{Count, Failure, failure_of_image, ImageFault, Store, Seen, IsHonest, image_text_of, Ending}
-use Rattle.ipmi_commands.specs.Prelude.{after_names, AnswersJob, bytes_of_rows, change, Form, IsAllowed, is_rewrite, IsRewriting, IsPieceOver, Job, Named, OfImage, OnNamed, OnPlan, Plan, rewrite_plan, Runs, RunsOver, walk_call_bound, Wording, WritesPiece}
+use Rattle.std.proofs.Common.{◌≡◌, ◌⊎◌, inl, inr, ℕ, ◌+◌, arith, false, IsTrue, Option, None, Some, Result, Ok, Err, List, [], refl, subst, sym, ap₂, ◌∙◌}
+use Rattle.ipmi_commands.specs.Below.{CommandState, Count, Failure, failure_of_image, ImageFault, Store, Seen, IsHonest, image_text_of, Ending, Task}
+use Rattle.ipmi_commands.specs.Prelude.{after_names, AnswersJob, bytes_of_rows, change, Form, IsAllowed, IsRewriting, IsPieceOver, Job, job_in, job_of, job_of_command, Named, no_output, OnBytes, OfImage, OnNamed, OnPlan, pieces_of, faults_of, Plan, printed, rewrite_plan, Runs, RunsCommand, RunsOver, walk_call_bound, Wording, WritesPiece}
 use Rattle.ipmi_commands.specs.Output.{Output, piece_of}
+use Rattle.ipmi_commands.specs.declared.summary.Summary.{Summary}
 use Rattle.ipmi_commands.proofs.NamedLemmas.{named_all}
 use Rattle.ipmi_commands.proofs.ItemLemmas.{no_items}
 use Rattle.ipmi_commands.proofs.PerformLemmas.{text_leaves}
+
+-- ---- a command, in codes
+
+-- the job that was made of the command's task
+pub of_command : (command : CommandState) {task : Task} {from : Option ℕ} {found : Option Job}
+    → task ≡ command.task → from ≡ command.from → found ≡ job_in Wording.Codes task from
+    → job_of_command command ≡ found
+of_command command task_is from_is found_is = sym (found_is ∙ ap₂ job_of task_is from_is)
+
+module _ (command : CommandState) (found : Option Job) (is : job_of_command command ≡ found) (begun : Summary)
+    (none : printed [] begun ≡ no_output) (old new : List ℕ) (now : Summary) (ending : Ending) where
+  -- what was done by a run that begins with an empty summary
+  on_command : (Holds : Option Job → Output → Output → Type 0) → Holds found (printed old begun) (printed new now)
+      → OnBytes old new (λ a b. Holds (job_of_command command) a b)
+  on_command Holds holds = (
+    pieces_of now,
+    faults_of now,
+    subst (λ o. Holds (job_of_command command) (record { bytes = old; pieces = o.pieces; faults = o.faults }) (printed new now)) none
+        (subst (λ job. Holds job (printed old begun) (printed new now)) (sym is) holds),
+  )
+
+  pub command_runs : (s s' : Seen) → RunsCommand found command.tries (change s s' (printed old begun) (printed new now)) ending
+      → OnBytes old new (λ a b. RunsCommand (job_of_command command) command.tries (change s s' a b) ending)
+  command_runs s s' runs = on_command (λ job a b. RunsCommand job command.tries (change s s' a b) ending) runs
+
+  pub command_answers : (store : Store) → RunsOver found store (printed old begun) (printed new now) ending
+      → OnBytes old new (λ a b. RunsOver (job_of_command command) store a b ending)
+  command_answers store runs = on_command (λ job a b. RunsOver job store a b ending) runs
+
+-- ---- a run over an image
 
 -- a fact about the plan that does not depend on the tries
 named_kept : (Holds : Plan → Type 0) (wording : Wording) (records : List (List ℕ)) (named : Named) (tries : ℕ)
@@ -32,12 +63,12 @@ plan_kept Holds _ tries store More keep on = keep _ _ on
 
 -- a run over a plain controller with the store of the image
 pub over_image : (job : Job) (tries : ℕ) (store : Store) (s s' : Seen) (old new : Output)
-    (ending : Ending) → is_rewrite job ≡ false → IsHonest s → IsTrue s.plain → s.store ≡ store
+    (ending : Ending) → IsHonest s → IsTrue s.plain → s.store ≡ store
     → Runs job tries (change s s' old new) ending
-    → RunsOver (is_rewrite job) job store old new ending
-over_image job tries store s s' old new ending runs_ honest plain is runs =
+    → RunsOver (Some job) store old new ending
+over_image job tries store s s' old new ending honest plain is runs =
     let ends = runs.why honest in
-    rw (runs_, ← is) (
+    rw (← is) (
       plan_kept (λ plan. IsAllowed (IsPieceOver s.store) plan old new ending) job tries s.store _ (λ plan calls both. both.0) (runs.prints honest (ends.stays.plain_store plain)),
       ends.plain plain,
     )
@@ -59,22 +90,22 @@ plan_all Holds (Job.AllInventories wording name) store holds = λ walk end w end
 plan_all Holds _ store holds = holds _
 
 -- each job may be out of memory
-without_memory : (rewrites : Bool) (job : Job) (store : Store) (text : Output)
-    → RunsOver rewrites job store text text (Err Failure.OutOfMemory)
-without_memory true job store text = record { allowed = no_items (IsPieceOver store) rewrite_plan text text refl; unwritten = λ out. refl }
-without_memory false job store text =
+without_memory : (job : Option Job) (store : Store) (text : Output)
+    → RunsOver job store text text (Err Failure.OutOfMemory)
+without_memory None store text = record { allowed = no_items (IsPieceOver store) rewrite_plan text text refl; unwritten = λ out. refl }
+without_memory (Some job) store text =
     (plan_all (λ plan. IsAllowed (IsPieceOver store) plan text text (Err Failure.OutOfMemory)) job store (λ plan. no_items (IsPieceOver store) plan text text refl), tt)
 
-answers_memory : (job : Job) (image : Result Store ImageFault) (text : Output)
+answers_memory : (job : Option Job) (image : Result Store ImageFault) (text : Output)
     → AnswersJob job image text text (Err Failure.OutOfMemory)
-answers_memory job (Ok store) text = without_memory (is_rewrite job) job store text
+answers_memory job (Ok store) text = without_memory job store text
 answers_memory job (Err fault) text = (refl, inr refl)
 
 failed_read : (fault : ImageFault) (ending : Ending) → ending ≡ Err (failure_of_image fault)
     → (ending ≡ Err (Failure.Image fault)) ⊎ (ending ≡ Err Failure.OutOfMemory)
 failed_read fault ending is = grind arith
 
-pub unread : (job : Job) (image : Result Store ImageFault) (fault : ImageFault) (text : Output)
+pub unread : (job : Option Job) (image : Result Store ImageFault) (fault : ImageFault) (text : Output)
     → (fault ≡ ImageFault.Memory) ⊎ (image ≡ Err fault)
     → AnswersJob job image text text (Err (failure_of_image fault))
 unread job image fault text (inl memory) =

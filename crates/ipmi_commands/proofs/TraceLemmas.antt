@@ -1,5 +1,5 @@
 -- The steps of a listing's cursor, and what was printed of the records that they returned.
-use Rattle.std.proofs.Common.{◌≡◌, ℕ, ◌+◌, ◌<◌, Bool, true, false, Option, None, Some, Result, Ok, Err, List, [], ◌∷◌, ◌++◌, inl, inr, length, refl, sym, ap, subst, ◌∙◌, arith, append-nil, append_assoc, length-append}
+use Rattle.std.proofs.Common.{◌≡◌, ℕ, ◌+◌, ◌<◌, Bool, true, false, Option, None, Some, Result, Ok, Err, List, [], ◌∷◌, ◌++◌, inl, inr, length, refl, sym, ap, subst, ◌∙◌, arith, append-nil, length-append}
 use Rattle.ipmi_commands.specs.Below.{AreSteps, cursor_after, CursorState, Ended, Failure, handed_out, IsHonest, IsStep, Row, Seen, seen_after, StaysHonest, Stepped, stays_refl, with_handed}
 use Rattle.ipmi_commands.specs.Traced.{AreTextsOfSteps, IsListed, IsStopAmong, IsTextAfter, IsTextOfResult, IsTraced, IsWithin, PrintsSteps, ReturnsLast, seen_next, TracesListing}
 use Rattle.ipmi_commands.specs.Prelude.{cause_of_unread, Change, change, end_of, failure_of, Form, spots_because_of, Unread}

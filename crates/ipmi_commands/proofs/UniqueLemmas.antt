@@ -184,4 +184,3 @@ module _ (one : ItemsHaveOneText) (exists : WalkExists) (look_row : FoundIsRow) 
       let there = exists Sdr store.sdr First ok.sdr in
       one_plan store (tt, rows_are_bytes look_row (Form.Device wording) Sdr store.sdr First there.0 ok.sdr there.2.of_shelf)
       (x there.0 there.1 there.2 there.3) (y there.0 there.1 there.2 there.3)
-  one_output Job.Rewrite tries tries' store old a b e f ok x y = one_plan store tt x y

@@ -50,7 +50,7 @@ pub use Rattle.ipmi_image.specs.Image.{store_of_image}
 pub use Rattle.ipmi_image.specs.Rewritten.{record_line_of}
 unfoldable pub use Rattle.ipmi_image.specs.Rewritten.{image_text_of}
 pub use Rattle.ipmi_image.specs.declared.image.ImageFault.{ImageFault}
-pub use Rattle.ipmi_command_line.specs.Command.{CommandState, IsCount}
+pub use Rattle.ipmi_command_line.specs.Command.{CommandState, IsCount, IsTask}
 pub use Rattle.ipmi_command_line.specs.Task.{is_listing}
 pub use Rattle.ipmi_command_line.specs.declared.task.Count.{Count}
 pub use Rattle.ipmi_command_line.specs.declared.task.Kind.{Kind}

@@ -1,5 +1,5 @@
 -- The job of each command.
-use Rattle.std.specs.Prelude.{ℕ, ◌<◌, ◌≤◌, Bool, true, false, Option, None, Some, List}
+use Rattle.std.specs.Prelude.{ℕ, ◌<◌, ◌≤◌, ◌&&◌, not, Bool, true, false, is_none, Option, None, Some, List}
 use Rattle.std.specs.Option.{ForSome}
 use Rattle.ipmi_commands.specs.Below.{Place, First, Id, End, start_of, Shelf, Sdr, Sel, Count, IsCount, Task, device_name}
 use Rattle.ipmi_commands.specs.declared.job.Detail.{Detail}
@@ -41,50 +41,64 @@ job_with wording records (Named.Events count from) =
     entries_job (entries_in wording records) count from
 job_with wording records Named.Devices = Job.AllInventories wording (device_name 0 records)
 
--- the job of a task; a listing starts at the id `from`, or at the first record if there is none
-abbrev pub job_of : Task → Option ℕ → Job
-job_of Task.Hex from = Job.Records (listing Form.Raw (start_of from) None)
+-- the job of a task; a listing starts at the id `from`, or at the first record if there is none; `image
+-- rewrite` has none, since only an image can do it
+abbrev pub job_of : Task → Option ℕ → Option Job
+job_of Task.Hex from = Some (Job.Records (listing Form.Raw (start_of from) None))
 job_of (Task.List kind) from =
-    Job.Records (listing (Form.Line Detail.Short kind) (start_of from) None)
+    Some (Job.Records (listing (Form.Line Detail.Short kind) (start_of from) None))
 job_of (Task.Elist kind) from =
-    Job.Records (listing (Form.Line Detail.Extended kind) (start_of from) None)
+    Some (Job.Records (listing (Form.Line Detail.Extended kind) (start_of from) None))
 job_of (Task.Get name) from =
-    Job.Records (listing (Form.Block Wording.Codes name) (start_of from) None)
-job_of (Task.SelList count) from = entries_job Entries.Codes count from
-job_of (Task.SelGet id) from = Job.Records (listing Form.EntryBlock (Id id) (Some 1))
-job_of (Task.Info shelf) from = Job.Info Wording.Codes shelf
-job_of (Task.Fru None) from = Job.AllInventories Wording.Codes None
-job_of (Task.Fru (Some id)) from = Job.Inventory Wording.Codes id None
-job_of Task.Rewrite from = Job.Rewrite
+    Some (Job.Records (listing (Form.Block Wording.Codes name) (start_of from) None))
+job_of (Task.SelList count) from = Some (entries_job Entries.Codes count from)
+job_of (Task.SelGet id) from = Some (Job.Records (listing Form.EntryBlock (Id id) (Some 1)))
+job_of (Task.Info shelf) from = Some (Job.Info Wording.Codes shelf)
+job_of (Task.Fru None) from = Some (Job.AllInventories Wording.Codes None)
+job_of (Task.Fru (Some id)) from = Some (Job.Inventory Wording.Codes id None)
+job_of Task.Rewrite from = None
 
 -- The job of a task in a wording. With `Words`, it prints the words of the standard's tables, and
--- one line for each device; a task without such a text is printed in codes. With `Json`, each task
--- but `image rewrite` prints objects, and `sel get` is a listing of one entry.
-abbrev pub job_in : Wording → Task → Option ℕ → Job
+-- one line for each device; a task without such a text is printed in codes. With `Json`, each job
+-- prints objects, and `sel get` is a listing of one entry.
+abbrev pub job_in : Wording → Task → Option ℕ → Option Job
 job_in Wording.Words (Task.List kind) from =
-    Job.Records (listing (Form.Line Detail.Words kind) (start_of from) None)
+    Some (Job.Records (listing (Form.Line Detail.Words kind) (start_of from) None))
 job_in Wording.Words (Task.Get name) from =
-    Job.Records (listing (Form.Block Wording.Words name) (start_of from) None)
+    Some (Job.Records (listing (Form.Block Wording.Words name) (start_of from) None))
 job_in Wording.Words (Task.SelList count) from =
-    Job.Named Wording.Words (Named.Events count from)
-job_in Wording.Words (Task.Fru None) from = Job.Named Wording.Words Named.Devices
+    Some (Job.Named Wording.Words (Named.Events count from))
+job_in Wording.Words (Task.Fru None) from = Some (Job.Named Wording.Words Named.Devices)
 job_in (Wording.Json labels) Task.Hex from =
-    Job.Records (listing (Form.RawObject labels) (start_of from) None)
+    Some (Job.Records (listing (Form.RawObject labels) (start_of from) None))
 job_in (Wording.Json labels) (Task.List kind) from =
-    Job.Records (listing (Form.Line (Detail.Json labels) kind) (start_of from) None)
+    Some (Job.Records (listing (Form.Line (Detail.Json labels) kind) (start_of from) None))
 job_in (Wording.Json labels) (Task.Elist kind) from =
-    Job.Records (listing (Form.Line (Detail.Json labels) kind) (start_of from) None)
+    Some (Job.Records (listing (Form.Line (Detail.Json labels) kind) (start_of from) None))
 job_in (Wording.Json labels) (Task.Get name) from =
-    Job.Records (listing (Form.Block (Wording.Json labels) name) (start_of from) None)
+    Some (Job.Records (listing (Form.Block (Wording.Json labels) name) (start_of from) None))
 job_in (Wording.Json labels) (Task.SelList count) from =
-    Job.Named (Wording.Json labels) (Named.Events count from)
+    Some (Job.Named (Wording.Json labels) (Named.Events count from))
 job_in (Wording.Json labels) (Task.SelGet id) from =
-    Job.Named (Wording.Json labels) (Named.Events (Count.First 1) (Some id))
-job_in (Wording.Json labels) (Task.Info shelf) from = Job.Info (Wording.Json labels) shelf
-job_in (Wording.Json labels) (Task.Fru None) from = Job.Named (Wording.Json labels) Named.Devices
+    Some (Job.Named (Wording.Json labels) (Named.Events (Count.First 1) (Some id)))
+job_in (Wording.Json labels) (Task.Info shelf) from = Some (Job.Info (Wording.Json labels) shelf)
+job_in (Wording.Json labels) (Task.Fru None) from = Some (Job.Named (Wording.Json labels) Named.Devices)
 job_in (Wording.Json labels) (Task.Fru (Some id)) from =
-    Job.Inventory (Wording.Json labels) id None
+    Some (Job.Inventory (Wording.Json labels) id None)
 job_in _ task from = job_of task from
+
+-- ---- listings of a whole shelf
+
+-- the form searches for a name
+abbrev pub searches : Form → Bool
+searches (Form.Block wording name) = true
+searches _ = false
+
+-- the job lists all records of a shelf, and searches for no name, so it can be done in pages
+abbrev pub lists_all : Job → Bool
+lists_all (Job.Records l) = is_none l.most && not (searches l.form)
+lists_all (Job.Named wording (Named.Events Count.All from)) = true
+lists_all _ = false
 
 -- ---- for the contracts of private functions
 
@@ -115,8 +129,3 @@ IsJob _ = Unit {0}
 abbrev pub listing_in : Job → Option Listing
 listing_in (Job.Records l) = Some l
 listing_in _ = None
-
--- whether the job is to write the canonical text of an image
-abbrev pub is_rewrite : Job → Bool
-is_rewrite Job.Rewrite = true
-is_rewrite _ = false

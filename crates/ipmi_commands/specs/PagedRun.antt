@@ -1,6 +1,6 @@
 -- The contract of a run in pages of a command that lists all records of a shelf.
-use Rattle.std.specs.Prelude.{◌≡◌, ℕ, ◌+◌, ◌*◌, ◌≤◌, IsTrue, Option, None, Result, Ok, Err, List, []}
-use Rattle.ipmi_commands.specs.Below.{CommandState, Count, Ending, Failure, First, IsHonest, records_in, Sdr, Seen, start_of}
+use Rattle.std.specs.Prelude.{◌≡◌, ℕ, ◌+◌, ◌*◌, ◌≤◌, IsTrue, Option, None, Some, Result, Ok, Err, List}
+use Rattle.ipmi_commands.specs.Below.{Count, Ending, Failure, First, IsHonest, records_in, Sdr, Seen, start_of}
 use Rattle.ipmi_commands.specs.declared.job.Form.{Form}
 use Rattle.ipmi_commands.specs.declared.job.Job.{Job}
 use Rattle.ipmi_commands.specs.declared.job.Named.{Named}
@@ -13,7 +13,7 @@ use Rattle.ipmi_commands.specs.Named.{ending_then, ReadsRecords}
 use Rattle.ipmi_commands.specs.Output.{no_output, Output}
 use Rattle.ipmi_commands.specs.Pages.{ArePages, IsOneListingAfter, pages_made}
 use Rattle.ipmi_commands.specs.Plan.{after_names, bytes_of_rows, OnWalk}
-use Rattle.ipmi_commands.specs.Run.{EndsNamed, job_of_command, job_of_command_in, RunsInPages}
+use Rattle.ipmi_commands.specs.Run.{EndsNamed, RunsInPages}
 
 -- the lines of entries in a wording, with the names in these sensor data records
 abbrev pub entries_with : Wording → List (List ℕ) → Form
@@ -52,18 +52,14 @@ pub record RunsNamedInPages (wording : Wording) (from : Option ℕ) (tries : ℕ
       (entries_with wording (bytes_of_rows records)) (start_of from) tries sizes c ending)
 
 -- the job of listing all records of a shelf, in pages
-abbrev pub RunsJobInPages : Job → ℕ → List ℕ → Change → Ending → Type 0
-RunsJobInPages (Job.Records l) tries sizes c ending =
+abbrev pub RunsPaged : Job → ℕ → List ℕ → Change → Ending → Type 0
+RunsPaged (Job.Records l) tries sizes c ending =
     (l.most ≡ None) × RunsInPages l.form l.start tries sizes c ending
-RunsJobInPages (Job.Named wording (Named.Events Count.All from)) tries sizes c ending =
+RunsPaged (Job.Named wording (Named.Events Count.All from)) tries sizes c ending =
     RunsNamedInPages wording from tries sizes c ending
-RunsJobInPages _ tries sizes c ending = ⊥
+RunsPaged _ tries sizes c ending = ⊥
 
--- such a command, in codes and in a wording
-abbrev pub RunsPaged : CommandState → List ℕ → Change → Ending → Type 0
-RunsPaged command sizes c ending =
-    RunsJobInPages (job_of_command command) command.tries sizes c ending
-
-abbrev pub RunsPagedIn : Wording → CommandState → List ℕ → Change → Ending → Type 0
-RunsPagedIn wording command sizes c ending =
-    RunsJobInPages (job_of_command_in wording command) command.tries sizes c ending
+-- the run in pages of a command with such a job
+abbrev pub RunsPagedCommand : Option Job → ℕ → List ℕ → Change → Ending → Type 0
+RunsPagedCommand (Some job) tries sizes c ending = RunsPaged job tries sizes c ending
+RunsPagedCommand None tries sizes c ending = ⊥

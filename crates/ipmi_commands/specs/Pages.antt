@@ -1,8 +1,9 @@
 -- A listing in pages: each page has its own cursor, which starts where the page before it stopped.
 use Rattle.std.specs.Prelude.{◌≡◌, ℕ, ◌+◌, ◌*◌, ◌<◌, ◌≤◌, ◌==◌, if◌then◌else◌, ◌⊎◌, IsTrue, Option, None, Some, IfOk, Result, Ok, Err, List, [], ◌∷◌}
 use Rattle.std.specs.FinSet as set
-use Rattle.ipmi_commands.specs.Below.{step_call_bound, digits, Place, First, End, Row, first_row, rows_of, WalkEnd, CycleAt, place_after_rows, CursorState, StandsAt, start_of, Seen, CommandState, Ending, Failure}
+use Rattle.ipmi_commands.specs.Below.{step_call_bound, digits, Place, First, End, Row, first_row, rows_of, WalkEnd, CycleAt, place_after_rows, CursorState, StandsAt, start_of, Seen, Ending, Failure}
 use Rattle.ipmi_commands.specs.declared.job.Form.{Form}
+use Rattle.ipmi_commands.specs.declared.limits.RequestLimits.{RequestLimits}
 use Rattle.ipmi_commands.specs.Allowed.{IsAllowed, ending_of, EndsFor, cause_of, Change, change}
 use Rattle.ipmi_commands.specs.Calls.{calls_for, walk_call_bound}
 use Rattle.ipmi_commands.specs.Job.{shelf_of, listing}
@@ -12,23 +13,22 @@ use Rattle.ipmi_commands.specs.Output.{Output}
 use Rattle.ipmi_commands.specs.Texts.{IsPieceOver}
 use Rattle.ipmi_commands.specs.Traced.{Traces}
 
--- the initial cursor of a listing, at the id `from` or at the first record, with the command's part
--- size and tries
-abbrev pub listing_cursor : CommandState → Form → Option ℕ → CursorState
-listing_cursor command form from = record {
+-- the initial cursor of a listing, at the id `from` or at the first record, with these limits
+abbrev pub listing_cursor : RequestLimits → Form → Option ℕ → CursorState
+listing_cursor limits form from = record {
   shelf = shelf_of form;
   place = start_of from;
-  part = command.part;
-  tries = command.tries;
+  part = limits.part;
+  tries = limits.tries;
   ids = set.empty;
   reservation = None;
 }
 
 -- the cursor is the initial one: its part size is at least 1 and has at most eight binary digits,
 -- and it has returned no rows
-pub record IsFresh (command : CommandState) (form : Form) (from : Option ℕ)
+pub record IsFresh (limits : RequestLimits) (form : Form) (from : Option ℕ)
     (cursor : CursorState) : Type 0 where
-  pub is : cursor ≡ listing_cursor command form from
+  pub is : cursor ≡ listing_cursor limits form from
   pub some : 0 < cursor.part
   pub falls : digits cursor.part ≤ 8
   pub stands : (rows walk : List Row) → StandsAt rows (start_of from) walk 0 cursor

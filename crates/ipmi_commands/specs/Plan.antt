@@ -222,10 +222,6 @@ info_plan wording shelf None =
     record { items = []; end = Err Failure.NoInfo; end_spots = AtRecord 0 ∷ [] }
 info_plan wording shelf (Some info) = text_plan (OfInfo wording shelf info) (AtRecord 0 ∷ [])
 
--- the plan of `image rewrite` over an image
+-- the plan of `image rewrite`
 abbrev pub rewrite_plan : Plan
 rewrite_plan = text_plan OfImage []
-
--- the plan of `image rewrite` over a controller, which is not possible: nothing is printed
-abbrev pub no_plan : Plan
-no_plan = record { items = []; end = Err Failure.Usage; end_spots = [] }

@@ -1,5 +1,5 @@
 -- The contract of a run: over any controller, over an honest one, in pages, and over an image.
-use Rattle.std.specs.Prelude.{◌≡◌, ◌⊎◌, ℕ, ◌+◌, ◌*◌, ◌<◌, ◌≤◌, ◌-◌, Bool, true, false, IsTrue, Option, None, Some, Result, Ok, Err, List, [], ◌++◌, length}
+use Rattle.std.specs.Prelude.{◌≡◌, ◌⊎◌, ℕ, ◌+◌, ◌*◌, ◌<◌, ◌≤◌, ◌-◌, IsTrue, Option, None, Some, Result, Ok, Err, List, [], length}
 use Rattle.ipmi_commands.specs.Below.{Count, device_name, Ended, fru_call_bound, LastCallSays, LastFailed, LastFruCallSays, NotPresent, RefusesRecord, RefusesValue, Seen, Shelf, start_of, Place, First, Sdr, Sel, Row, Store, Done, OnGrowing, WasLog, info_of, inventory_of, Keeps, WalkEnd, IsHonest, ImageFault, UsageFault, CommandState, Received, ReceivesText, Ending, Failure, failure_of_usage, said_of, status_of}
 use Rattle.ipmi_commands.specs.declared.job.Entries.{Entries}
 use Rattle.ipmi_commands.specs.declared.job.Form.{Form}
@@ -10,11 +10,11 @@ use Rattle.ipmi_commands.specs.declared.job.Wording.{Wording}
 use Rattle.ipmi_commands.specs.declared.unread.Unread.{Unread}
 use Rattle.ipmi_commands.specs.Allowed.{NoMemory, cause_of, ending_of, EndsFor, IsAllowed, IsFine, Change}
 use Rattle.ipmi_commands.specs.Calls.{calls_for_spot, walk_call_bound, most_on_walk}
-use Rattle.ipmi_commands.specs.Job.{entries_in, shelf_of, is_rewrite, job_in, job_of, listing}
+use Rattle.ipmi_commands.specs.Job.{entries_in, shelf_of, job_in, job_of, listing}
 use Rattle.ipmi_commands.specs.Meanwhile.{IsTextWhile, OnGrowingListing}
 use Rattle.ipmi_commands.specs.Output.{and_then, IsCut, Output}
 use Rattle.ipmi_commands.specs.Pages.{ArePages, IsOneListing, pages_made}
-use Rattle.ipmi_commands.specs.Plan.{OnWalk, AtInventory, Plan, after_names, bytes_of_rows, first_rows, last_rows, listing_plan, last_plan, inventory_plan, inventories_plan, info_plan, rewrite_plan, no_plan}
+use Rattle.ipmi_commands.specs.Plan.{OnWalk, AtInventory, Plan, after_names, bytes_of_rows, first_rows, last_rows, listing_plan, last_plan, inventory_plan, inventories_plan, info_plan, rewrite_plan}
 use Rattle.ipmi_commands.specs.Texts.{IsPieceOver}
 use Rattle.ipmi_commands.specs.Traced.{Traces}
 
@@ -41,7 +41,6 @@ most_calls (Job.Named wording named) tries =
 most_calls (Job.Info wording shelf) tries = tries + 1
 most_calls (Job.Inventory wording id name) tries = fru_call_bound tries 65535
 most_calls (Job.AllInventories wording name) tries = most_for_all wording tries
-most_calls Job.Rewrite tries = 0
 
 -- an entry of the log has a fixed length, so only a sensor data record can be malformed
 abbrev pub MayEndOn : Shelf → Ended → Type 0
@@ -96,7 +95,7 @@ EndsInventory seen (Err Failure.WriteFault) = Unit {0}
 EndsInventory seen (Err Failure.OutOfMemory) = Unit {0}
 EndsInventory seen _ = ⊥
 
--- the possible ends of a run; over a controller, `image rewrite` does nothing and fails
+-- the possible ends of a run
 abbrev pub MayEnd : Job → Change → Ending → Type 0
 MayEnd (Job.Records l) c ending = EndsListing l.form c.seen' ending
 MayEnd (Job.Last entries n from) c ending = EndsListing (Form.EntryLine entries) c.seen' ending
@@ -104,8 +103,6 @@ MayEnd (Job.Named wording named) c ending = EndsNamed wording named c.seen' endi
 MayEnd (Job.Info wording shelf) c ending = EndsInfo c.seen' ending
 MayEnd (Job.Inventory wording id name) c ending = EndsInventory c.seen' ending
 MayEnd (Job.AllInventories wording name) c ending = EndsListing (Form.Device wording) c.seen' ending
-MayEnd Job.Rewrite c ending =
-    (ending ≡ Err Failure.Usage) × (c.seen' ≡ c.seen) × (c.new ≡ c.old)
 
 -- ---- over an honest controller
 
@@ -166,7 +163,6 @@ OnPlan (Job.Inventory wording id name) tries store Holds =
     Holds (inventory_plan wording id name) (calls_for_spot tries store (AtInventory id))
 OnPlan (Job.AllInventories wording name) tries store Holds =
     OnInventories wording name tries store Holds
-OnPlan Job.Rewrite tries store Holds = Holds no_plan 0
 
 -- the output agrees with the plan and with how the run ended, and the number of calls is within the
 -- bound
@@ -217,7 +213,6 @@ OnGrowingPlan (Job.Inventory wording id name) s s' Holds =
     Keeps (inventory_of id) s s' → Holds (inventory_plan wording id name)
 OnGrowingPlan (Job.AllInventories wording name) s s' Holds =
     OnGrowingInventories wording name s s' Holds
-OnGrowingPlan Job.Rewrite s s' Holds = Holds no_plan
 
 -- the output agrees with that plan and with how the run ended; each text is over a store that the
 -- controller held meanwhile, each perhaps over another one
@@ -248,11 +243,18 @@ pub record Runs (job : Job) (tries : ℕ) (c : Change) (ending : Ending) : Type 
   pub traces : IsHonest c.seen → TracesJob job c ending
 
 -- the job of a command, in codes and in a wording
-abbrev pub job_of_command : CommandState → Job
+abbrev pub job_of_command : CommandState → Option Job
 job_of_command command = job_of command.task command.from
 
-abbrev pub job_of_command_in : Wording → CommandState → Job
+abbrev pub job_of_command_in : Wording → CommandState → Option Job
 job_of_command_in wording command = job_in wording command.task command.from
+
+-- the run of a command over a controller: `image rewrite`, which has no job, makes no call, prints nothing
+-- and fails
+abbrev pub RunsCommand : Option Job → ℕ → Change → Ending → Type 0
+RunsCommand (Some job) tries c ending = Runs job tries c ending
+RunsCommand None tries c ending =
+    (ending ≡ Err Failure.Usage) × (c.seen' ≡ c.seen) × (c.new ≡ c.old)
 
 -- Like `Runs`, for a listing in pages of these sizes. Each page is itself a listing from its place,
 -- with its size as the limit. Along a walk that does not end with a cycle, the pages together print
@@ -285,17 +287,17 @@ pub record IsRewriting (store : Store) (old new : Output) (ending : Ending) : Ty
   pub allowed : IsAllowed (IsPieceOver store) rewrite_plan old new ending
   pub unwritten : cause_of ending ≡ NoMemory → new ≡ old
 
--- a run over the store of an image: `image rewrite`, or another job, which never gives up and is
--- never refused
-abbrev pub RunsOver : Bool → Job → Store → Output → Output → Ending → Type 0
-RunsOver true job store old new ending = IsRewriting store old new ending
-RunsOver false job store old new ending =
+-- a run over the store of an image: of a job, which never gives up and is never refused, or `image
+-- rewrite`
+abbrev pub RunsOver : Option Job → Store → Output → Output → Ending → Type 0
+RunsOver None store old new ending = IsRewriting store old new ending
+RunsOver (Some job) store old new ending =
     OnPlan job 0 store (λ plan calls. IsAllowed (IsPieceOver store) plan old new ending)
     × IsFine (cause_of ending)
 
--- a job over an image, which has a store or a fault
-abbrev pub AnswersJob : Job → Result Store ImageFault → Output → Output → Ending → Type 0
-AnswersJob job (Ok store) old new ending = RunsOver (is_rewrite job) job store old new ending
+-- a job or `image rewrite` over an image, which has a store or a fault
+abbrev pub AnswersJob : Option Job → Result Store ImageFault → Output → Output → Ending → Type 0
+AnswersJob job (Ok store) old new ending = RunsOver job store old new ending
 AnswersJob job (Err fault) old new ending = FailsToRead fault old new ending
 
 abbrev pub AnswersCommand : CommandState → Result Store ImageFault → Output → Output → Ending → Type 0

@@ -1,7 +1,7 @@
 -- What a listing printed, by the steps of its cursor, whatever the store did meanwhile.
 use Rattle.std.specs.Prelude.{◌≡◌, ◌⊎◌, ◌+◌, ◌<◌, ◌≤◌, ℕ, Option, None, Some, IfOk, Result, Ok, Err, List, [], ◌∷◌, ◌++◌, length}
 use Rattle.std.specs.FinSet as set
-use Rattle.ipmi_commands.specs.Below.{AreSteps, cursor_after, CursorState, End, Ended, Ending, Failure, handed_out, Id, Place, Row, Seen, seen_after, StaysHonest, Stepped}
+use Rattle.ipmi_commands.specs.Below.{AreSteps, cursor_after, CursorState, End, Ended, Failure, handed_out, Id, Place, Row, Seen, seen_after, StaysHonest, Stepped}
 use Rattle.ipmi_commands.specs.Output.{and_then, IsCut, no_output, Output}
 use Rattle.ipmi_commands.specs.declared.job.Form.{Form}
 use Rattle.ipmi_commands.specs.declared.job.Wording.{Wording}

@@ -5,10 +5,10 @@ ghost use Rattle.ipmi_commands.specs.declared.job.Form.{Form};
 ghost use Rattle.ipmi_commands.specs.Prelude.{LacksInventory, in_parentheses, is_absent, Finds, IsCountedDevice, IsElsewhereIn, is_faulty_device, IsInventoryIn, IsInventoryPiece, IsInventoryText, IsPieceOver, AtInventory, device_spots, locator_spots, OfInventory, OfRow, shown};
 
 use crate::job::Wording;
+use crate::limits::RequestLimits;
 use crate::piece::Piece;
 use crate::unread::Unread;
 use ipmi_bus::{Code, Controller, FruEnded, Record, read_fru};
-use ipmi_command_line::Command;
 use ipmi_fru::{FruView, elsewhere_line, fru_line, has_fault, push_fru};
 use ipmi_json::fru_elsewhere_line;
 use ipmi_records::{SdrView, push_name};
@@ -43,18 +43,18 @@ fn unread_inventory(id: u8, ended: FruEnded) -> Result<Option<Vec<u8>>, Unread>
 fn read_inventory<C: Controller>(
     alloc: Global,
     ctl: &mut C,
-    cmd: &Command,
+    limits: RequestLimits,
     id: u8,
 ) -> Result<Option<Vec<u8>>, Unread>
-    ensures calls { (C.seen ctl.new).calls ≤ (C.seen ctl.old).calls + fru_call_bound cmd.now.tries
+    ensures calls { (C.seen ctl.new).calls ≤ (C.seen ctl.old).calls + fru_call_bound limits.tries
         65535 }
-    ensures asked { AsksAtMost cmd.now.part (C.seen ctl.old) (C.seen ctl.new) }
+    ensures asked { AsksAtMost limits.part (C.seen ctl.old) (C.seen ctl.new) }
     ensures says { IfErr result (λ unread. LacksInventory unread (C.seen ctl.new)) }
     ensures honest { IsHonest (C.seen ctl.old) →
         Finds (λ store found. option_map (λ bytes. bytes.items) found ≡ inventory_of id store)
-        (AtInventory id ∷ []) cmd.now.tries (C.seen ctl.old) (C.seen ctl.new) result }
+        (AtInventory id ∷ []) limits.tries (C.seen ctl.old) (C.seen ctl.new) result }
 {
-    match read_fru(alloc, ctl, id, cmd.part(), cmd.tries()) {
+    match read_fru(alloc, ctl, id, limits.part(), limits.tries()) {
         Ok(bytes) => Ok(Some(bytes)),
         Err(ended) => unread_inventory(id, ended),
     }
@@ -138,20 +138,20 @@ fn is_faulty_device(wording: Wording<'_>, inventory: Option<&[u8]>) -> bool
 pub(crate) fn inventory_in<C: Controller>(
     alloc: Global,
     ctl: &mut C,
-    cmd: &Command,
+    limits: RequestLimits,
     wording: Wording<'_>,
     id: u8,
     name: Option<&str>,
 ) -> Result<Piece, Unread>
-    ensures calls { (C.seen ctl.new).calls ≤ (C.seen ctl.old).calls + fru_call_bound cmd.now.tries
+    ensures calls { (C.seen ctl.new).calls ≤ (C.seen ctl.old).calls + fru_call_bound limits.tries
         65535 }
-    ensures asked { AsksAtMost cmd.now.part (C.seen ctl.old) (C.seen ctl.new) }
+    ensures asked { AsksAtMost limits.part (C.seen ctl.old) (C.seen ctl.new) }
     ensures says { IfErr result (λ unread. LacksInventory unread (C.seen ctl.new)) }
     ensures honest { let named = option_map (λ name. name.now) name.entry in IsHonest (C.seen ctl.old) →
         Finds (λ store piece. IsPieceOver store (OfInventory wording.entry id named) (shown piece))
-        (AtInventory id ∷ []) cmd.now.tries (C.seen ctl.old) (C.seen ctl.new) result }
+        (AtInventory id ∷ []) limits.tries (C.seen ctl.old) (C.seen ctl.new) result }
 {
-    let inventory = read_inventory(alloc, ctl, cmd, id)?;
+    let inventory = read_inventory(alloc, ctl, limits, id)?;
     let text = text_in(alloc, wording, id, name, inventory.as_deref())?;
     let has_fault = is_faulty_device(wording, inventory.as_deref());
     Ok(Piece { text, has_fault })
@@ -185,24 +185,24 @@ fn elsewhere_in(alloc: Global, wording: Wording<'_>, name: &str) -> Result<Vec<u
 fn device_piece<C: Controller>(
     alloc: Global,
     ctl: &mut C,
-    cmd: &Command,
+    limits: RequestLimits,
     wording: Wording<'_>,
     view: &SdrView<'_>,
 ) -> Result<Piece, Unread>
-    ensures calls { (C.seen ctl.new).calls ≤ (C.seen ctl.old).calls + fru_call_bound cmd.now.tries
+    ensures calls { (C.seen ctl.new).calls ≤ (C.seen ctl.old).calls + fru_call_bound limits.tries
         65535 }
-    ensures asked { AsksAtMost cmd.now.part (C.seen ctl.old) (C.seen ctl.new) }
+    ensures asked { AsksAtMost limits.part (C.seen ctl.old) (C.seen ctl.new) }
     ensures says { IfErr result (λ unread. LacksInventory unread (C.seen ctl.new)) }
     ensures honest { IsHonest (C.seen ctl.old) →
         Finds (λ store piece. IsCountedDevice wording.entry store (printed_name view.now) (fru_of view.now)
-        (shown piece)) (device_spots (fru_of view.now)) cmd.now.tries (C.seen ctl.old)
+        (shown piece)) (device_spots (fru_of view.now)) limits.tries (C.seen ctl.old)
         (C.seen ctl.new) result }
 {
     let name = name_of(alloc, view)?;
     match view.fru_of() {
         None => Ok(Piece::sound(elsewhere_in(alloc, wording, &name)?)),
         Some(0) => Ok(Piece::sound(Vec::new(alloc))),
-        Some(id) => inventory_in(alloc, ctl, cmd, wording, id, Some(&name)),
+        Some(id) => inventory_in(alloc, ctl, limits, wording, id, Some(&name)),
     }
 }
 
@@ -211,24 +211,24 @@ fn device_piece<C: Controller>(
 pub(crate) fn locator_piece<C: Controller>(
     alloc: Global,
     ctl: &mut C,
-    cmd: &Command,
+    limits: RequestLimits,
     wording: Wording<'_>,
     lent: &Record<'_>,
 ) -> Result<Piece, Unread>
-    ensures calls { (C.seen ctl.new).calls ≤ (C.seen ctl.old).calls + fru_call_bound cmd.now.tries
+    ensures calls { (C.seen ctl.new).calls ≤ (C.seen ctl.old).calls + fru_call_bound limits.tries
         65535 }
-    ensures asked { AsksAtMost cmd.now.part (C.seen ctl.old) (C.seen ctl.new) }
+    ensures asked { AsksAtMost limits.part (C.seen ctl.old) (C.seen ctl.new) }
     ensures says { IfErr result (λ unread. LacksInventory unread (C.seen ctl.new)) }
     ensures honest { let row = row_of_record lent.now in IsHonest (C.seen ctl.old) →
         Finds (λ store piece. IsPieceOver store (OfRow (Form.Device wording.entry) row) (shown piece))
-        (locator_spots (sdr_view_of row.bytes)) cmd.now.tries (C.seen ctl.old) (C.seen ctl.new)
+        (locator_spots (sdr_view_of row.bytes)) limits.tries (C.seen ctl.old) (C.seen ctl.new)
         result }
 {
     let Ok(view) = SdrView::read(lent.bytes) else {
         return Ok(Piece::sound(Vec::new(alloc)));
     };
     match &view {
-        SdrView::Fru(_) => device_piece(alloc, ctl, cmd, wording, &view),
+        SdrView::Fru(_) => device_piece(alloc, ctl, limits, wording, &view),
         _ => Ok(Piece::sound(Vec::new(alloc))),
     }
 }

@@ -1,14 +1,15 @@
-//! The job of each command. A few kinds of jobs cover all commands.
-ghost use Rattle.std.specs.Prelude.{◌≡◌};
-ghost use Rattle.ipmi_commands.specs.Below.{IsCount, start_of};
-ghost use Rattle.ipmi_commands.specs.Job.{entries_in, entries_job, IsFrom, IsJob, IsPlace, is_rewrite, job_in, job_of, listing, listing_in, shelf_of};
+//! The job of each command. A few kinds of jobs cover all commands. Outside this crate a [`Job`] is made by [`Job::of`]
+//! alone: what it consists of is a detail.
+ghost use Rattle.std.specs.Prelude.{◌≡◌, IfSome, Some, true};
+ghost use Rattle.ipmi_commands.specs.Below.{is_listing, IsCount, IsTask, start_of};
+ghost use Rattle.ipmi_commands.specs.Job.{entries_in, entries_job, IsFrom, IsJob, IsPlace, job_in, job_of, listing, listing_in, lists_all, searches, shelf_of};
 ghost use Rattle.ipmi_commands.specs.declared.job.Entries.{Entries};
 ghost use Rattle.ipmi_commands.specs.declared.job.Job.{Job};
 ghost use Rattle.ipmi_commands.specs.declared.job.Wording.{Wording};
 ghost use Rattle.ipmi_commands.specs.Listing.{end_of};
 
 use ipmi_bus::{Place, Shelf};
-use ipmi_command_line::{Command, Count, Kind, Task};
+use ipmi_command_line::{Count, Kind, Task};
 use ipmi_events::Sensors;
 use ipmi_json::Label;
 use ipmi_output::{Failure, Name};
@@ -22,13 +23,13 @@ pub enum Wording<'a> {
     /// sensors, and one line per device for all inventories. Everything else is printed as in [`Wording::Codes`].
     Words,
     /// JSON: an object in a line for each record, entry, device and info, with these labels as its last members. Events
-    /// have the names of their sensors. `image rewrite` still writes an image.
+    /// have the names of their sensors.
     Json(&'a [Label<'a>]),
 }
 
 /// Which line is printed for a sensor data record.
 #[derive(Clone, Copy)]
-pub(crate) enum Detail<'a> {
+pub enum Detail<'a> {
     /// The line of `sdr list`.
     Short,
     /// The longer line of `sdr elist`.
@@ -41,7 +42,7 @@ pub(crate) enum Detail<'a> {
 
 /// Which line is printed for an entry of the event log.
 #[derive(Drop)]
-pub(crate) enum Entries<'a> {
+pub enum Entries<'a> {
     /// The line in codes.
     Codes,
     /// The line in words, with the names of these sensors.
@@ -52,7 +53,7 @@ pub(crate) enum Entries<'a> {
 
 /// What is printed for each record of a listing.
 #[derive(Drop)]
-pub(crate) enum Form<'a> {
+pub enum Form<'a> {
     /// Its image line.
     Raw,
     /// The object of its bytes, with these labels.
@@ -75,7 +76,7 @@ pub(crate) enum Form<'a> {
 
 /// A listing of records that starts at `start`, with at most `most` records if that is Some.
 #[derive(Drop)]
-pub(crate) struct Listing<'a> {
+pub struct Listing<'a> {
     pub(crate) form: Form<'a>,
     pub(crate) start: Place,
     pub(crate) most: Option<u32>,
@@ -83,7 +84,7 @@ pub(crate) struct Listing<'a> {
 
 /// What is listed with names from the sensor data records.
 #[derive(Clone, Copy)]
-pub(crate) enum Named {
+pub enum Named {
     /// The entries of the event log that the count selects, with the names of their sensors. The walk starts at this
     /// id, or at the first entry.
     Events(Count, Option<u16>),
@@ -91,9 +92,9 @@ pub(crate) enum Named {
     Devices,
 }
 
-/// What a command does.
+/// What a command prints of a controller. `image rewrite` has no job, since only an image can do it.
 #[derive(Drop)]
-pub(crate) enum Job<'a> {
+pub enum Job<'a> {
     /// Lists records along one walk.
     Records(Listing<'a>),
     /// Lists the last entries of a walk of the event log, at most this many. The walk starts at this id, or at the
@@ -107,8 +108,6 @@ pub(crate) enum Job<'a> {
     Inventory(Wording<'a>, u8, Option<Name<'a>>),
     /// Prints the inventory of device 0 with this name, and of each device that a locator names, in this wording.
     AllInventories(Wording<'a>, Option<Name<'a>>),
-    /// Writes the canonical text of the image.
-    Rewrite,
 }
 
 impl<'a> Entries<'a> {
@@ -138,6 +137,13 @@ impl<'a> Form<'a> {
             | Form::Block(_, _)
             | Form::Device(_) => Shelf::Sdr,
         }
+    }
+
+    /// Whether the form searches for a name.
+    fn searches(&self) -> bool
+        ensures { result ≡ searches self.now }
+    {
+        matches!(self, Form::Block(_, _))
     }
 
     /// The result of a listing after its last record: Ok of `with`, or Err if the listing searches for a name and
@@ -193,89 +199,104 @@ impl<'a> Job<'a> {
         }
     }
 
-    /// The job of the command, in this wording.
-    pub(crate) fn of(cmd: &'a Command, wording: Wording<'a>) -> Job<'a>
-        ensures value { result ≡ job_in wording.entry cmd.now.task cmd.now.from }
-        ensures range { IsJob result }
+    /// What the task prints, in this wording. A listing starts at the id `from`, or at the first record. None for
+    /// `image rewrite`, which only an image can do.
+    pub fn of(task: &'a Task, from: Option<u16>, wording: Wording<'a>) -> Option<Job<'a>>
+        requires task { IsTask task.now }
+        requires from { IsFrom from }
+        ensures value { result ≡ job_in wording.entry task.now from }
+        ensures range { IfSome result (λ job. IsJob job) }
+        ensures listing { is_listing task.now ≡ true → (job : Job) × (result ≡ Some job) × (lists_all job ≡ true) }
     {
         match wording {
-            Wording::Codes => Job::in_codes(cmd),
-            Wording::Words => Job::in_words(cmd),
-            Wording::Json(labels) => Job::in_json(cmd, labels),
+            Wording::Codes => Job::in_codes(task, from),
+            Wording::Words => Job::in_words(task, from),
+            Wording::Json(labels) => Job::in_json(task, from, labels),
         }
     }
 
-    /// The job of the command, in JSON with these labels.
-    fn in_json(cmd: &'a Command, labels: &'a [Label<'a>]) -> Job<'a>
-        ensures value { result ≡ job_in (Wording.Json labels.entry) cmd.now.task cmd.now.from }
-        ensures range { IsJob result }
+    /// The job of the task, in JSON with these labels.
+    fn in_json(task: &'a Task, from: Option<u16>, labels: &'a [Label<'a>]) -> Option<Job<'a>>
+        requires task { IsTask task.now }
+        requires from { IsFrom from }
+        ensures value { result ≡ job_in (Wording.Json labels.entry) task.now from }
+        ensures range { IfSome result (λ job. IsJob job) }
     {
-        let from = cmd.from();
         let json = Wording::Json(labels);
-        match cmd.task() {
-            Task::Hex => Job::records(Form::RawObject(labels), from, None),
+        match task {
+            Task::Hex => Some(Job::records(Form::RawObject(labels), from, None)),
             Task::List(kind) | Task::Elist(kind) => {
-                Job::records(Form::Line(Detail::Json(labels), *kind), from, None)
+                Some(Job::records(Form::Line(Detail::Json(labels), *kind), from, None))
             }
             Task::Get(name) => {
                 let name = Name::new(name.as_str());
-                Job::records(Form::Block(json, name), from, None)
+                Some(Job::records(Form::Block(json, name), from, None))
             }
-            Task::SelList(count) => Job::Named(json, Named::Events(*count, from)),
-            Task::SelGet(id) => Job::Named(json, Named::Events(Count::First(1), Some(*id))),
-            Task::Info(shelf) => Job::Info(json, *shelf),
-            Task::Fru(None) => Job::Named(json, Named::Devices),
-            Task::Fru(Some(id)) => Job::Inventory(json, *id, None),
-            Task::Rewrite => Job::Rewrite,
+            Task::SelList(count) => Some(Job::Named(json, Named::Events(*count, from))),
+            Task::SelGet(id) => Some(Job::Named(json, Named::Events(Count::First(1), Some(*id)))),
+            Task::Info(shelf) => Some(Job::Info(json, *shelf)),
+            Task::Fru(None) => Some(Job::Named(json, Named::Devices)),
+            Task::Fru(Some(id)) => Some(Job::Inventory(json, *id, None)),
+            Task::Rewrite => None,
         }
     }
 
-    /// The job of the command, in words.
-    fn in_words(cmd: &'a Command) -> Job<'a>
-        ensures value { result ≡ job_in Wording.Words cmd.now.task cmd.now.from }
-        ensures range { IsJob result }
+    /// The job of the task, in words.
+    fn in_words(task: &'a Task, from: Option<u16>) -> Option<Job<'a>>
+        requires task { IsTask task.now }
+        requires from { IsFrom from }
+        ensures value { result ≡ job_in Wording.Words task.now from }
+        ensures range { IfSome result (λ job. IsJob job) }
     {
-        let from = cmd.from();
-        match cmd.task() {
-            Task::List(kind) => Job::records(Form::Line(Detail::Words, *kind), from, None),
+        match task {
+            Task::List(kind) => Some(Job::records(Form::Line(Detail::Words, *kind), from, None)),
             Task::Get(name) => {
                 let name = Name::new(name.as_str());
-                Job::records(Form::Block(Wording::Words, name), from, None)
+                Some(Job::records(Form::Block(Wording::Words, name), from, None))
             }
-            Task::SelList(count) => Job::Named(Wording::Words, Named::Events(*count, from)),
-            Task::Fru(None) => Job::Named(Wording::Words, Named::Devices),
-            _ => Job::in_codes(cmd),
+            Task::SelList(count) => Some(Job::Named(Wording::Words, Named::Events(*count, from))),
+            Task::Fru(None) => Some(Job::Named(Wording::Words, Named::Devices)),
+            _ => Job::in_codes(task, from),
         }
     }
 
-    /// The job of the command, in codes.
-    fn in_codes(cmd: &'a Command) -> Job<'a>
-        ensures value { result ≡ job_of cmd.now.task cmd.now.from }
-        ensures range { IsJob result }
+    /// The job of the task, in codes.
+    fn in_codes(task: &'a Task, from: Option<u16>) -> Option<Job<'a>>
+        requires task { IsTask task.now }
+        requires from { IsFrom from }
+        ensures value { result ≡ job_of task.now from }
+        ensures range { IfSome result (λ job. IsJob job) }
     {
-        let from = cmd.from();
-        match cmd.task() {
-            Task::Hex => Job::records(Form::Raw, from, None),
-            Task::List(kind) => Job::records(Form::Line(Detail::Short, *kind), from, None),
-            Task::Elist(kind) => Job::records(Form::Line(Detail::Extended, *kind), from, None),
+        match task {
+            Task::Hex => Some(Job::records(Form::Raw, from, None)),
+            Task::List(kind) => Some(Job::records(Form::Line(Detail::Short, *kind), from, None)),
+            Task::Elist(kind) => Some(Job::records(
+                Form::Line(Detail::Extended, *kind),
+                from,
+                None,
+            )),
             Task::Get(name) => {
                 let name = Name::new(name.as_str());
-                Job::records(Form::Block(Wording::Codes, name), from, None)
+                Some(Job::records(Form::Block(Wording::Codes, name), from, None))
             }
-            Task::SelList(count) => Job::entries(*count, from),
-            Task::SelGet(id) => Job::records(Form::EntryBlock, Some(*id), Some(1)),
-            Task::Info(shelf) => Job::Info(Wording::Codes, *shelf),
-            Task::Fru(None) => Job::AllInventories(Wording::Codes, None),
-            Task::Fru(Some(id)) => Job::Inventory(Wording::Codes, *id, None),
-            Task::Rewrite => Job::Rewrite,
+            Task::SelList(count) => Some(Job::entries(*count, from)),
+            Task::SelGet(id) => Some(Job::records(Form::EntryBlock, Some(*id), Some(1))),
+            Task::Info(shelf) => Some(Job::Info(Wording::Codes, *shelf)),
+            Task::Fru(None) => Some(Job::AllInventories(Wording::Codes, None)),
+            Task::Fru(Some(id)) => Some(Job::Inventory(Wording::Codes, *id, None)),
+            Task::Rewrite => None,
         }
     }
 
-    /// Whether the job is to write the canonical text of an image. No run over a controller can do this.
-    pub(crate) fn is_rewrite(&self) -> bool
-        ensures { result ≡ is_rewrite self.now }
+    /// Whether the job lists all records of a shelf, and searches for no name, so that it can be done in pages.
+    pub fn is_listing(&self) -> bool
+        ensures { result ≡ lists_all self.now }
     {
-        matches!(self, Job::Rewrite)
+        match self {
+            Job::Records(listing) => listing.most.is_none() && !listing.form.searches(),
+            Job::Named(_, Named::Events(Count::All, _)) => true,
+            _ => false,
+        }
     }
 
     /// The listing, if the job is `Job::Records`.

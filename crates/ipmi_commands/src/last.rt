@@ -6,11 +6,11 @@ ghost use Rattle.ipmi_commands.specs.declared.job.Job.{Job};
 ghost use Rattle.ipmi_commands.specs.Prelude.{change, CountsEntries, ending_of, EndsListing, IsFresh, IsFrom, ListsAfter, most_on_walk, printed, Runs};
 
 use crate::job::{Entries, Form};
+use crate::limits::RequestLimits;
 use crate::listing::list_records;
 use crate::pages::start_cursor;
 use crate::summary::Summary;
 use ipmi_bus::{Controller, Cursor};
-use ipmi_command_line::Command;
 use ipmi_output::{Failure, Sink};
 use std::alloc::Global;
 
@@ -18,23 +18,32 @@ use std::alloc::Global;
 fn count_entries<'a, C: Controller, O: Sink>(
     alloc: Global,
     ctl: &mut C,
-    cmd: &Command,
+    limits: RequestLimits,
     from: Option<u16>,
     out: &mut O,
     summary: &mut Summary,
 ) -> Result<u32, Failure<'a>>
     requires { IsFrom from }
     ensures faults { O.faults out.new ≡ O.faults out.old + write_faults (ending_of result) }
-    ensures asked { AsksAtMost cmd.now.part (C.seen ctl.old) (C.seen ctl.new) }
+    ensures asked { AsksAtMost limits.part (C.seen ctl.old) (C.seen ctl.new) }
     ensures ends { EndsListing Form.Passed (C.seen ctl.new) (ending_of result) }
     ensures calls { (C.seen ctl.new).calls ≤ (C.seen ctl.old).calls + most_on_walk Form.Passed
-        cmd.now.tries }
+        limits.tries }
     ensures honest { IsHonest (C.seen ctl.old) →
-        CountsEntries (start_of from) cmd.now.tries (change (C.seen ctl.old) (C.seen ctl.new)
+        CountsEntries (start_of from) limits.tries (change (C.seen ctl.old) (C.seen ctl.new)
         (printed (O.taken out.old) summary.old) (printed (O.taken out.new) summary.new)) result }
 {
-    let mut cursor = start_cursor(alloc, cmd, &Form::Passed, from)?;
-    list_records(alloc, &mut cursor, ctl, cmd, &Form::Passed, None, out, summary)
+    let mut cursor = start_cursor(alloc, limits, &Form::Passed, from)?;
+    list_records(
+        alloc,
+        &mut cursor,
+        ctl,
+        limits,
+        &Form::Passed,
+        None,
+        out,
+        summary,
+    )
 }
 
 /// Skips the first `passed` entries after the place of a new cursor, and lists those after them. If there are fewer
@@ -43,31 +52,41 @@ fn list_rest<'a, C: Controller, O: Sink>(
     alloc: Global,
     cursor: &mut Cursor,
     ctl: &mut C,
-    cmd: &Command,
+    limits: RequestLimits,
     entries: Entries<'a>,
     passed: u32,
     out: &mut O,
     summary: &mut Summary,
 ) -> Result<(), Failure<'a>>
-    requires { (from : Option ℕ) × IsFresh cmd.now Form.Passed from cursor.old }
+    requires { (from : Option ℕ) × IsFresh limits Form.Passed from cursor.old }
     ensures faults { O.faults out.new ≡ O.faults out.old + write_faults result }
-    ensures asked { AsksAtMost cmd.now.part (C.seen ctl.old) (C.seen ctl.new) }
+    ensures asked { AsksAtMost limits.part (C.seen ctl.old) (C.seen ctl.new) }
     ensures ends { EndsListing (Form.EntryLine entries.entry) (C.seen ctl.new) result }
     ensures calls { (C.seen ctl.new).calls ≤ (C.seen ctl.old).calls + most_on_walk Form.Passed
-        cmd.now.tries }
+        limits.tries }
     ensures honest { IsHonest (C.seen ctl.old) →
-        ListsAfter entries.entry cursor.old.place passed cmd.now.tries (change (C.seen ctl.old) (C.seen ctl.new)
+        ListsAfter entries.entry cursor.old.place passed limits.tries (change (C.seen ctl.old) (C.seen ctl.new)
         (printed (O.taken out.old) summary.old) (printed (O.taken out.new) summary.new)) result }
 {
     let most = Some(passed);
-    if list_records(alloc, cursor, ctl, cmd, &Form::Passed, most, out, summary)? != passed {
+    if list_records(
+        alloc,
+        cursor,
+        ctl,
+        limits,
+        &Form::Passed,
+        most,
+        out,
+        summary,
+    )? != passed
+    {
         return Ok(());
     }
     list_records(
         alloc,
         cursor,
         ctl,
-        cmd,
+        limits,
         &Form::EntryLine(entries),
         None,
         out,
@@ -80,7 +99,7 @@ fn list_rest<'a, C: Controller, O: Sink>(
 fn list_after<'a, C: Controller, O: Sink>(
     alloc: Global,
     ctl: &mut C,
-    cmd: &Command,
+    limits: RequestLimits,
     entries: Entries<'a>,
     from: Option<u16>,
     passed: u32,
@@ -89,23 +108,32 @@ fn list_after<'a, C: Controller, O: Sink>(
 ) -> Result<(), Failure<'a>>
     requires { IsFrom from }
     ensures faults { O.faults out.new ≡ O.faults out.old + write_faults result }
-    ensures asked { AsksAtMost cmd.now.part (C.seen ctl.old) (C.seen ctl.new) }
+    ensures asked { AsksAtMost limits.part (C.seen ctl.old) (C.seen ctl.new) }
     ensures ends { EndsListing (Form.EntryLine entries.entry) (C.seen ctl.new) result }
     ensures calls { (C.seen ctl.new).calls ≤ (C.seen ctl.old).calls + most_on_walk Form.Passed
-        cmd.now.tries }
+        limits.tries }
     ensures honest { IsHonest (C.seen ctl.old) →
-        ListsAfter entries.entry (start_of from) passed cmd.now.tries (change (C.seen ctl.old) (C.seen ctl.new)
+        ListsAfter entries.entry (start_of from) passed limits.tries (change (C.seen ctl.old) (C.seen ctl.new)
         (printed (O.taken out.old) summary.old) (printed (O.taken out.new) summary.new)) result }
 {
-    let mut cursor = start_cursor(alloc, cmd, &Form::Passed, from)?;
-    list_rest(alloc, &mut cursor, ctl, cmd, entries, passed, out, summary)
+    let mut cursor = start_cursor(alloc, limits, &Form::Passed, from)?;
+    list_rest(
+        alloc,
+        &mut cursor,
+        ctl,
+        limits,
+        entries,
+        passed,
+        out,
+        summary,
+    )
 }
 
 /// Lists the last `wanted` entries. The first walk counts all entries, the second skips those before the last ones.
 pub(crate) fn list_last<'a, C: Controller, O: Sink>(
     alloc: Global,
     ctl: &mut C,
-    cmd: &Command,
+    limits: RequestLimits,
     entries: Entries<'a>,
     wanted: u16,
     from: Option<u16>,
@@ -115,15 +143,15 @@ pub(crate) fn list_last<'a, C: Controller, O: Sink>(
     requires some { 1 ≤ wanted }
     requires from { IsFrom from }
     ensures faults { O.faults out.new ≡ O.faults out.old + write_faults result }
-    ensures asked { AsksAtMost cmd.now.part (C.seen ctl.old) (C.seen ctl.new) }
-    ensures runs { Runs (Job.Last entries.entry wanted from) cmd.now.tries
+    ensures asked { AsksAtMost limits.part (C.seen ctl.old) (C.seen ctl.new) }
+    ensures runs { Runs (Job.Last entries.entry wanted from) limits.tries
         (change (C.seen ctl.old) (C.seen ctl.new) (printed (O.taken out.old) summary.old) (printed (O.taken out.new) summary.new)) result }
 {
-    match count_entries(alloc, ctl, cmd, from, out, summary) {
+    match count_entries(alloc, ctl, limits, from, out, summary) {
         Ok(0) => Ok(()),
         Ok(count) => {
             let passed = count.saturating_sub(u32::from(wanted));
-            list_after(alloc, ctl, cmd, entries, from, passed, out, summary)
+            list_after(alloc, ctl, limits, entries, from, passed, out, summary)
         }
         Err(failure) => Err(failure),
     }

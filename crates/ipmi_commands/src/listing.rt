@@ -5,10 +5,10 @@ ghost use Rattle.ipmi_commands.specs.Below.{AsksAtMost, write_faults};
 ghost use Rattle.ipmi_commands.specs.Prelude.{change, ending_of, EndsListing, is_reached, Lists, printed, shelf_of};
 
 use crate::job::Form;
+use crate::limits::RequestLimits;
 use crate::piece::row_text;
 use crate::summary::Summary;
 use ipmi_bus::{Controller, Cursor};
-use ipmi_command_line::Command;
 use ipmi_image::LineBuffer;
 use ipmi_output::{Failure, Sink, write_all};
 use std::alloc::Global;
@@ -26,20 +26,20 @@ pub(crate) fn list_records<'a, C: Controller, O: Sink>(
     alloc: Global,
     cursor: &mut Cursor,
     ctl: &mut C,
-    cmd: &Command,
+    limits: RequestLimits,
     form: &Form<'a>,
     most: Option<u32>,
     out: &mut O,
     summary: &mut Summary,
 ) -> Result<u32, Failure<'a>>
     requires shelf { cursor.old.shelf ≡ shelf_of form.now }
-    requires tries { cursor.old.tries ≡ cmd.now.tries }
+    requires tries { cursor.old.tries ≡ limits.tries }
     requires room { set.len cursor.old.ids ≤ 65536 }
-    requires part { cursor.old.part ≤ cmd.now.part }
+    requires part { cursor.old.part ≤ limits.part }
     ensures faults { O.faults out.new ≡ O.faults out.old + write_faults (ending_of result) }
-    ensures asked { AsksAtMost cmd.now.part (C.seen ctl.old) (C.seen ctl.new) }
+    ensures asked { AsksAtMost limits.part (C.seen ctl.old) (C.seen ctl.new) }
     ensures ends { EndsListing form.now (C.seen ctl.new) (ending_of result) }
-    ensures lists { Lists form.now cmd.now.tries most cursor.old cursor.new
+    ensures lists { Lists form.now limits.tries most cursor.old cursor.new
         (change (C.seen ctl.old) (C.seen ctl.new) (printed (O.taken out.old) summary.old) (printed (O.taken out.new) summary.new)) result }
 {
     let mut count = 0;
@@ -54,7 +54,7 @@ pub(crate) fn list_records<'a, C: Controller, O: Sink>(
             Ok(None) => return form.end(wrote, count),
             Err(ended) => return Err(Failure::Ended(ended)),
         };
-        let text = match row_text(alloc, ctl, cmd, form, &record, &mut line) {
+        let text = match row_text(alloc, ctl, limits, form, &record, &mut line) {
             Ok(text) => text,
             Err(unread) => return Err(Failure::from(unread)),
         };

@@ -6,11 +6,11 @@ ghost use Rattle.ipmi_commands.specs.declared.job.Job.{Job};
 ghost use Rattle.ipmi_commands.specs.Prelude.{change, IsFrom, IsNamed, job_with, printed, Runs, RunsNamedInPages};
 
 use crate::job::{Entries, Form, Listing, Named, Wording};
+use crate::limits::RequestLimits;
 use crate::pages::{list_page, list_pages};
 use crate::perform::{list_entries, print_inventories};
 use crate::summary::Summary;
 use ipmi_bus::{Controller, Ended, Place};
-use ipmi_command_line::Command;
 use ipmi_events::{Sensors, device_name};
 use ipmi_output::{Failure, Sink, Written};
 use std::alloc::Global;
@@ -58,7 +58,7 @@ fn walk_of<'a>(listed: Result<Place, Failure<'a>>) -> Result<Walked, Failure<'a>
 fn list_with<'a, C: Controller, O: Sink>(
     alloc: Global,
     ctl: &mut C,
-    cmd: &Command,
+    limits: RequestLimits,
     wording: Wording<'a>,
     records: Vec<u8>,
     named: Named,
@@ -67,18 +67,18 @@ fn list_with<'a, C: Controller, O: Sink>(
 ) -> Result<(), Failure<'a>>
     requires { IsNamed named }
     ensures faults { O.faults out.new ≡ O.faults out.old + write_faults result }
-    ensures asked { AsksAtMost cmd.now.part (C.seen ctl.old) (C.seen ctl.new) }
-    ensures runs { Runs (job_with wording.entry (records_in records.items) named) cmd.now.tries
+    ensures asked { AsksAtMost limits.part (C.seen ctl.old) (C.seen ctl.new) }
+    ensures runs { Runs (job_with wording.entry (records_in records.items) named) limits.tries
         (change (C.seen ctl.old) (C.seen ctl.new) (printed (O.taken out.old) summary.old) (printed (O.taken out.new) summary.new)) result }
 {
     match named {
         Named::Events(count, from) => {
             let entries = Entries::of(wording, Sensors::of(alloc, records)?);
-            list_entries(alloc, ctl, cmd, entries, count, from, out, summary)
+            list_entries(alloc, ctl, limits, entries, count, from, out, summary)
         }
         Named::Devices => {
             let name = device_name(alloc, &records, 0)?;
-            print_inventories(alloc, ctl, cmd, wording, name.as_deref(), out, summary)
+            print_inventories(alloc, ctl, limits, wording, name.as_deref(), out, summary)
         }
     }
 }
@@ -87,15 +87,24 @@ fn list_with<'a, C: Controller, O: Sink>(
 fn read_records<'a, C: Controller, O: Sink>(
     alloc: Global,
     ctl: &mut C,
-    cmd: &Command,
+    limits: RequestLimits,
     records: &mut O,
     summary: &mut Summary,
 ) -> Result<Walked, Failure<'a>>
-    ensures asked { AsksAtMost cmd.now.part (C.seen ctl.old) (C.seen ctl.new) }
-    ensures reads { ReadsRecords cmd.now.tries
+    ensures asked { AsksAtMost limits.part (C.seen ctl.old) (C.seen ctl.new) }
+    ensures reads { ReadsRecords limits.tries
         (change (C.seen ctl.old) (C.seen ctl.new) (printed (O.taken records.old) summary.old) (printed (O.taken records.new) summary.new)) result }
 {
-    let listed = list_page(alloc, ctl, cmd, &Form::Bytes, Place::First, None, records, summary);
+    let listed = list_page(
+        alloc,
+        ctl,
+        limits,
+        &Form::Bytes,
+        Place::First,
+        None,
+        records,
+        summary,
+    );
     walk_of(listed)
 }
 
@@ -103,7 +112,7 @@ fn read_records<'a, C: Controller, O: Sink>(
 pub(crate) fn list_named<'a, C: Controller, O: Sink>(
     alloc: Global,
     ctl: &mut C,
-    cmd: &Command,
+    limits: RequestLimits,
     wording: Wording<'a>,
     named: Named,
     out: &mut O,
@@ -111,16 +120,25 @@ pub(crate) fn list_named<'a, C: Controller, O: Sink>(
 ) -> Result<(), Failure<'a>>
     requires { IsNamed named }
     ensures faults { O.faults out.new ≡ O.faults out.old + write_faults result }
-    ensures asked { AsksAtMost cmd.now.part (C.seen ctl.old) (C.seen ctl.new) }
-    ensures runs { Runs (Job.Named wording.entry named) cmd.now.tries
+    ensures asked { AsksAtMost limits.part (C.seen ctl.old) (C.seen ctl.new) }
+    ensures runs { Runs (Job.Named wording.entry named) limits.tries
         (change (C.seen ctl.old) (C.seen ctl.new) (printed (O.taken out.old) summary.old) (printed (O.taken out.new) summary.new)) result }
 {
     ipmi_bus::laws::what_is_found_is_a_row();
     ipmi_events::laws::records_are_found_again();
     let mut records = Written::new(Vec::new(alloc));
     let mut counted = Summary::new();
-    let walked = read_records(alloc, ctl, cmd, &mut records, &mut counted)?;
-    list_with(alloc, ctl, cmd, wording, records.into_inner(), named, out, summary)?;
+    let walked = read_records(alloc, ctl, limits, &mut records, &mut counted)?;
+    list_with(
+        alloc,
+        ctl,
+        limits,
+        wording,
+        records.into_inner(),
+        named,
+        out,
+        summary,
+    )?;
     walked.end()
 }
 
@@ -128,7 +146,7 @@ pub(crate) fn list_named<'a, C: Controller, O: Sink>(
 pub(crate) fn list_named_pages<'a, C: Controller, O: Sink>(
     alloc: Global,
     ctl: &mut C,
-    cmd: &Command,
+    limits: RequestLimits,
     wording: Wording<'a>,
     from: Option<u16>,
     out: &mut O,
@@ -137,8 +155,8 @@ pub(crate) fn list_named_pages<'a, C: Controller, O: Sink>(
 ) -> Result<(), Failure<'a>>
     requires { IsFrom from }
     ensures faults { O.faults out.new ≡ O.faults out.old + write_faults result }
-    ensures asked { AsksAtMost cmd.now.part (C.seen ctl.old) (C.seen ctl.new) }
-    ensures runs { RunsNamedInPages wording.entry from cmd.now.tries sizes.now
+    ensures asked { AsksAtMost limits.part (C.seen ctl.old) (C.seen ctl.new) }
+    ensures runs { RunsNamedInPages wording.entry from limits.tries sizes.now
         (change (C.seen ctl.old) (C.seen ctl.new) (printed (O.taken out.old) summary.old) (printed (O.taken out.new) summary.new)) result }
 {
     ipmi_bus::laws::the_tail_is_a_walk();
@@ -146,9 +164,18 @@ pub(crate) fn list_named_pages<'a, C: Controller, O: Sink>(
     ipmi_events::laws::records_are_found_again();
     let mut records = Written::new(Vec::new(alloc));
     let mut counted = Summary::new();
-    let walked = read_records(alloc, ctl, cmd, &mut records, &mut counted)?;
+    let walked = read_records(alloc, ctl, limits, &mut records, &mut counted)?;
     let entries = Entries::of(wording, Sensors::of(alloc, records.into_inner())?);
     let listing = Listing::new(Form::EntryLine(entries), from, None);
-    list_pages(alloc, ctl, cmd, &listing.form, listing.start, out, summary, sizes)?;
+    list_pages(
+        alloc,
+        ctl,
+        limits,
+        &listing.form,
+        listing.start,
+        out,
+        summary,
+        sizes,
+    )?;
     walked.end()
 }

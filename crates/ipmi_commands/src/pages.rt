@@ -4,10 +4,10 @@ ghost use Rattle.ipmi_commands.specs.Below.{AsksAtMost, start_of, IsHonest, writ
 ghost use Rattle.ipmi_commands.specs.Prelude.{ArePages, change, ending_of, EndsListing, IsFresh, IsFrom, IsPage, IsPlace, most_on_walk, pages_made, printed};
 
 use crate::job::Form;
+use crate::limits::RequestLimits;
 use crate::listing::{is_reached, list_records};
 use crate::summary::Summary;
 use ipmi_bus::{Controller, Cursor, Ended, FIRST_RECORD_ID, Place};
-use ipmi_command_line::Command;
 use ipmi_output::{Failure, Sink};
 use std::alloc::{AllocError, Global};
 
@@ -15,15 +15,15 @@ use std::alloc::{AllocError, Global};
 /// the command's part size and tries.
 pub(crate) fn start_cursor(
     alloc: Global,
-    cmd: &Command,
+    limits: RequestLimits,
     form: &Form<'_>,
     from: Option<u16>,
 ) -> Result<Cursor, AllocError>
     requires { IsFrom from }
-    ensures { IfOk result (λ cursor. IsFresh cmd.now form.now from cursor) }
+    ensures { IfOk result (λ cursor. IsFresh limits form.now from cursor) }
 {
     ipmi_bus::laws::a_part_size_has_few_digits();
-    Cursor::start(alloc, form.shelf(), from, cmd.part(), cmd.tries())
+    Cursor::start(alloc, form.shelf(), from, limits.part(), limits.tries())
 }
 
 /// Lists records with a new cursor, starting at the id `from` or at the first record, at most `most` of them if that
@@ -31,7 +31,7 @@ pub(crate) fn start_cursor(
 fn list_from<'a, C: Controller, O: Sink>(
     alloc: Global,
     ctl: &mut C,
-    cmd: &Command,
+    limits: RequestLimits,
     form: &Form<'a>,
     from: Option<u16>,
     most: Option<u32>,
@@ -40,17 +40,17 @@ fn list_from<'a, C: Controller, O: Sink>(
 ) -> Result<Place, Failure<'a>>
     requires { IsFrom from }
     ensures faults { O.faults out.new ≡ O.faults out.old + write_faults (ending_of result) }
-    ensures asked { AsksAtMost cmd.now.part (C.seen ctl.old) (C.seen ctl.new) }
+    ensures asked { AsksAtMost limits.part (C.seen ctl.old) (C.seen ctl.new) }
     ensures ends { EndsListing form.now (C.seen ctl.new) (ending_of result) }
     ensures place { IfOk result (λ next. IsPlace next) }
     ensures calls { (C.seen ctl.new).calls ≤ (C.seen ctl.old).calls + most_on_walk form.now
-        cmd.now.tries }
+        limits.tries }
     ensures honest { most ≢ Some 0 → IsHonest (C.seen ctl.old) →
-        IsPage form.now (start_of from) cmd.now.tries most (change (C.seen ctl.old) (C.seen ctl.new)
+        IsPage form.now (start_of from) limits.tries most (change (C.seen ctl.old) (C.seen ctl.new)
         (printed (O.taken out.old) summary.old) (printed (O.taken out.new) summary.new)) result }
 {
-    let mut cursor = start_cursor(alloc, cmd, form, from)?;
-    list_records(alloc, &mut cursor, ctl, cmd, form, most, out, summary)?;
+    let mut cursor = start_cursor(alloc, limits, form, from)?;
+    list_records(alloc, &mut cursor, ctl, limits, form, most, out, summary)?;
     Ok(cursor.resume_at())
 }
 
@@ -59,7 +59,7 @@ fn list_from<'a, C: Controller, O: Sink>(
 pub(crate) fn list_page<'a, C: Controller, O: Sink>(
     alloc: Global,
     ctl: &mut C,
-    cmd: &Command,
+    limits: RequestLimits,
     form: &Form<'a>,
     place: Place,
     most: Option<u32>,
@@ -68,23 +68,23 @@ pub(crate) fn list_page<'a, C: Controller, O: Sink>(
 ) -> Result<Place, Failure<'a>>
     requires { IsPlace place }
     ensures faults { O.faults out.new ≡ O.faults out.old + write_faults (ending_of result) }
-    ensures asked { AsksAtMost cmd.now.part (C.seen ctl.old) (C.seen ctl.new) }
+    ensures asked { AsksAtMost limits.part (C.seen ctl.old) (C.seen ctl.new) }
     ensures ends { EndsListing form.now (C.seen ctl.new) (ending_of result) }
     ensures place { IfOk result (λ next. IsPlace next) }
     ensures calls { (C.seen ctl.new).calls ≤ (C.seen ctl.old).calls + most_on_walk form.now
-        cmd.now.tries }
+        limits.tries }
     ensures none { most ≡ Some 0 → C.seen ctl.new ≡ C.seen ctl.old }
     ensures honest { IsHonest (C.seen ctl.old) →
-        IsPage form.now place cmd.now.tries most (change (C.seen ctl.old) (C.seen ctl.new)
+        IsPage form.now place limits.tries most (change (C.seen ctl.old) (C.seen ctl.new)
         (printed (O.taken out.old) summary.old) (printed (O.taken out.new) summary.new)) result }
 {
     if is_reached(most, 0) {
         return form.end(false, place);
     }
     match place {
-        Place::First => list_from(alloc, ctl, cmd, form, None, most, out, summary),
+        Place::First => list_from(alloc, ctl, limits, form, None, most, out, summary),
         Place::Id(FIRST_RECORD_ID) => Err(Failure::Ended(Ended::Cycle(FIRST_RECORD_ID))),
-        Place::Id(id) => list_from(alloc, ctl, cmd, form, Some(id), most, out, summary),
+        Place::Id(id) => list_from(alloc, ctl, limits, form, Some(id), most, out, summary),
         Place::End => form.end(false, place),
     }
 }
@@ -93,7 +93,7 @@ pub(crate) fn list_page<'a, C: Controller, O: Sink>(
 pub(crate) fn list_pages<'a, C: Controller, O: Sink>(
     alloc: Global,
     ctl: &mut C,
-    cmd: &Command,
+    limits: RequestLimits,
     form: &Form<'a>,
     start: Place,
     out: &mut O,
@@ -102,21 +102,21 @@ pub(crate) fn list_pages<'a, C: Controller, O: Sink>(
 ) -> Result<(), Failure<'a>>
     requires { IsPlace start }
     ensures faults { O.faults out.new ≡ O.faults out.old + write_faults result }
-    ensures asked { AsksAtMost cmd.now.part (C.seen ctl.old) (C.seen ctl.new) }
+    ensures asked { AsksAtMost limits.part (C.seen ctl.old) (C.seen ctl.new) }
     ensures ends { EndsListing form.now (C.seen ctl.new) result }
     ensures calls { (C.seen ctl.new).calls ≤ (C.seen ctl.old).calls + pages_made sizes.now *
-        most_on_walk form.now cmd.now.tries }
+        most_on_walk form.now limits.tries }
     ensures honest { IsHonest (C.seen ctl.old) →
-        ArePages form.now cmd.now.tries start sizes.now (change (C.seen ctl.old) (C.seen ctl.new)
+        ArePages form.now limits.tries start sizes.now (change (C.seen ctl.old) (C.seen ctl.new)
         (printed (O.taken out.old) summary.old) (printed (O.taken out.new) summary.new)) result }
 {
     let mut place = start;
     'pages: for size in sizes {
-        match list_page(alloc, ctl, cmd, form, place, Some(*size), out, summary) {
+        match list_page(alloc, ctl, limits, form, place, Some(*size), out, summary) {
             Ok(next) => place = next,
             Err(failure) => return Err(failure),
         }
     }
-    list_page(alloc, ctl, cmd, form, place, None, out, summary)?;
+    list_page(alloc, ctl, limits, form, place, None, out, summary)?;
     Ok(())
 }

@@ -8,9 +8,10 @@ ghost use Rattle.ipmi_commands.specs.Prelude.{LacksPiece, LacksValue, bytes_of, 
 
 use crate::inventory::locator_piece;
 use crate::job::{Detail, Entries, Form, Wording};
+use crate::limits::RequestLimits;
 use crate::unread::Unread;
 use ipmi_bus::{Controller, Record, SEL_ENTRY_LEN, read_reading};
-use ipmi_command_line::{Command, Kind};
+use ipmi_command_line::Kind;
 use ipmi_events::{event_line, sensor_block, sensor_line};
 use ipmi_image::{LineBuffer, record_line};
 use ipmi_json::{sdr_raw_line, sdr_record_line, sel_entry_line};
@@ -127,7 +128,10 @@ fn listed_line<C: Controller>(
         Ok(view) => view,
         Err(fault) => {
             let text = fault_line_of(alloc, detail, lent, fault)?;
-            return Ok(Piece { text, has_fault: true });
+            return Ok(Piece {
+                text,
+                has_fault: true,
+            });
         }
     };
     let reading = reading_for(ctl, lent.id, &view, tries)?;
@@ -271,7 +275,7 @@ fn copy_bytes(lent: &Record<'_>, line: &mut LineBuffer)
 pub(crate) fn row_text<C: Controller>(
     alloc: Global,
     ctl: &mut C,
-    cmd: &Command,
+    limits: RequestLimits,
     form: &Form<'_>,
     lent: &Record<'_>,
     line: &mut LineBuffer,
@@ -279,14 +283,14 @@ pub(crate) fn row_text<C: Controller>(
     requires whole { length lent.now.bytes.now ≡ whole_len (shelf_of form.now) lent.now.bytes.now }
     requires fits { length lent.now.bytes.now ≤ largest_len (shelf_of form.now) }
     ensures calls { (C.seen ctl.new).calls ≤ (C.seen ctl.old).calls + most_after form.now
-        cmd.now.tries }
-    ensures asked { AsksAtMost cmd.now.part (C.seen ctl.old) (C.seen ctl.new) }
+        limits.tries }
+    ensures asked { AsksAtMost limits.part (C.seen ctl.old) (C.seen ctl.new) }
     ensures says { IfErr result (λ unread. LacksPiece form.now unread (C.seen ctl.new)) }
     ensures honest { let row = row_of_record lent.now in IsHonest (C.seen ctl.old) →
         Finds (λ store text. IsPieceOver store (OfRow form.now row) (row_piece line.new.items text))
-        (spots_because_of form.now row) cmd.now.tries (C.seen ctl.old) (C.seen ctl.new) result }
+        (spots_because_of form.now row) limits.tries (C.seen ctl.old) (C.seen ctl.new) result }
 {
-    let tries = cmd.tries();
+    let tries = limits.tries();
     match form {
         Form::Raw => {
             record_line(lent, line);
@@ -309,7 +313,7 @@ pub(crate) fn row_text<C: Controller>(
             Ok(RowText::Own(Piece::sound(block)))
         }
         Form::Device(wording) => {
-            Ok(RowText::Own(locator_piece(alloc, ctl, cmd, *wording, lent)?))
+            Ok(RowText::Own(locator_piece(alloc, ctl, limits, *wording, lent)?))
         }
         Form::EntryLine(entries) => {
             let entry = SelView::read(entry_bytes(lent.bytes));

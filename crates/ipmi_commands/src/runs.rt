@@ -1,10 +1,11 @@
 //! Runs a command over a controller or over a saved image, and reports how it ended.
-ghost use Rattle.std.specs.Prelude.{◌≡◌, ◌+◌, ◌==◌, if◌then◌else◌, true};
+ghost use Rattle.std.specs.Prelude.{◌≡◌, ◌+◌, ◌==◌, if◌then◌else◌, Some, true};
 ghost use Rattle.ipmi_commands.specs.Below.{AsksAtMost, is_listing, store_of_image, of_writer, write_faults};
-ghost use Rattle.ipmi_commands.specs.Prelude.{AnswersCommand, AnswersJob, AnswersLine, change, IsRewriting, job_of_command, job_of_command_in, OnBytes, printed, Runs, RunsPaged, Says};
+ghost use Rattle.ipmi_commands.specs.Prelude.{AnswersCommand, AnswersLine, change, IsJob, IsRewriting, job_of_command, OnBytes, printed, RunsCommand, RunsOver, RunsPagedCommand, Says};
 
 use crate::job::{Job, Wording};
-use crate::perform::{execute, execute_in, execute_pages, write_piece};
+use crate::limits::RequestLimits;
+use crate::perform::{execute, execute_pages, write_piece};
 use crate::summary::Summary;
 use ipmi_bus::Controller;
 use ipmi_command_line::{Command, UsageFault};
@@ -28,11 +29,36 @@ pub fn report<E: MessageSink>(ending: Result<(), Failure<'_>>, err: &mut E) -> u
     }
 }
 
+/// Runs the command over the controller, in codes. `image rewrite` is [`Failure::Usage`], as only an image can do it.
+fn execute_command<'a, C: Controller, O: Sink>(
+    alloc: Global,
+    ctl: &mut C,
+    cmd: &'a Command,
+    out: &mut O,
+) -> Result<(), Failure<'a>>
+    ensures faults { O.faults out.new ≡ O.faults out.old + write_faults result }
+    ensures asked { AsksAtMost cmd.now.part (C.seen ctl.old) (C.seen ctl.new) }
+    ensures runs { OnBytes (O.taken out.old) (O.taken out.new) (λ old new.
+        RunsCommand (job_of_command cmd.now) cmd.now.tries (change (C.seen ctl.old) (C.seen ctl.new) old new) result) }
+{
+    match Job::of(cmd.task(), cmd.from(), Wording::Codes) {
+        Some(job) => execute(
+            alloc,
+            ctl,
+            RequestLimits::of(cmd),
+            job,
+            out,
+            &mut Summary::new(),
+        ),
+        None => Err(Failure::Usage),
+    }
+}
+
 /// Runs the command over the controller, writes to `err` why it did not finish, and returns the exit status: 0 if
 /// everything was printed, 1 if the message says what is missing or why the run stopped, 2 for `image rewrite`, which
 /// only `answer` can do, 4 for a write fault, 5 if out of memory. About the message, the contract says no more than
 /// `err` shows of its contents: a writer that shows none may have received nothing. [`execute`] returns the failure
-/// instead of writing it.
+/// instead of writing it, prints in any wording, and tells what was printed.
 pub fn run<C: Controller, O: Sink, E: Write>(
     alloc: Global,
     ctl: &mut C,
@@ -43,10 +69,30 @@ pub fn run<C: Controller, O: Sink, E: Write>(
     ensures faults { O.faults out.new ≡ O.faults out.old + (if result == 4 then 1 else 0) }
     ensures asked { AsksAtMost cmd.now.part (C.seen ctl.old) (C.seen ctl.new) }
     ensures runs { Says (of_writer (E.contents err.old)) (of_writer (E.contents err.new)) result
-        (λ ending. OnBytes (O.taken out.old) (O.taken out.new) (λ old new. Runs (job_of_command cmd.now) cmd.now.tries
-        (change (C.seen ctl.old) (C.seen ctl.new) old new) ending)) }
+        (λ ending. OnBytes (O.taken out.old) (O.taken out.new) (λ old new.
+        RunsCommand (job_of_command cmd.now) cmd.now.tries (change (C.seen ctl.old) (C.seen ctl.new) old new) ending)) }
 {
-    report(execute(alloc, ctl, cmd, out), err)
+    report(execute_command(alloc, ctl, cmd, out), err)
+}
+
+/// Runs the command over the controller in pages, in codes.
+fn execute_listing<'a, C: Controller, O: Sink>(
+    alloc: Global,
+    ctl: &mut C,
+    cmd: &'a Command,
+    out: &mut O,
+    pages: &[u32],
+) -> Result<(), Failure<'a>>
+    requires { is_listing cmd.now.task ≡ true }
+    ensures faults { O.faults out.new ≡ O.faults out.old + write_faults result }
+    ensures asked { AsksAtMost cmd.now.part (C.seen ctl.old) (C.seen ctl.new) }
+    ensures runs { OnBytes (O.taken out.old) (O.taken out.new) (λ old new.
+        RunsPagedCommand (job_of_command cmd.now) cmd.now.tries pages.now
+        (change (C.seen ctl.old) (C.seen ctl.new) old new) result) }
+{
+    let job = Job::of(cmd.task(), cmd.from(), Wording::Codes).unwrap();
+    let limits = RequestLimits::of(cmd);
+    execute_pages(alloc, ctl, limits, job, out, &mut Summary::new(), pages)
 }
 
 /// Like [`run`], for a listing in pages ([`execute_pages`]).
@@ -62,10 +108,10 @@ pub fn run_pages<C: Controller, O: Sink, E: MessageSink>(
     ensures faults { O.faults out.new ≡ O.faults out.old + (if result == 4 then 1 else 0) }
     ensures asked { AsksAtMost cmd.now.part (C.seen ctl.old) (C.seen ctl.new) }
     ensures runs { Says (E.received err.old) (E.received err.new) result
-        (λ ending. OnBytes (O.taken out.old) (O.taken out.new) (λ old new. RunsPaged cmd.now pages.now
-        (change (C.seen ctl.old) (C.seen ctl.new) old new) ending)) }
+        (λ ending. OnBytes (O.taken out.old) (O.taken out.new) (λ old new.
+        RunsPagedCommand (job_of_command cmd.now) cmd.now.tries pages.now (change (C.seen ctl.old) (C.seen ctl.new) old new) ending)) }
 {
-    report(execute_pages(alloc, ctl, cmd, out, pages), err)
+    report(execute_listing(alloc, ctl, cmd, out, pages), err)
 }
 
 /// Runs the command over a saved image. Err says why it did not finish.
@@ -79,36 +125,40 @@ pub fn execute_image<'a, O: Sink>(
     ensures answers { OnBytes (O.taken out.old) (O.taken out.new) (λ old new.
         AnswersCommand cmd.now (store_of_image image.now) old new result) }
 {
-    execute_image_in(alloc, cmd, Wording::Codes, image, out, &mut Summary::new())
+    let image = Image::read(alloc, image)?;
+    let mut summary = Summary::new();
+    match Job::of(cmd.task(), cmd.from(), Wording::Codes) {
+        Some(job) => execute_over(alloc, image, RequestLimits::of(cmd), job, out, &mut summary),
+        None => {
+            let ended = write_image(alloc, &image, out, &mut summary);
+            drop(image);
+            ended
+        }
+    }
 }
 
-/// Like [`execute_image`], in this wording. Adds what it printed to `summary`, also if it fails.
-pub fn execute_image_in<'a, O: Sink>(
+/// Does the job over the image.
+fn execute_over<'a, O: Sink>(
     alloc: Global,
-    cmd: &'a Command,
-    wording: Wording<'a>,
-    image: &[u8],
+    image: Image,
+    limits: RequestLimits,
+    job: Job<'a>,
     out: &mut O,
     summary: &mut Summary,
 ) -> Result<(), Failure<'a>>
+    requires { IsJob job }
     ensures faults { O.faults out.new ≡ O.faults out.old + write_faults result }
-    ensures answers { AnswersJob (job_of_command_in wording.entry cmd.now) (store_of_image image.now)
-        (printed (O.taken out.old) summary.old) (printed (O.taken out.new) summary.new) result }
+    ensures runs { RunsOver (Some job.entry) image (printed (O.taken out.old) summary.old)
+        (printed (O.taken out.new) summary.new) result }
 {
-    let image = Image::read(alloc, image)?;
-    if Job::of(cmd, wording).is_rewrite() {
-        let ended = write_image(alloc, &image, out, summary);
-        drop(image);
-        return ended;
-    }
     let mut ctl = ImageController::new(image);
-    let ended = execute_in(alloc, &mut ctl, cmd, wording, out, summary);
+    let ended = execute(alloc, &mut ctl, limits, job, out, summary);
     drop(ctl);
     ended
 }
 
-/// Writes the canonical text of the image.
-fn write_image<'a, O: Sink>(
+/// Writes the canonical text of the image, which counts as one item, and adds it to `summary`.
+pub fn write_image<'a, O: Sink>(
     alloc: Global,
     image: &Image,
     out: &mut O,

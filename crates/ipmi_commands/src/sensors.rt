@@ -4,17 +4,18 @@ ghost use Rattle.std.specs.FinSet as set;
 ghost use Rattle.std.specs.List.{list_any};
 ghost use Rattle.ipmi_records.specs.Sdr.{name_of};
 ghost use Rattle.ipmi_commands.specs.Below.{AsksAtMost, IsHonest, row_of_record, Sdr, sdr_view_of, start_of, write_faults};
-ghost use Rattle.ipmi_commands.specs.Prelude.{Finds, is_name, LacksValue, most_on_walk, printed};
+ghost use Rattle.ipmi_commands.specs.Prelude.{Finds, IsFrom, is_name, LacksValue, most_on_walk, printed};
 ghost use Rattle.ipmi_commands.specs.Sensors.{EndsSearch, Found, found_of, found_spots, IsBlockOfFound, PrintsFound, SearchCalls, Searches, SearchesBy, with_readings};
 
 use crate::job::{Form, Wording};
+use crate::limits::RequestLimits;
 use crate::pages::start_cursor;
 use crate::perform::write_piece;
 use crate::piece::{block_of, is_name, reading_for};
 use crate::summary::Summary;
 use crate::unread::Unread;
 use ipmi_bus::{Controller, Cursor, Record};
-use ipmi_command_line::{Command, Word};
+use ipmi_command_line::Word;
 use ipmi_output::{Failure, Sink};
 use ipmi_records::SdrView;
 use ipmi_text::Reading;
@@ -151,25 +152,27 @@ fn find_after<'a, C: Controller>(
 }
 
 /// Appends each record with one of these names to `found`, with its reading, in one walk of the sensor data records
-/// that starts at the command's id or at the first record. A record with a fault is passed over. If this fails,
+/// that starts at the id `from` or at the first record. A record with a fault is passed over. If this fails,
 /// `found` has the records found before.
 pub fn find_sensors<'a, C: Controller>(
     alloc: Global,
     ctl: &mut C,
-    cmd: &Command,
+    limits: RequestLimits,
     names: &[Word],
+    from: Option<u16>,
     found: &mut FoundSensors,
 ) -> Result<(), Failure<'a>>
-    ensures asked { AsksAtMost cmd.now.part (C.seen ctl.old) (C.seen ctl.new) }
+    requires { IsFrom from }
+    ensures asked { AsksAtMost limits.part (C.seen ctl.old) (C.seen ctl.new) }
     ensures ends { EndsSearch (C.seen ctl.new) result }
     ensures calls { (C.seen ctl.new).calls ≤ (C.seen ctl.old).calls + most_on_walk with_readings
-        cmd.now.tries }
+        limits.tries }
     ensures searches { IsHonest (C.seen ctl.old) →
-        Searches names.now (start_of cmd.now.from) cmd.now.tries (C.seen ctl.old) (C.seen ctl.new)
+        Searches names.now (start_of from) limits.tries (C.seen ctl.old) (C.seen ctl.new)
         found.old found.new result }
 {
-    let mut cursor = start_cursor(alloc, cmd, &Form::Bytes, cmd.from())?;
-    find_after(alloc, &mut cursor, ctl, cmd.tries(), names, found)
+    let mut cursor = start_cursor(alloc, limits, &Form::Bytes, from)?;
+    find_after(alloc, &mut cursor, ctl, limits.tries(), names, found)
 }
 
 /// The block of a found sensor with this name, in this wording. Empty for any other.

@@ -8,8 +8,8 @@ use Rattle.ipmi_commands.proofs.listing.list_records.Given as goal
 abbrev pub invariant-records : goal.invariant-records
 invariant-records g l =
     (g.O.Sink.faults l.out ≡ g.O.Sink.faults l.fn.out)
-    × AsksAtMost l.cmd.part (g.C.Controller.seen l.fn.ctl) (g.C.Controller.seen l.ctl)
-    × Listed l.form l.cmd.tries l.most l.count l.wrote l.fn.cursor l.cursor (change (g.C.Controller.seen l.fn.ctl) (g.C.Controller.seen l.ctl) (printed (g.O.Sink.taken l.fn.out) l.fn.summary) (printed (g.O.Sink.taken l.out) l.summary))
+    × AsksAtMost l.limits.part (g.C.Controller.seen l.fn.ctl) (g.C.Controller.seen l.ctl)
+    × Listed l.form l.limits.tries l.most l.count l.wrote l.fn.cursor l.cursor (change (g.C.Controller.seen l.fn.ctl) (g.C.Controller.seen l.ctl) (printed (g.O.Sink.taken l.fn.out) l.fn.summary) (printed (g.O.Sink.taken l.out) l.summary))
 
 -- The number of ids that the cursor can still return.
 abbrev pub decreases-records : goal.decreases-records

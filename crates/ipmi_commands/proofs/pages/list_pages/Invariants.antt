@@ -8,12 +8,12 @@ use Rattle.ipmi_commands.proofs.pages.list_pages.Given as goal
 abbrev pub invariant-pages : goal.invariant-pages
 invariant-pages g l =
     (g.O.Sink.faults l.out ≡ g.O.Sink.faults l.fn.out)
-    × AsksAtMost l.cmd.part (g.C.Controller.seen l.fn.ctl) (g.C.Controller.seen l.ctl)
+    × AsksAtMost l.limits.part (g.C.Controller.seen l.fn.ctl) (g.C.Controller.seen l.ctl)
     × IsPlace l.place
     × ((g.C.Controller.seen l.ctl).calls
-    + pages_made (drop l.size-index l.sizes) * most_on_walk l.form l.cmd.tries
-    ≤ (g.C.Controller.seen l.fn.ctl).calls + pages_made l.fn.sizes * most_on_walk l.form l.cmd.tries)
+    + pages_made (drop l.size-index l.sizes) * most_on_walk l.form l.limits.tries
+    ≤ (g.C.Controller.seen l.fn.ctl).calls + pages_made l.fn.sizes * most_on_walk l.form l.limits.tries)
     × (IsHonest (g.C.Controller.seen l.fn.ctl)
     → IsHonest (g.C.Controller.seen l.ctl)
-    × LeadsTo l.form l.cmd.tries l.fn.sizes (drop l.size-index l.sizes) l.fn.start l.place
+    × LeadsTo l.form l.limits.tries l.fn.sizes (drop l.size-index l.sizes) l.fn.start l.place
     (g.C.Controller.seen l.fn.ctl) (g.C.Controller.seen l.ctl) (printed (g.O.Sink.taken l.fn.out) l.fn.summary) (printed (g.O.Sink.taken l.out) l.summary))

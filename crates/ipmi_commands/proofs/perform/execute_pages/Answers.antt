@@ -1,5 +1,8 @@
-use Rattle.std.proofs.Common.{rules}
+use Rattle.std.proofs.Common.{◌∙◌, sym}
+use Rattle.ipmi_commands.proofs.PagesLaw.{paged}
 use Rattle.ipmi_commands.proofs.perform.execute_pages.Goals as goal
 
-pub returns-clause-runs : goal.returns-clause-runs
-returns-clause-runs g c = search rules
+pub returns-in_default-clause-runs : goal.returns-in_default-clause-runs
+returns-in_default-clause-runs g c =
+    paged c.the_tail_is_a_walk.ensures c.args.job c.args.limits.tries c.args.pages.now _ _ _ _ c.list_pages.result c.unwrap-listing.result c.requires.listing
+    (sym c.listing.ensures ∙ c.unwrap-listing.ensures) c.list_pages.ensures.calls c.list_pages.ensures.ends c.list_pages.ensures.honest

@@ -1,0 +1,47 @@
+//! What a run may take of a controller.
+ghost use Rattle.std.specs.Prelude.{◌≡◌, ◌≤◌};
+
+use ipmi_command_line::Command;
+
+/// What a run may take of a controller: how many bytes of a record or inventory per request, and how many retries.
+#[derive(Clone, Copy)]
+pub struct RequestLimits {
+    part: u8,
+    tries: u8,
+    ghost part_low: { 1 ≤ part },
+    ghost part_high: { part ≤ 254 },
+}
+
+impl RequestLimits {
+    /// At most `part` bytes per request, 1 to 254, and `tries` retries for each record, reading, info or inventory.
+    pub fn new(part: u8, tries: u8) -> RequestLimits
+        requires { (1 ≤ part) × (part ≤ 254) }
+        ensures part { result.part ≡ part }
+        ensures tries { result.tries ≡ tries }
+    {
+        RequestLimits { part, tries }
+    }
+
+    /// Those of the command, by its options `--part` and `--tries`.
+    pub fn of(cmd: &Command) -> RequestLimits
+        ensures part { result.part ≡ cmd.now.part }
+        ensures tries { result.tries ≡ cmd.now.tries }
+    {
+        RequestLimits::new(cmd.part(), cmd.tries())
+    }
+
+    /// The largest number of bytes per request.
+    pub fn part(self) -> u8
+        ensures value { result ≡ self.part }
+        ensures range { (1 ≤ result) × (result ≤ 254) }
+    {
+        self.part
+    }
+
+    /// The number of retries for each record, reading, info or inventory.
+    pub fn tries(self) -> u8
+        ensures { result ≡ self.tries }
+    {
+        self.tries
+    }
+}
