@@ -6,11 +6,12 @@ use Rattle.std.proofs.lemmas.Bool.Decides.{nat_tests}
 use Rattle.ipmi_bus.proofs.GrowthLaws.{steps_stay}
 use Rattle.ipmi_bus.proofs.StepsLaws.{steps_follow}
 use Rattle.ipmi_bus.proofs.WalkLemmas.{all_at_end}
-use Rattle.ipmi_commands.specs.Below.{AreSteps, CommandState, cursor_after, CursorHoldsCurrent, CursorState, Done, CycleAt, MissingAt, digits, End, Ended, EndsBy, Ending, Failure, First, first_row, handed_out, HandsOut, Id, IsHonest, IsShelf, IsStep, IsWalk, last_next, Place, place_after, place_after_rows, Reading, Row, rows_of, Sdr, SdrView, sdr_view_of, Seen, seen_after, Shelf, StandsAt, start_of, StaysHonest, StepIsHonest, Stepped, stays_refl, stays_trans, store_shelf, Store, WalkEnd, with_handed}
+use Rattle.ipmi_commands.specs.Below.{AreSteps, cursor_after, CursorHoldsCurrent, CursorState, Done, CycleAt, MissingAt, digits, End, Ended, EndsBy, Ending, Failure, First, first_row, handed_out, HandsOut, Id, IsHonest, IsShelf, IsStep, IsWalk, last_next, Place, place_after, place_after_rows, Reading, Row, rows_of, Sdr, SdrView, sdr_view_of, Seen, seen_after, Shelf, StandsAt, start_of, StaysHonest, StepIsHonest, Stepped, stays_refl, stays_trans, store_shelf, Store, WalkEnd, with_handed}
 use Rattle.ipmi_commands.specs.Prelude.{AsksAt, AtEnd, Cause, cause_of, cause_of_unread, EndsFor, failure_of, FindsIt, FindsNone, Form, IsFresh, is_name, KeepsAt, listing_cursor, most_after, most_for_one, most_on_walk, NoMemory, OnWalk, reading_for, reading_spots, shelf_of, Unread}
 use Rattle.ipmi_records.specs.Sdr.{name_of}
 use Rattle.ipmi_commands.specs.Sensors.{EndsFound, FindsAlong, FindsBy, Found, found_among, found_by, found_of, found_of_result, found_spots, has_one_of, RowIsLost, SearchCalls, Searches, SearchesBy, StepEnds, with_readings}
 use Rattle.ipmi_commands.specs.Traced.{IsTraced, seen_next}
+use Rattle.ipmi_commands.specs.declared.limits.RequestLimits.{RequestLimits}
 use Rattle.ipmi_commands.proofs.AskLemmas.{asks_nothing, then_no_memory}
 use Rattle.ipmi_commands.proofs.CallLemmas.{called_more, called_stopped, calls_ended, HandsNothing, HasCalled}
 use Rattle.ipmi_commands.proofs.CountLemmas.{between, ends_here, ends_since}
@@ -349,9 +350,9 @@ module _ (names : List (List ℕ)) (begun now : CursorState) (s s' : Seen) (old 
 
 -- ---- a new cursor
 
-pub search_by_cursor : {command : CommandState} {form : Form} {from : Option ℕ} {names : List (List ℕ)} {tries : ℕ}
+pub search_by_cursor : {limits : RequestLimits} {form : Form} {from : Option ℕ} {names : List (List ℕ)} {tries : ℕ}
     {begun now : CursorState} {s s' : Seen} {old new : List Found} {ending : Ending}
-    → IsFresh command form from begun → shelf_of form ≡ Sdr → IsHonest s
+    → IsFresh limits form from begun → shelf_of form ≡ Sdr → IsHonest s
     → SearchesBy names tries begun now s s' old new ending
     → Searches names (start_of from) tries s s' old new ending
 search_by_cursor {form = form} {from = from} {names} {begun = begun} {now = now} {s = s} {s' = s'} {old = old} {new = new} {ending = ending} fresh on honest by_cursor =

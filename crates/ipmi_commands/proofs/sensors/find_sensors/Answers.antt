@@ -8,4 +8,4 @@ find_after-requires-clause-room g c = fresh_room c.in_ok-cursor.ensures
 
 pub returns-clause-searches : goal.returns-clause-searches
 returns-clause-searches g c = λ h.
-    rw (← c.from.ensures.value, ← c.tries.ensures) (search_by_cursor c.in_ok-cursor.ensures refl h (c.find_after.ensures.honest h))
+    rw (← c.tries.ensures) (search_by_cursor c.in_ok-cursor.ensures refl h (c.find_after.ensures.honest h))
