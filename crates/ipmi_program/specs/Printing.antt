@@ -8,6 +8,6 @@ abbrev pub EndsBy : (Ending → Type 0) → Ending → Type 0
 EndsBy Holds result = (ending : Ending) × Holds ending × ((result ≡ ending) ⊎ (result ≡ Err Failure.WriteFault))
 
 -- the buffer is empty, unless there was a write fault
-abbrev pub IsHandedOn : List ℕ → Ending → Type 0
-IsHandedOn left (Err Failure.WriteFault) = Unit {0}
-IsHandedOn left ending = left ≡ []
+abbrev pub IsFlushed : List ℕ → Ending → Type 0
+IsFlushed left (Err Failure.WriteFault) = Unit {0}
+IsFlushed left ending = left ≡ []

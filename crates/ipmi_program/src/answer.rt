@@ -1,16 +1,17 @@
 //! What a program does once its command line and its image are read.
 ghost use Rattle.std.specs.Prelude.{◌≡◌, ◌+◌, ◌==◌, if◌then◌else◌};
 ghost use Rattle.std.specs.Io.Buffered.{writer_buffer};
+ghost use Rattle.ipmi_commands.specs.Output.{OnBytes};
 ghost use Rattle.ipmi_commands.specs.Run.{AnswersCommand};
 ghost use Rattle.ipmi_image.specs.Image.{store_of_image};
 ghost use Rattle.ipmi_output.specs.Writer.{writer_of};
-ghost use Rattle.ipmi_program.specs.Printing.{EndsBy, IsHandedOn};
+ghost use Rattle.ipmi_program.specs.Printing.{EndsBy, IsFlushed};
 ghost use Rattle.ipmi_program.specs.Answer.{Answers, SaysUnread};
 
 use crate::input::{InputFault, input_name};
-use crate::printing::print;
+use crate::printing::flush;
 use ipmi_command_line::{Command, UsageFault};
-use ipmi_commands::{Wording, report};
+use ipmi_commands::{execute_image, report};
 use ipmi_output::{Failure, MessageSink, Sink, Written, say_unreadable};
 use std::alloc::Global;
 use std::io::{BufWriter, Write};
@@ -44,10 +45,10 @@ pub fn answer_buffered<W: Write + Drop, E: MessageSink>(
 ) -> u8
     ensures faults { ⟦<Written<BufWriter<W>> as Sink>⟧.faults out.new ≡
         ⟦<Written<BufWriter<W>> as Sink>⟧.faults out.old + (if result == 4 then 1 else 0) }
-    ensures answers { Answers (λ command image ending. EndsBy (λ done. AnswersCommand command
-        (store_of_image image.items) (⟦<Written<BufWriter<W>> as Sink>⟧.taken out.old)
-        (⟦<Written<BufWriter<W>> as Sink>⟧.taken out.new) done) ending
-        × IsHandedOn (writer_buffer (writer_of out.new)) ending)
+    ensures answers { Answers (λ command image ending. EndsBy (λ done. OnBytes
+        (⟦<Written<BufWriter<W>> as Sink>⟧.taken out.old) (⟦<Written<BufWriter<W>> as Sink>⟧.taken out.new)
+        (λ old new. AnswersCommand command (store_of_image image.items) old new done)) ending
+        × IsFlushed (writer_buffer (writer_of out.new)) ending)
         (out.new ≡ out.old) line.now input.now (E.received err.old) (E.received err.new) result }
 {
     let command = match line {
@@ -55,7 +56,10 @@ pub fn answer_buffered<W: Write + Drop, E: MessageSink>(
         Err(fault) => return report(Err(Failure::from(*fault)), err),
     };
     match input {
-        Ok(image) => report(print(alloc, command, Wording::Codes, image, out), err),
+        Ok(image) => {
+            let ending = execute_image(alloc, command, image, out);
+            report(flush(ending, out), err)
+        }
         Err(fault) => say_unread(*fault, input_name(command.image()), err),
     }
 }

@@ -7,4 +7,4 @@ mod printing;
 
 pub use answer::answer_buffered;
 pub use input::{InputFault, MOST_BYTES, input_name, read_image, read_input, read_words, words_of};
-pub use printing::{print, print_live};
+pub use printing::flush;
