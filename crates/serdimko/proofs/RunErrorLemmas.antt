@@ -1,7 +1,6 @@
 -- What is said of a error.
 use Rattle.std.proofs.Common.{◌≡◌, Bool, List, ℕ, Option, Some, String, refl, arith}
 use Rattle.std.specs.declared.alloc.Global.{Global}
-use Rattle.ipmi_image.specs.declared.cause.FaultCause.{FaultCause}
 use Rattle.ipmi_output.specs.Failure.{Ending, line_text, write_faults}
 use Rattle.serdimko.specs.RunError.{faults_of_error, lost_error, error_of, error_text, said_of_error}
 use Rattle.serdimko.specs.declared.run_error.RunError.{RunError}
@@ -16,11 +15,6 @@ said_unless_closed name is_only_input RunError.Faulty other = refl
 said_unless_closed name is_only_input RunError.Closed other = absurd (other refl)
 
 -- of a run only a write fault is one of the output
-pub run_faults : (ending : Ending) (cause : Option FaultCause) (faulty closed : Bool)
-    → faults_of_error (error_of ending cause faulty closed) ≡ write_faults ending
-run_faults ending cause faulty closed = grind arith
-
--- of a run over a controller only a write fault is one of the output
-pub live_faults : (said : Option (String Global)) (ending : Ending) (cause : Option FaultCause) (faulty closed : Bool)
-    → faults_of_error (lost_error said (error_of ending cause faulty closed)) ≡ write_faults ending
-live_faults said ending cause faulty closed = grind arith
+pub run_faults : (said : Option (String Global)) (ending : Ending) (faulty closed : Bool)
+    → faults_of_error (lost_error said (error_of ending faulty closed)) ≡ write_faults ending
+run_faults said ending faulty closed = grind arith

@@ -44,11 +44,14 @@ pub record Rewrites (report : Report) (store : Store) (old new : Out) (said said
   pub runs : RunsThenEnds report (λ before after ending. IsRewriting store before after ending) None old new last
   pub reports : Reports report last said said' result
 
+abbrev pub is_rewrite : Query → Bool
+is_rewrite (Query.Print Task.Rewrite from) = true
+is_rewrite query = false
+
 -- the query runs over a controller that holds the image, is honest, never busy, and cancels nothing
-abbrev pub PrintsStore : RequestLimits → Query → Report → Store → Out → Out → Received → Received → ℕ × Bool → Type 0
-PrintsStore limits (Query.Print Task.Rewrite from) report store old new said said' result =
-    Rewrites report store old new said said' result
-PrintsStore limits query report store old new said said' result =
+abbrev pub PrintsStore : Bool → RequestLimits → Query → Report → Store → Out → Out → Received → Received → ℕ × Bool → Type 0
+PrintsStore true limits query report store old new said said' result = Rewrites report store old new said said' result
+PrintsStore false limits query report store old new said said' result =
     (seen seen' : Seen) × IsHonest seen × IsTrue seen.plain × (seen.store ≡ store)
     × PrintsQuery limits query report (state seen None old) (state seen' None new) said said' result
 
@@ -59,7 +62,7 @@ IsCause bytes fault cause = (cause ≡ None) ⊎ (cause ≡ cause_of bytes fault
 -- the bytes are an image, or they have a fault; memory may run out before that is known
 abbrev pub PrintsBytes : RequestLimits → Query → Report → List ℕ → Out → Out → Received → Received → ℕ × Bool → Type 0
 PrintsBytes limits query report bytes old new said said' result =
-    ((store : Store) × (store_of_image bytes ≡ Ok store) × PrintsStore limits query report store old new said said' result)
+    ((store : Store) × (store_of_image bytes ≡ Ok store) × PrintsStore (is_rewrite query) limits query report store old new said said' result)
     ⊎ ((fault : ImageFault) × (cause : Option FaultCause) × ((fault ≡ ImageFault.Memory) ⊎ (store_of_image bytes ≡ Err fault))
     × IsCause bytes fault cause × Fails report (no_image fault cause) old new said said' result)
 

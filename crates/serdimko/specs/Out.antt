@@ -10,8 +10,8 @@ use Rattle.ipmi_output.specs.declared.sink.Written.{Written}
 use Rattle.serdimko.specs.declared.closable.Closable.{Closable}
 
 -- whether a write noted that its reader has closed it
-abbrev pub is_closed : {W : Type 0} {inner : Ghosts W} {write : Ghosts (BufWriter (Closable W inner) Global)}
-    → Written (BufWriter (Closable W inner) Global) write → Bool
+abbrev pub is_closed : {W : Type 0} {write : Ghosts (BufWriter (Closable W) Global)}
+    → Written (BufWriter (Closable W) Global) write → Bool
 is_closed out = (writer_inner (writer_of out)).is_closed
 
 -- the bytes that the output took, those of them that are still in its buffer, how often it failed, and whether it was closed
@@ -21,8 +21,8 @@ pub record Out : Type 0 where
   pub faults : ℕ
   pub closed : Bool
 
-abbrev pub out_of : {W : Type 0} {inner : Ghosts W} {write : Ghosts (BufWriter (Closable W inner) Global)}
-    → Written (BufWriter (Closable W inner) Global) write → Out
+abbrev pub out_of : {W : Type 0} {write : Ghosts (BufWriter (Closable W) Global)}
+    → Written (BufWriter (Closable W) Global) write → Out
 out_of out = record {
   taken = taken_of out;
   held = writer_buffer (writer_of out);

@@ -3,9 +3,11 @@ use Rattle.std.specs.Prelude.{◌≡◌, ◌⊎◌, ◌+◌, ◌-◌, ◌^◌, �
 use Rattle.std.specs.Str.Lossy.{utf8_lossy}
 use Rattle.std.specs.declared.alloc.Global.{Global}
 use Rattle.ipmi_bus.specs.CursorState.{start_of}
-use Rattle.ipmi_bus.specs.Seen.{AsksAtMost, IsHonest}
+use Rattle.ipmi_bus.specs.Seen.{AsksAtMost, IsHonest, Seen}
 use Rattle.ipmi_command_line.specs.declared.task.Task.{Task}
-use Rattle.ipmi_commands.specs.Prelude.{change, Job, job_in, most_on_walk, Output, Runs, Wording}
+use Rattle.ipmi_commands.specs.Prelude.{change, job_in, most_on_walk, Output, Runs}
+use Rattle.ipmi_commands.specs.declared.job.Job.{Job}
+use Rattle.ipmi_commands.specs.declared.job.Wording.{Wording}
 use Rattle.ipmi_commands.specs.Sensors.{EndsSearch, Found, PrintsFound, Searches, with_readings}
 use Rattle.ipmi_commands.specs.declared.limits.RequestLimits.{RequestLimits}
 use Rattle.ipmi_json.specs.Info.{end_members}
@@ -63,6 +65,10 @@ EndsIn report pieces old new error last = EndsInWording report.wording report pi
 abbrev pub shown : ℕ → ℕ
 shown n = min n (2 ^ 64 - 1)
 
+-- an item with a fault makes the run fail
+abbrev pub is_faulty : Report → ℕ → Bool
+is_faulty report faults = report.strict && not (faults == 0)
+
 -- the output of a run with this ending was flushed, which may have failed, and the end line follows; so many pieces were printed, and
 -- so many of them have a fault
 pub record EndsRun (report : Report) (pieces faults : ℕ) (said : Option (String Global)) (printed : Ending) (old new : Out)
@@ -73,7 +79,7 @@ pub record EndsRun (report : Report) (pieces faults : ℕ) (said : Option (Strin
   pub same_end : (ending ≡ printed) ⊎ (ending ≡ Err Failure.WriteFault)
   pub empty : IsFlushed flushed.held ending
   pub ends : EndsIn report (shown pieces) flushed new
-      (lost_error said (error_of ending (report.strict && not (faults == 0)) flushed.closed)) last
+      (lost_error said (error_of ending (is_faulty report faults) flushed.closed)) last
 
 -- A run whose output and ending `Prints` relates, and its end. `Prints` sees what was printed and counted: nothing before the run.
 pub record RunsThenEnds (report : Report) (Prints : Output → Output → Ending → Type 0) (said : Option (String Global)) (old new : Out)
@@ -90,11 +96,11 @@ pub record RunsThenEnds (report : Report) (Prints : Output → Output → Ending
 -- ---- a task
 
 -- over a controller; `image rewrite` is none
-abbrev pub RunsJob : Option Job → RequestLimits → State → State → Output → Output → Ending → Type 0
-RunsJob None limits old new before after ending =
-    (ending ≡ Err Failure.Usage) × (new.seen ≡ old.seen) × (after ≡ before)
-RunsJob (Some job) limits old new before after ending =
-    Runs job limits.tries (change old.seen new.seen before after) ending
+abbrev pub RunsJob : Option Job → RequestLimits → Seen → Seen → Output → Output → Ending → Type 0
+RunsJob None limits seen seen' before after ending =
+    (ending ≡ Err Failure.Usage) × (seen' ≡ seen) × (after ≡ before)
+RunsJob (Some job) limits seen seen' before after ending =
+    Runs job limits.tries (change seen seen' before after) ending
 
 -- what a task prints of a controller: no part requested is too long; the tool's words are told only if the connection was lost
 pub record PrintsTask (limits : RequestLimits) (task : Task) (from : Option ℕ) (report : Report) (old new : State)
@@ -102,7 +108,7 @@ pub record PrintsTask (limits : RequestLimits) (task : Task) (from : Option ℕ)
   pub said : Option (String Global)
   pub lost : new.lost ≡ None → said ≡ None
   pub asked : AsksAtMost limits.part old.seen new.seen
-  pub runs : RunsThenEnds report (RunsJob (job_in report.wording task from) limits old new) said old.out new.out last
+  pub runs : RunsThenEnds report (RunsJob (job_in report.wording task from) limits old.seen new.seen) said old.out new.out last
 
 -- the exit status, and whether more can be printed, after a run with this error
 abbrev pub Reports : Report → Option RunError → Received → Received → ℕ × Bool → Type 0
@@ -135,13 +141,23 @@ pub record PrintsName (report : Report) (found : List Found) (name : List ℕ) (
   pub prints : PrintsFound report.wording name found before after printed
   pub ends : ending ≡ named_end name after.pieces printed
 
--- the blocks of each name; the run ends with this failure, or with that of printing
-abbrev pub PrintsNames : Report → List Found → Failure → List (List ℕ) → Output → Output → Ending → Type 0
-PrintsNames report found failure [] before after ending = (after ≡ before) × (ending ≡ Err failure)
-PrintsNames report found failure (name ∷ names) before after ending =
-    ((now : Output) × PrintsFound report.wording name found before now (Ok tt)
-    × PrintsNames report found failure names now after ending)
-    ⊎ ((other : Failure) × PrintsFound report.wording name found before after (Err other) × (ending ≡ Err other))
+-- the blocks of each name
+abbrev pub PrintsNames : Report → List Found → List (List ℕ) → Output → Output → Ending → Type 0
+PrintsNames report found [] before after printed = (after ≡ before) × (printed ≡ Ok tt)
+PrintsNames report found (name ∷ names) before after printed =
+    ((now : Output) × PrintsFound report.wording name found before now (Ok tt) × PrintsNames report found names now after printed)
+    ⊎ ((failure : Failure) × PrintsFound report.wording name found before after (Err failure) × (printed ≡ Err failure))
+
+-- the end of a run after a search that broke: its failure, unless printing failed
+abbrev pub broken_end : Failure → Ending → Ending
+broken_end failure (Ok done) = Err failure
+broken_end failure (Err other) = Err other
+
+pub record PrintsBroken (report : Report) (found : List Found) (names : List (List ℕ)) (failure : Failure) (before after : Output)
+    (ending : Ending) : Type 0 where
+  pub printed : Ending
+  pub prints : PrintsNames report found names before after printed
+  pub ends : ending ≡ broken_end failure printed
 
 -- a run for one name; the next one follows, unless the error is not this run's own
 abbrev pub RunsName : Report → List Found → List ℕ → Out → Out → Received → Received → ℕ × Bool → Bool → Type 0
@@ -156,7 +172,7 @@ PrintsSearched (Ok done) report found names old new said said' result =
     Each (RunsName report found) names old.out new.out said said' result
 PrintsSearched (Err failure) report found names old new said said' result =
     (line : Option (String Global)) × (last : Option RunError) × (new.lost ≡ None → line ≡ None)
-    × RunsThenEnds report (PrintsNames report found failure names) line old.out new.out last × Reports report last said said' result
+    × RunsThenEnds report (PrintsBroken report found names failure) line old.out new.out last × Reports report last said said' result
 
 -- one walk finds the sensors with these names, and then they are printed
 pub record PrintsSensors (limits : RequestLimits) (names : List (List ℕ)) (from : Option ℕ) (report : Report) (old new : State)

@@ -1,5 +1,5 @@
 //! The output of the program, which may be closed by its reader.
-ghost use Rattle.std.specs.Prelude.{◌≡◌};
+ghost use Rattle.std.specs.Prelude.{◌≡◌, false};
 ghost use Rattle.serdimko.specs.Out.{is_closed};
 
 use ipmi_output::Written;

@@ -1,11 +1,12 @@
 //! Prints what a command asks for from a controller, live or over an image, and reports how each run ended.
-ghost use Rattle.std.specs.Prelude.{◌≡◌, List, None, Option, ℕ};
+ghost use Rattle.std.specs.Prelude.{◌≡◌, ◌+◌, Err, IfSome, List, None, Option, ℕ};
 ghost use Rattle.serdimko.specs.Out.{out_of, state};
 ghost use Rattle.ipmi_command_line.specs.Command.{IsTask};
-ghost use Rattle.ipmi_commands.specs.Prelude.{IsFrom, printed};
+ghost use Rattle.ipmi_bus.specs.Seen.{AsksAtMost};
+ghost use Rattle.ipmi_commands.specs.Prelude.{IsFrom, IsJob, printed};
 ghost use Rattle.ipmi_output.specs.Failure.{write_faults};
 ghost use Rattle.serdimko.specs.Settings.{IsQuery};
-ghost use Rattle.serdimko.specs.Printing.{PrintsName, PrintsNames, PrintsQuery, PrintsSensors, PrintsTask, Each, RunsName, RunsThenEnds};
+ghost use Rattle.serdimko.specs.Printing.{PrintsName, PrintsNames, PrintsQuery, PrintsSensors, PrintsTask, Each, PrintsBroken, RunsJob, RunsName, RunsThenEnds};
 
 use crate::closable::Output;
 use crate::ending::end_run;
@@ -46,6 +47,27 @@ pub(crate) enum Query {
     Sensors(Words, Option<u16>),
 }
 
+/// Runs the job; without one, as for `image rewrite`, which needs an image, the run fails.
+fn run_job<'a, C: Controller, W: Write + Drop>(
+    alloc: Global,
+    ctl: &mut C,
+    limits: RequestLimits,
+    job: Option<Job<'a>>,
+    out: &mut Output<W>,
+    summary: &mut Summary,
+) -> Result<(), Failure<'a>>
+    requires { IfSome job.entry (λ job. IsJob job) }
+    ensures faults { (out_of out.new).faults ≡ (out_of out.old).faults + write_faults result }
+    ensures asked { AsksAtMost limits.part (C.seen ctl.old) (C.seen ctl.new) }
+    ensures runs { RunsJob job.entry limits (C.seen ctl.old) (C.seen ctl.new)
+        (printed (out_of out.old).taken summary.old) (printed (out_of out.new).taken summary.new) result }
+{
+    match job {
+        Some(job) => execute(alloc, ctl, limits, job, out, summary),
+        None => Err(Failure::Usage),
+    }
+}
+
 /// Prints what the task says. Returns why it did not finish, if it did not.
 fn run_task<'a, C: Connection, W: Write + Drop>(
     alloc: Global,
@@ -63,11 +85,8 @@ fn run_task<'a, C: Connection, W: Write + Drop>(
         (state (C.seen ctl.new) (⟦<C as Connection>⟧.lost ctl.new) (out_of out.new)) result }
 {
     let mut summary = Summary::new();
-    let ending = match Job::of(task, from, report.wording) {
-        Some(job) => execute(alloc, ctl, limits, job, out, &mut summary),
-        // only an image can be rewritten
-        None => Err(Failure::Usage),
-    };
+    let job = Job::of(task, from, report.wording);
+    let ending = run_job(alloc, ctl, limits, job, out, &mut summary);
     let said = ctl.last_line(alloc);
     end_run(alloc, report, ending, said, &summary, out)
 }
@@ -116,24 +135,45 @@ fn print_each_name<W: Write + Drop, E: MessageSink>(
     (highest, true)
 }
 
-/// Prints the blocks of each name, after a search that ended with this failure.
+/// Prints the blocks of each name.
 fn print_names<'a, W: Write + Drop>(
     alloc: Global,
     found: &FoundSensors,
     names: &[Word],
-    failure: Failure<'a>,
     report: &Report<'_>,
     out: &mut Output<W>,
     summary: &mut Summary,
 ) -> Result<(), Failure<'a>>
     ensures faults { (out_of out.new).faults ≡ (out_of out.old).faults + write_faults result }
-    ensures prints { PrintsNames report.now found.now failure.entry names.now
+    ensures prints { PrintsNames report.now found.now names.now
         (printed (out_of out.old).taken summary.old) (printed (out_of out.new).taken summary.new) result }
 {
     for name in names {
         print_sensors(alloc, found, name.as_str(), report.wording, out, summary)?;
     }
-    Err(failure)
+    Ok(())
+}
+
+/// Prints the blocks of each name after a search that ended with this failure. Returns why the run did not finish.
+fn run_broken<'a, W: Write + Drop>(
+    alloc: Global,
+    found: &FoundSensors,
+    names: &[Word],
+    failure: Failure<'a>,
+    said: Option<String>,
+    report: &Report<'_>,
+    out: &mut Output<W>,
+) -> Option<RunError<'a>>
+    requires { write_faults (Err failure.entry) ≡ 0 }
+    ensures { RunsThenEnds report.now (PrintsBroken report.now found.now names.now failure.entry) said
+        (out_of out.old) (out_of out.new) result }
+{
+    let mut summary = Summary::new();
+    let ending = match print_names(alloc, found, names, report, out, &mut summary) {
+        Ok(()) => Err(failure),
+        Err(other) => Err(other),
+    };
+    end_run(alloc, report, ending, said, &summary, out)
 }
 
 /// Finds the sensors with these names in one walk, and prints their blocks in the order of the names.
@@ -158,9 +198,7 @@ fn print_by_name<C: Connection, W: Write + Drop, E: MessageSink>(
         Ok(()) => print_each_name(alloc, &found, names, report, out, err),
         Err(failure) => {
             let said = ctl.last_line(alloc);
-            let mut summary = Summary::new();
-            let ending = print_names(alloc, &found, names, failure, report, out, &mut summary);
-            let error = end_run(alloc, report, ending, said, &summary, out);
+            let error = run_broken(alloc, &found, names, failure, said, report, out);
             report.tell(&error, err)
         }
     }

@@ -6,7 +6,7 @@ ghost use Rattle.ipmi_output.specs.Failure.{write_faults};
 ghost use Rattle.ipmi_output.specs.Sink.{TakesPart};
 ghost use Rattle.ipmi_output.specs.Writer.{flush_faults};
 ghost use Rattle.serdimko.specs.Out.{out_of};
-ghost use Rattle.serdimko.specs.Printing.{EndsIn, EndsRun, IsEndLine, message_of, PrintsEnd, shown};
+ghost use Rattle.serdimko.specs.Printing.{EndsIn, EndsRun, is_faulty, IsEndLine, message_of, PrintsEnd, shown};
 ghost use Rattle.serdimko.specs.RunError.{error_text, faults_of_error, is_output_open, status_of_error};
 
 use crate::closable::{Output, is_closed};
@@ -134,6 +134,13 @@ pub(crate) fn end_with<'a, W: Write + Drop>(
     }
 }
 
+/// Whether an item that was printed makes the run fail.
+fn is_faulty(report: &Report<'_>, summary: &Summary) -> bool
+    ensures { result ≡ is_faulty report.now (faults_of summary.now) }
+{
+    report.strict && summary.faults() != 0
+}
+
 /// Ends a run with this ending that printed this: flushes the output, and prints the line at the end of objects. `said` is what the
 /// tool of a live controller said if the connection was lost. Returns why the run did not finish, if it did not.
 pub(crate) fn end_run<'a, W: Write + Drop>(
@@ -146,12 +153,11 @@ pub(crate) fn end_run<'a, W: Write + Drop>(
 ) -> Option<RunError<'a>>
     ensures faults { (out_of out.new).faults + write_faults ending.entry ≡
         (out_of out.old).faults + faults_of_error result }
-    ensures ends { EndsRun report.now (pieces_of summary.now) (faults_of summary.now) said.entry ending.entry
+    ensures ends { EndsRun report.now (pieces_of summary.now) (faults_of summary.now) said ending.entry
         (out_of out.old) (out_of out.new) result }
 {
     let ending = flush(ending, out);
-    let is_faulty = report.strict && summary.faults() != 0;
-    let error = RunError::of(ending, is_faulty, is_closed(out));
-    let error = RunError::of_connection(error, said);
+    let failed = RunError::of(ending, is_faulty(report, summary), is_closed(out));
+    let error = RunError::of_connection(failed, said);
     end_with(alloc, report, summary.pieces(), error, out)
 }

@@ -1,10 +1,10 @@
 //! Prints what a command asks for from each image, one after another.
-ghost use Rattle.std.specs.Prelude.{◌≡◌, ◌+◌, ◌++◌, ◌==◌, [], false, if◌then◌else◌, None, OnErr, OnOk, option_map, Ok, Some};
+ghost use Rattle.std.specs.Prelude.{◌≡◌, ◌+◌, ◌++◌, ◌==◌, [], false, if◌then◌else◌, None, OnErr, OnOk, option_map, Ok, Some, true};
 ghost use Rattle.ipmi_image.specs.Image.{store_of_image};
 ghost use Rattle.ipmi_output.specs.Sink.{TakesPart};
 ghost use Rattle.ipmi_output.specs.Writer.{flush_faults};
 ghost use Rattle.ipmi_program.specs.Input.{input_name};
-ghost use Rattle.serdimko.specs.Images.{Fails, file_of, header, is_headed, IsCause, PrintsBytes, PrintsFile, PrintsImage, PrintsImages, PrintsInput, PrintsNamed, PrintsStore, Rewrites};
+ghost use Rattle.serdimko.specs.Images.{Fails, file_of, header, is_headed, IsCause, is_rewrite, PrintsBytes, PrintsFile, PrintsImage, PrintsImages, PrintsInput, PrintsNamed, PrintsStore, Rewrites};
 ghost use Rattle.serdimko.specs.Out.{out_of};
 ghost use Rattle.serdimko.specs.Settings.{IsQuery};
 
@@ -70,6 +70,13 @@ fn rewrite<W: Write + Drop, E: MessageSink>(
     report.tell(&last, err)
 }
 
+/// Whether the image is to be printed in its canonical spelling.
+fn is_rewrite(query: &Query) -> bool
+    ensures { result ≡ is_rewrite query.now }
+{
+    matches!(query, Query::Print(Task::Rewrite, _))
+}
+
 /// Prints what the query asks for from an image.
 fn print_store<W: Write + Drop, E: MessageSink>(
     alloc: Global,
@@ -81,10 +88,10 @@ fn print_store<W: Write + Drop, E: MessageSink>(
     err: &mut E,
 ) -> (u8, bool)
     requires { IsQuery query.now }
-    ensures { PrintsStore limits query.now report.now image (out_of out.old) (out_of out.new)
+    ensures { PrintsStore (is_rewrite query.now) limits query.now report.now image (out_of out.old) (out_of out.new)
         (E.received err.old) (E.received err.new) result }
 {
-    if matches!(query, Query::Print(Task::Rewrite, _)) {
+    if is_rewrite(query) {
         return rewrite(alloc, &image, report, out, err);
     }
     let mut ctl = ImageController::new(image);

@@ -1,7 +1,7 @@
 //! Why an image was not printed, or not completely: the message and the exit status.
 ghost use Rattle.std.specs.Prelude.{◌≡◌, Some, true};
 ghost use Rattle.ipmi_output.specs.Failure.{joined_parts, part_text};
-ghost use Rattle.serdimko.specs.RunError.{is_recoverable, is_output_open, lost_error, named_text, error_of, error_text, status_of_error, unread};
+ghost use Rattle.serdimko.specs.RunError.{is_recoverable, is_output_open, lost_error, named_text, no_image, error_of, error_text, status_of_error, unread};
 
 use crate::causes::cause_words;
 use ipmi_bus::{Ended, FruEnded};

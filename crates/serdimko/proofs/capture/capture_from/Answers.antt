@@ -5,11 +5,11 @@ pub returns : goal.returns
 returns g c = captured c.report_captured-status.result c.report_captured-status.ensures (λ status saves. record {
   image = c.in_ok-captured.captured.image;
   left = c.in_ok-captured.captured.left.items;
-  calls = rw c.tries-tries.ensures at c.capture.ensures.calls;
-  asked = rw c.part-part.ensures.value at c.capture.ensures.asked;
+  calls = rw c.tries.ensures at c.capture.ensures.calls;
+  asked = rw c.part.ensures.value at c.capture.ensures.asked;
   lacks = c.in_ok-captured.ensures.lacks;
   stays = c.capture.ensures.stays;
-  counts = rw c.tries-tries.ensures at c.in_ok-captured.ensures.counts;
+  counts = rw c.tries.ensures at c.in_ok-captured.ensures.counts;
   but = c.in_ok-captured.ensures.honest;
   all = c.in_ok-captured.ensures.all;
   told = c.in_ok-captured.ensures.told;

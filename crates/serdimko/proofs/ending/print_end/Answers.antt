@@ -1,5 +1,5 @@
 use Rattle.std.proofs.Common.{rules}
-use Rattle.serdimko.proofs.objects.print_end.Goals as goal
+use Rattle.serdimko.proofs.ending.print_end.Goals as goal
 
 pub returns-in-Ok-write_line-clause-ends : goal.returns-in-Ok-write_line-clause-ends
 returns-in-Ok-write_line-clause-ends g c = search rules

@@ -1,49 +1,37 @@
-use Rattle.std.proofs.Common.{Some, arith, drop, map, option_map, ◌+◌, ◌∷◌}
-use Rattle.serdimko.proofs.ImageLemmas.{from_next, none_left, printed_all, printed_first, printed_last, printed_one, printed_up_to}
-use Rattle.serdimko.specs.Objects.{PrintsImage}
+use Rattle.std.proofs.Common.{◌∙◌, arith, refl, sym}
+use Rattle.serdimko.specs.Images.{PrintsOne}
+use Rattle.serdimko.specs.Out.{out_of}
+use Rattle.serdimko.proofs.EachLemmas.{max_is, printed_all, printed_last, printed_none, printed_one}
+use Rattle.serdimko.proofs.ImagesLemmas.{each_image, only_input}
 use Rattle.serdimko.proofs.images.print_images.Goals as goal
 
-pub returns-then-not-is_output_open : goal.returns-then-not-is_output_open
-returns-then-not-is_output_open g c =
-    printed_last (PrintsImage c.args.own.now c.args.commands.now) (option_map (λ image. image.now) c.args.first) _ c.args.out.now _
-    (g.E.MessageSink.received c.args.err.now) _ c.print_image-highest.result c.print_image-highest.ensures c.if-not-is_output_open.true
+pub returns-then-is_empty : goal.returns-then-is_empty
+returns-then-is_empty g c =
+    only_input c.args.settings.now c.args.query.now c.args.images.now _ _ _ _ _ (sym c.is_empty.ensures ∙ c.if-is_empty.true) c.print_image.ensures
 
 pub loop-image-init : goal.loop-image-init
-loop-image-init g c =
-    printed_first (PrintsImage c.args.own.now c.args.commands.now) (option_map (λ image. image.now) c.args.first)
-    (map Some c.args.own.now.images) c.args.out.now _ (g.E.MessageSink.received c.args.err.now) _
-    c.print_image-highest.result c.print_image-highest.ensures c.if-not-is_output_open.false
+loop-image-init g c = printed_none (PrintsOne c.args.settings.now c.args.query.now _) c.args.images.now (out_of c.args.out.now) (g.E.MessageSink.received c.args.err.now)
 
-pub returns-then-not-is_output_open-2 : goal.returns-then-not-is_output_open-2
-returns-then-not-is_output_open-2 g c =
-    let items = c.as_slice-image-items.ensures in
-    let test = rw items at c.loop-image-test.true in
-    rw c.max-highest.ensures (printed_up_to (PrintsImage c.args.own.now c.args.commands.now) (Some c.image-item.result)
-    (map Some (drop (c.loop-image.image-index + 1) c.args.own.now.images)) c.loop-image.out _ (g.E.MessageSink.received c.loop-image.err) _
-    c.print_image-status.result c.print_image-status.ensures
-    (option_map (λ image. image.now) c.args.first ∷ map Some c.args.own.now.images) c.args.out.now
-    (g.E.MessageSink.received c.args.err.now) c.loop-image.highest
-    (rw (from_next c.args.own.now.images c.loop-image.image-index _ _ (omega (arith, test)) (rw items at c.image-item.is))
-    at c.loop-image.invariant) c.if-not-is_output_open-2.true)
+pub returns-then-not-is_open : goal.returns-then-not-is_open
+returns-then-not-is_open g c =
+    each_image c.args.settings.now c.args.query.now c.args.images.now _ _ _ _ _ (sym c.is_empty.ensures ∙ c.if-is_empty.false) (rw c.if-not-is_open.true at (
+    printed_last (PrintsOne c.args.settings.now c.args.query.now _) c.args.images.now (out_of c.args.out.now) (g.E.MessageSink.received c.args.err.now)
+    c.loop-image.image-index (out_of c.loop-image.out) (out_of c.print_image-status.new.out) (g.E.MessageSink.received c.loop-image.err)
+    (g.E.MessageSink.received c.print_image-status.new.err) c.loop-image.highest c.image-item.result c.print_image-status.result c.print_image-status.result.1
+    c.loop-image.invariant (omega (arith, c.loop-image-test.true)) c.image-item.is (c.print_image-status.ensures, refl)
+    c.max-highest.result (c.max-highest.ensures ∙ max_is c.loop-image.highest c.print_image-status.result.0) c.if-not-is_open.true))
 
 pub loop-image-preserved : goal.loop-image-preserved
 loop-image-preserved g c =
-    let items = c.as_slice-image-items.ensures in
-    let test = rw items at c.loop-image-test.true in
-    rw c.max-highest.ensures (printed_one (PrintsImage c.args.own.now c.args.commands.now) (Some c.image-item.result)
-    (map Some (drop (c.loop-image.image-index + 1) c.args.own.now.images)) c.loop-image.out _ (g.E.MessageSink.received c.loop-image.err) _
-    c.print_image-status.result c.print_image-status.ensures
-    (option_map (λ image. image.now) c.args.first ∷ map Some c.args.own.now.images) c.args.out.now
-    (g.E.MessageSink.received c.args.err.now) c.loop-image.highest
-    (rw (from_next c.args.own.now.images c.loop-image.image-index _ _ (omega (arith, test)) (rw items at c.image-item.is))
-    at c.loop-image.invariant) c.if-not-is_output_open-2.false)
+    printed_one (PrintsOne c.args.settings.now c.args.query.now _) c.args.images.now (out_of c.args.out.now) (g.E.MessageSink.received c.args.err.now)
+    c.loop-image.image-index (out_of c.loop-image.out) (out_of c.print_image-status.new.out) (g.E.MessageSink.received c.loop-image.err)
+    (g.E.MessageSink.received c.print_image-status.new.err) c.loop-image.highest c.image-item.result c.print_image-status.result c.print_image-status.result.1
+    c.loop-image.invariant (omega (arith, c.loop-image-test.true)) c.image-item.is (c.print_image-status.ensures, refl)
+    c.max-highest.result (c.max-highest.ensures ∙ max_is c.loop-image.highest c.print_image-status.result.0) c.if-not-is_open.false
 
 pub returns : goal.returns
 returns g c =
-    let items = c.as_slice-image-items.ensures in
-    let test = rw items at c.loop-image-test.false in
-    let bound = rw items at c.loop-image.auto.image-index-end in
-    printed_all (PrintsImage c.args.own.now c.args.commands.now)
-    (option_map (λ image. image.now) c.args.first ∷ map Some c.args.own.now.images) c.args.out.now _
-    (g.E.MessageSink.received c.args.err.now) _ c.loop-image.highest
-    (rw (none_left c.args.own.now.images c.loop-image.image-index (omega (arith, test, bound))) at c.loop-image.invariant)
+    each_image c.args.settings.now c.args.query.now c.args.images.now _ _ _ _ _ (sym c.is_empty.ensures ∙ c.if-is_empty.false)
+    (printed_all (PrintsOne c.args.settings.now c.args.query.now _) c.args.images.now (out_of c.args.out.now) (g.E.MessageSink.received c.args.err.now)
+    c.loop-image.image-index (out_of c.loop-image.out) (g.E.MessageSink.received c.loop-image.err) c.loop-image.highest c.loop-image.invariant
+    (omega (arith, c.loop-image-test.false, c.loop-image.auto.image-index-end)))

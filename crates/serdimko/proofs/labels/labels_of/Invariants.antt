@@ -6,4 +6,4 @@ use Rattle.serdimko.proofs.labels.labels_of.Given as goal
 abbrev pub invariant-loop-text : goal.invariant-loop-text
 invariant-loop-text l =
     map key_value l.labels.items ≡ fold (λ labels text. with_label labels (label_of text))
-    (first_labels (option_map (λ name. name.now) l.image)) (take l.text-index l.own.labels)
+    (first_labels (option_map (λ name. name.now) l.image)) (take l.text-index l.texts)

@@ -5,4 +5,4 @@ use Rattle.serdimko.proofs.labels.wrong_label.Given as goal
 
 abbrev pub invariant-loop-text : goal.invariant-loop-text
 invariant-loop-text l =
-    wrong_label [] l.own.labels ≡ wrong_label (map key_value l.labels.items) (drop l.text-index l.own.labels)
+    wrong_label [] l.texts ≡ wrong_label (map key_value l.labels.items) (drop l.text-index l.texts)
