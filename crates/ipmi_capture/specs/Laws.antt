@@ -6,6 +6,7 @@ use Rattle.ipmi_capture.specs.Capture.{devices_of, IsCaptureBut, IsCaptureOf, se
 use Rattle.ipmi_capture.specs.Left.{LacksInfo, LacksInventory, LacksReading, LacksRecords}
 use Rattle.ipmi_capture.specs.declared.left.Left.{Left}
 use Rattle.ipmi_commands.specs.Job.{job_in}
+use Rattle.ipmi_commands.specs.declared.job.Job.{Job}
 use Rattle.ipmi_commands.specs.declared.job.Wording.{Wording}
 use Rattle.ipmi_commands.specs.Plan.{Item, view_has_name}
 use Rattle.ipmi_commands.specs.Run.{OnPlan}
@@ -24,7 +25,7 @@ IsKnownPlace shelf store (Id id) = IsOnWalk shelf store id
 IsKnownPlace shelf store _ = Unit {0}
 
 -- the command asks only for ids on the image's walks, for device 0, and for devices that its records name; `image rewrite` is
--- left out, as it does nothing over a controller
+-- left out, as it is no job
 abbrev pub IsOfCapture : Store → Task → Option ℕ → Type 0
 IsOfCapture image (Task.SelList count) from = IsKnownPlace Sel image (start_of from)
 IsOfCapture image (Task.SelGet id) from = IsKnownPlace Sel image (Id id)
@@ -40,13 +41,17 @@ SameText image store item = (text : List ℕ)
     → (IsTextOver image item.subject text → IsTextOver store item.subject text)
     × (IsTextOver store item.subject text → IsTextOver image item.subject text)
 
--- A command has the same plan over both stores, and each item has the same texts. So runs that stop at the same item print the
--- same. The tries may differ, as they affect only the number of calls.
-abbrev pub PrintsTheSame : Store → Store → Wording → Task → Option ℕ → Type 0
-PrintsTheSame image store wording task from = (tries tries' : ℕ)
-    → OnPlan (job_in wording task from) tries store (λ plan calls.
-    OnPlan (job_in wording task from) tries' image (λ plan' calls'.
+-- There is a job, which has the same plan over both stores, and each item has the same texts. So runs that stop at the same item
+-- print the same. The tries may differ, as they affect only the number of calls.
+abbrev pub SamePlan : Option Job → Store → Store → Type 0
+SamePlan (Some job) image store = (tries tries' : ℕ)
+    → OnPlan job tries store (λ plan calls. OnPlan job tries' image (λ plan' calls'.
     (plan' ≡ plan) × All (SameText image store) plan.items))
+SamePlan None image store = ⊥
+
+-- so does the job of a command
+abbrev pub PrintsTheSame : Store → Store → Wording → Task → Option ℕ → Type 0
+PrintsTheSame image store wording task from = SamePlan (job_in wording task from) image store
 
 abbrev pub CapturesPrintTheSame : Type 0
 CapturesPrintTheSame = (image store : Store) (wording : Wording) (task : Task) (from : Option ℕ)
