@@ -23,10 +23,11 @@ pub(super) fn execute_in<'a, C: Controller, O: Sink>(
     command: &'a Command,
     wording: Wording<'a>,
     out: &mut O,
+    summary: &mut Summary,
 ) -> Result<(), Failure<'a>> {
     let limits = RequestLimits::of(command);
     match Job::of(command.task(), command.from(), wording) {
-        Some(job) => execute(alloc, ctl, limits, job, out, &mut Summary::new()),
+        Some(job) => execute(alloc, ctl, limits, job, out, summary),
         None => Err(Failure::Usage),
     }
 }
