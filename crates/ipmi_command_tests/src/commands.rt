@@ -33,5 +33,6 @@ mod record_lengths;
 mod refused_memory;
 pub(crate) mod saved;
 mod short_outputs;
+mod summaries;
 mod whole_pieces;
 mod written_answers;

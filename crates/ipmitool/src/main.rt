@@ -3,7 +3,10 @@
 #![tactic(auto)]
 
 pub use ipmi_command_line::{Command, Count, Kind, Task, UsageFault, Word, Words, command_of};
-pub use ipmi_commands::{answer, execute, execute_image, execute_pages, report, run, run_pages};
+pub use ipmi_commands::{
+    Job, RequestLimits, Summary, Wording, answer, execute, execute_image, execute_pages, report,
+    run, run_pages, write_image,
+};
 pub use ipmi_output::{Failure, MessageSink, Sink, SinkFault, Written, say, say_unreadable};
 use ipmi_program::{answer_buffered, read_input, read_words};
 use std::io::{self, BufWriter};

@@ -12,8 +12,8 @@ use ipmi_bus::{
     Code, Controller, Cursor, Ended, Event, FruEnded, FruSize, NO_NEXT_ID, Part, Shelf, Tally,
     read_fru, read_reading,
 };
-use ipmi_command_line::{Command, DEFAULT_PART, DEFAULT_TRIES, Kind, Task};
-use ipmi_commands::execute;
+use ipmi_command_line::{DEFAULT_PART, DEFAULT_TRIES, Kind, Task};
+use ipmi_commands::{Job, RequestLimits, Summary, Wording, execute};
 use ipmi_fru::{AreaFault, FruFault, FruView};
 use ipmi_output::{Failure, Written};
 use ipmi_records::SdrView;
@@ -267,15 +267,13 @@ fn program(rt: &HostRuntime) -> io::Result<()> {
         tally: Tally::new(),
         turn: 0,
     };
-    let command = Command::new(
-        Task::List(Kind::All),
-        None,
-        DEFAULT_PART,
-        DEFAULT_TRIES,
-        None,
-    );
+    let task = Task::List(Kind::All);
+    // each task but `image rewrite` has a job
+    let job = Job::of(&task, None, Wording::Codes).unwrap();
+    let limits = RequestLimits::new(DEFAULT_PART, DEFAULT_TRIES);
     let mut out = Written::new(io::writer(rt));
-    if let Err(failure) = execute(rt.alloc(), &mut ctl, &command, &mut out) {
+    let mut summary = Summary::new();
+    if let Err(failure) = execute(rt.alloc(), &mut ctl, limits, job, &mut out, &mut summary) {
         explain(rt, &failure)?;
     }
     match value_named(rt.alloc(), &mut ctl, "Temp") {

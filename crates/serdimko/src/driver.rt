@@ -56,7 +56,7 @@ fn run_job<'a, C: Controller, W: Write + Drop>(
     out: &mut Output<W>,
     summary: &mut Summary,
 ) -> Result<(), Failure<'a>>
-    requires { IfSome job.entry (λ job. IsJob job) }
+    requires { IfSome job (λ job. IsJob job) }
     ensures faults { (out_of out.new).faults ≡ (out_of out.old).faults + write_faults result }
     ensures asked { AsksAtMost limits.part (C.seen ctl.old) (C.seen ctl.new) }
     ensures runs { RunsJob job.entry limits (C.seen ctl.old) (C.seen ctl.new)
@@ -149,7 +149,10 @@ fn print_names<'a, W: Write + Drop>(
         (printed (out_of out.old).taken summary.old) (printed (out_of out.new).taken summary.new) result }
 {
     for name in names {
-        print_sensors(alloc, found, name.as_str(), report.wording, out, summary)?;
+        match print_sensors(alloc, found, name.as_str(), report.wording, out, summary) {
+            Ok(()) => {}
+            Err(failure) => return Err(failure),
+        }
     }
     Ok(())
 }
@@ -164,7 +167,7 @@ fn run_broken<'a, W: Write + Drop>(
     report: &Report<'_>,
     out: &mut Output<W>,
 ) -> Option<RunError<'a>>
-    requires { write_faults (Err failure.entry) ≡ 0 }
+    requires { write_faults (Err failure) ≡ 0 }
     ensures { RunsThenEnds report.now (PrintsBroken report.now found.now names.now failure.entry) said
         (out_of out.old) (out_of out.new) result }
 {

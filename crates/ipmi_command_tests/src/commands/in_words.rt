@@ -1,5 +1,5 @@
 //! Commands in words over a saved image: their output and the number of their calls.
-use super::outcome::{Outcome, assert_outcome};
+use super::outcome::{Outcome, assert_outcome, execute_in};
 use super::over_images::scripted;
 use super::saved::image_in;
 use crate::cases::{Case, case_of};
@@ -7,7 +7,7 @@ use crate::command_line::lines::command_of_case;
 use crate::controllers::Counting;
 use ipmi_bus::Controller;
 use ipmi_command_line::Command;
-use ipmi_commands::{Wording, execute_in, report};
+use ipmi_commands::{Summary, Wording, report};
 use ipmi_output::Written;
 use std::alloc::Global;
 use std::process::Abort;
@@ -105,7 +105,8 @@ pub(super) fn outcome_in<C: Controller + Drop>(
 ) -> Outcome {
     let mut out = Written::new(Vec::new(alloc));
     let mut err = Vec::new(alloc);
-    let ending = execute_in(alloc, &mut ctl, &command, wording, &mut out);
+    let mut summary = Summary::new();
+    let ending = execute_in(alloc, &mut ctl, &command, wording, &mut out, &mut summary);
     let status = report(ending, &mut err);
     let calls = ctl.calls;
     drop(ctl);

@@ -2,8 +2,8 @@
 use crate::controllers::Counting;
 use ipmi_bus::Controller;
 use ipmi_command_line::Command;
-use ipmi_commands::run;
-use ipmi_output::Written;
+use ipmi_commands::{Job, RequestLimits, Summary, Wording, execute, run};
+use ipmi_output::{Failure, Sink, Written};
 use std::alloc::Global;
 use std::process::Abort;
 
@@ -14,6 +14,22 @@ pub(crate) struct Outcome {
     pub err: Vec<u8>,
     pub status: u8,
     pub calls: u32,
+}
+
+/// Runs the command over the controller, in this wording.
+pub(super) fn execute_in<'a, C: Controller, O: Sink>(
+    alloc: Global,
+    ctl: &mut C,
+    command: &'a Command,
+    wording: Wording<'a>,
+    out: &mut O,
+    summary: &mut Summary,
+) -> Result<(), Failure<'a>> {
+    let limits = RequestLimits::of(command);
+    match Job::of(command.task(), command.from(), wording) {
+        Some(job) => execute(alloc, ctl, limits, job, out, summary),
+        None => Err(Failure::Usage),
+    }
 }
 
 /// The outcome of a command over the controller.

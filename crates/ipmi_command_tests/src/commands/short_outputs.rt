@@ -1,11 +1,12 @@
 //! Outputs and messages to writers that fail, are full or are slow.
 use super::answers::{AnswerOutcome, assert_answer_outcome};
+use super::outcome::execute_in;
 use super::outputs::{INVENTORIES, INVENTORY, NEWEST};
 use super::over_images::image_of;
 use super::saved::{THREE_LINES, TO_NOWHERE, image_named, with_record};
 use crate::command_line::lines::{command, command_of_case};
 use crate::writers::Limited;
-use ipmi_commands::{answer, execute, report};
+use ipmi_commands::{Summary, Wording, answer, report};
 use ipmi_fixtures::{CPU_TEMP_BLOCK, INFO_BLOCK};
 use ipmi_image::ImageController;
 use ipmi_output::{MessageSink, Sink, Written};
@@ -208,7 +209,15 @@ fn outcome_with_slow_messages(rt: &impl Abort, alloc: Global) -> AnswerOutcome {
     let mut ctl = ImageController::new(image_of(rt, alloc, TO_NOWHERE));
     let mut out = Written::new(Vec::new(alloc));
     let mut err = Written::new(Limited::slow(alloc, 3));
-    let ending = execute(alloc, &mut ctl, &hex, &mut out);
+    let mut summary = Summary::new();
+    let ending = execute_in(
+        alloc,
+        &mut ctl,
+        &hex,
+        Wording::Codes,
+        &mut out,
+        &mut summary,
+    );
     let status = report(ending, &mut err);
     drop(hex);
     drop(ctl);

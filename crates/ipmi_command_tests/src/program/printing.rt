@@ -3,9 +3,10 @@ use crate::command_line::lines::{command, read_line};
 use crate::commands::saved::{THREE_LINES, THREE_ROWS};
 use crate::writers::{Limited, assert_written_text};
 use ipmi_bus::Ended;
-use ipmi_commands::Wording;
+use ipmi_command_line::Command;
+use ipmi_commands::execute_image;
 use ipmi_output::{Failure, Written};
-use ipmi_program::{InputFault, answer_buffered, print};
+use ipmi_program::{InputFault, answer_buffered, flush};
 use std::alloc::Global;
 use std::io::{BufWriter, Write};
 use std::process::Abort;
@@ -19,17 +20,22 @@ fn buffered<W: Write + Drop>(rt: &impl Abort, alloc: Global, writer: W) -> Writt
     )
 }
 
+/// Runs the command over the image, and flushes the output.
+fn print<'a, W: Write + Drop>(
+    alloc: Global,
+    cmd: &'a Command,
+    image: &[u8],
+    out: &mut Written<BufWriter<W>>,
+) -> Result<(), Failure<'a>> {
+    let ending = execute_image(alloc, cmd, image, out);
+    flush(ending, out)
+}
+
 #[test]
 fn all_that_was_printed_is_handed_on(rt: HostRuntime) {
     let cmd = command(&rt, rt.alloc(), "sdr hex");
     let mut out = buffered(&rt, rt.alloc(), Vec::new(rt.alloc()));
-    let ending = print(
-        rt.alloc(),
-        &cmd,
-        Wording::Codes,
-        THREE_ROWS.as_bytes(),
-        &mut out,
-    );
+    let ending = print(rt.alloc(), &cmd, THREE_ROWS.as_bytes(), &mut out);
     assert!(rt; ending.is_ok(), "{ending:?}");
     assert!(rt; out.get_ref().buffer().is_empty(), "some of it is left");
     assert_written_text(&rt, &out.into_inner().into_parts().0, THREE_LINES);
@@ -41,7 +47,7 @@ fn what_was_printed_before_a_cycle_is_handed_on(rt: HostRuntime) {
     let image = b"ipmi-image 1\nsdr 0001 0001 010051c000\nend\n";
     let cmd = command(&rt, rt.alloc(), "sdr hex");
     let mut out = buffered(&rt, rt.alloc(), Vec::new(rt.alloc()));
-    let ending = print(rt.alloc(), &cmd, Wording::Codes, image, &mut out);
+    let ending = print(rt.alloc(), &cmd, image, &mut out);
     let is_cycle = matches!(ending, Err(Failure::Ended(Ended::Cycle(1))));
     assert!(rt; is_cycle, "{ending:?}");
     let line = "sdr 0001 0001 010051c000\n";
@@ -53,7 +59,7 @@ fn what_was_printed_before_a_cycle_is_handed_on(rt: HostRuntime) {
 fn assert_write_fault(rt: &impl Abort, alloc: Global, room: usize) {
     let cmd = command(rt, alloc, "sdr hex");
     let mut out = buffered(rt, alloc, Limited::failing_after(alloc, room));
-    let ending = print(alloc, &cmd, Wording::Codes, THREE_ROWS.as_bytes(), &mut out);
+    let ending = print(alloc, &cmd, THREE_ROWS.as_bytes(), &mut out);
     assert!(rt;
         matches!(ending, Err(Failure::WriteFault)),
         "{room} bytes: {ending:?}"

@@ -1,6 +1,5 @@
 use Rattle.std.proofs.Common.{◌∙◌, arith, refl, sym}
 use Rattle.ipmi_commands.specs.Prelude.{printed}
-use Rattle.ipmi_commands.proofs.AskLemmas.{passed}
 use Rattle.serdimko.specs.Out.{out_of}
 use Rattle.serdimko.proofs.NamesLemmas.{named_all, named_last, named_none, named_one}
 use Rattle.serdimko.proofs.driver.print_names.Goals as goal
@@ -8,20 +7,19 @@ use Rattle.serdimko.proofs.driver.print_names.Goals as goal
 pub loop-name-init : goal.loop-name-init
 loop-name-init g c = (refl, named_none c.args.report.now c.args.found.now c.args.names.now (printed (out_of c.args.out.now).taken c.args.summary.now))
 
-pub returns-in_err-print_sensors-clause-faults : goal.returns-in_err-print_sensors-clause-faults
-returns-in_err-print_sensors-clause-faults g c =
-    rw (passed _ _ c.from_residual.ensures.1) (omega (arith, c.loop-name.invariant.0, c.in_err-print_sensors.ensures.faults))
+pub returns-in-Err-clause-faults : goal.returns-in-Err-clause-faults
+returns-in-Err-clause-faults g c = omega (arith, c.loop-name.invariant.0, c.in-Err.ensures.faults)
 
-pub returns-in_err-print_sensors-clause-prints : goal.returns-in_err-print_sensors-clause-prints
-returns-in_err-print_sensors-clause-prints g c =
-    rw (passed _ _ c.from_residual.ensures.1) (named_last c.args.report.now c.args.found.now c.args.names.now _ c.loop-name.name-index _ _ c.name-item.result
-    c.loop-name.invariant.1 (omega (arith, c.loop-name-test.true)) c.name-item.is _ (rw c.as_str.ensures at c.in_err-print_sensors.ensures.prints))
+pub returns-in-Err-clause-prints : goal.returns-in-Err-clause-prints
+returns-in-Err-clause-prints g c =
+    named_last c.args.report.now c.args.found.now c.args.names.now _ c.loop-name.name-index _ _ c.name-item.result
+    c.loop-name.invariant.1 (omega (arith, c.loop-name-test.true)) c.name-item.is _ (rw c.as_str.ensures at c.in-Err.ensures.prints)
 
 pub loop-name-preserved : goal.loop-name-preserved
 loop-name-preserved g c = (
-  omega (arith, c.loop-name.invariant.0, c.in_ok-print_sensors.ensures.faults),
+  omega (arith, c.loop-name.invariant.0, c.in-Ok.ensures.faults),
   named_one c.args.report.now c.args.found.now c.args.names.now _ c.loop-name.name-index _ _ c.name-item.result
-      c.loop-name.invariant.1 (omega (arith, c.loop-name-test.true)) c.name-item.is (rw c.as_str.ensures at c.in_ok-print_sensors.ensures.prints),
+      c.loop-name.invariant.1 (omega (arith, c.loop-name-test.true)) c.name-item.is (rw c.as_str.ensures at c.in-Ok.ensures.prints),
 )
 
 pub returns-clause-prints : goal.returns-clause-prints
