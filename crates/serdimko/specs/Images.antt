@@ -1,5 +1,5 @@
 -- What is printed of each image.
-use Rattle.std.specs.Prelude.{◌≡◌, ◌⊎◌, ◌+◌, ◌==◌, ◌||◌, not, ℕ, Bool, true, false, IsTrue, List, [], ◌∷◌, ◌++◌, bytes_eq, codes, length, map, Option, None, Some, Result, Ok, Err, Vec, if◌then◌else◌}
+use Rattle.std.specs.Prelude.{◌≡◌, ◌⊎◌, ◌+◌, ◌==◌, ℕ, Bool, true, false, IsTrue, List, [], ◌∷◌, ◌++◌, bytes_eq, codes, length, map, Option, None, Some, Result, Ok, Err, Vec, if◌then◌else◌}
 use Rattle.std.specs.Borrow.{Bor}
 use Rattle.std.specs.declared.alloc.Global.{Global}
 use Rattle.ipmi_bus.specs.Seen.{IsHonest, Seen}
@@ -27,7 +27,7 @@ use Rattle.serdimko.specs.declared.run_error.RunError.{RunError}
 use Rattle.serdimko.specs.Out.{Out, state}
 use Rattle.serdimko.specs.Printing.{Each, EndsIn, PrintsQuery, Reports, RunsThenEnds}
 use Rattle.serdimko.specs.RunError.{faults_of_error, is_output_open, no_image, output_error, Tells, unread}
-use Rattle.serdimko.specs.Settings.{is_json, texts_of, wording_of}
+use Rattle.serdimko.specs.Settings.{is_headed, texts_of, wording_of}
 
 -- ---- one image
 
@@ -82,10 +82,6 @@ pub record IsReport (settings : Settings) (image : Option (List ℕ)) (name : Li
   pub strict : report.strict ≡ settings.strict
   pub name_is : report.name.now ≡ name
   pub input : report.is_only_input ≡ is_only_input
-
--- texts of one of several images follow its name
-abbrev pub is_headed : Format → Bool → Bool
-is_headed format is_only_input = not (is_json format || is_only_input)
 
 abbrev pub header : List ℕ → List ℕ
 header name = line_text (codes "== " ++ escaped_name name)

@@ -1,5 +1,5 @@
 -- What the settings of a request ask for.
-use Rattle.std.specs.Prelude.{ℕ, Bool, true, false, List, []}
+use Rattle.std.specs.Prelude.{ℕ, Bool, false, not, List, []}
 use Rattle.std.specs.Borrow.{Bor}
 use Rattle.ipmi_command_line.specs.Command.{IsTask}
 use Rattle.ipmi_command_line.specs.declared.request.Format.{Format}
@@ -13,9 +13,10 @@ abbrev pub IsQuery : Query → Type 0
 IsQuery (Query.Print task from) = IsTask task × IsFrom from
 IsQuery (Query.Sensors names from) = IsFrom from
 
-abbrev pub is_json : Format → Bool
-is_json (Format.Json texts) = true
-is_json format = false
+-- texts of one of several images follow its name
+abbrev pub is_headed : Format → Bool → Bool
+is_headed (Format.Json texts) is_only_input = false
+is_headed format is_only_input = not is_only_input
 
 -- the labels of objects, as they were given
 abbrev pub texts_of : Format → List (List ℕ)

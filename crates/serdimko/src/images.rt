@@ -4,7 +4,7 @@ ghost use Rattle.ipmi_image.specs.Image.{store_of_image};
 ghost use Rattle.ipmi_output.specs.Sink.{TakesPart};
 ghost use Rattle.ipmi_output.specs.Writer.{flush_faults};
 ghost use Rattle.ipmi_program.specs.Input.{input_name};
-ghost use Rattle.serdimko.specs.Images.{Fails, file_of, header, is_headed, IsCause, is_rewrite, PrintsBytes, PrintsFile, PrintsImage, PrintsImages, PrintsInput, PrintsNamed, PrintsStore, Rewrites};
+ghost use Rattle.serdimko.specs.Images.{Fails, file_of, header, image_label, IsCause, is_rewrite, PrintsBytes, PrintsFile, PrintsImage, PrintsImages, PrintsInput, PrintsNamed, PrintsStore, Rewrites};
 ghost use Rattle.serdimko.specs.Out.{out_of};
 ghost use Rattle.serdimko.specs.Settings.{IsQuery};
 
@@ -143,6 +143,13 @@ fn print_input<W: Write + Drop, E: MessageSink>(
     }
 }
 
+/// The label with the name of one of several images.
+fn image_label(is_only_input: bool, name: &str) -> Option<&str>
+    ensures { option_map (λ name. name.now) result ≡ image_label is_only_input name.entry.now }
+{
+    if is_only_input { None } else { Some(name) }
+}
+
 /// Prints what the query asks for from the file, or from standard input.
 fn print_named<W: Write + Drop, E: MessageSink>(
     rt: &HostRuntime,
@@ -159,7 +166,7 @@ fn print_named<W: Write + Drop, E: MessageSink>(
 {
     let alloc = rt.alloc();
     let name = input_name(file);
-    let image = if is_only_input { None } else { Some(name) };
+    let image = image_label(is_only_input, name);
     let Ok(labels) = labels_of(alloc, settings.labels(), image) else {
         let report = settings.report(&[], name, is_only_input);
         return report.tell(&Some(RunError::Failed(Failure::OutOfMemory)), err);
@@ -219,10 +226,10 @@ fn print_image<W: Write + Drop, E: MessageSink>(
         (out_of out.old) (out_of out.new) (E.received err.old) (E.received err.new) result }
 {
     let file = file_of(image);
-    if settings.is_json() || is_only_input {
-        return print_named(rt, settings, query, file, is_only_input, out, err);
+    if settings.is_headed(is_only_input) {
+        return print_headed(rt, settings, query, file, is_only_input, out, err);
     }
-    print_headed(rt, settings, query, file, is_only_input, out, err)
+    print_named(rt, settings, query, file, is_only_input, out, err)
 }
 
 /// Prints what the query asks for from each image, or from standard input if none is named. Returns the highest exit status, and

@@ -1,7 +1,7 @@
 //! How runs over one input are printed, and what is said of one that did not finish.
 ghost use Rattle.std.specs.Prelude.{◌≡◌, Some};
 ghost use Rattle.serdimko.specs.RunError.{is_output_open, Tells};
-ghost use Rattle.serdimko.specs.Settings.{is_json, texts_of, wording_of};
+ghost use Rattle.serdimko.specs.Settings.{is_headed, texts_of, wording_of};
 
 use crate::run_error::{CLOSED, RunError};
 use ipmi_command_line::{Format, Word};
@@ -21,11 +21,14 @@ pub(crate) struct Settings {
 }
 
 impl Settings {
-    /// Whether objects are printed.
-    pub(crate) fn is_json(&self) -> bool
-        ensures { result ≡ is_json self.now.format }
+    /// Whether the name of the input is printed before its texts: of one of several.
+    pub(crate) fn is_headed(&self, is_only_input: bool) -> bool
+        ensures { result ≡ is_headed self.now.format is_only_input }
     {
-        matches!(self.format, Format::Json(_))
+        match &self.format {
+            Format::Json(_) => false,
+            Format::Plain | Format::Descriptive => !is_only_input,
+        }
     }
 
     /// The labels of objects, each `KEY=VALUE`.
