@@ -6,11 +6,11 @@ use Rattle.std.proofs.lemmas.Bool.Decides.{nat_tests}
 use Rattle.ipmi_bus.proofs.GrowthLaws.{steps_stay}
 use Rattle.ipmi_bus.proofs.StepsLaws.{steps_follow}
 use Rattle.ipmi_bus.proofs.WalkLemmas.{all_at_end}
-use Rattle.ipmi_commands.specs.Below.{AreSteps, CommandState, cursor_after, CursorHoldsCurrent, CursorState, Done, CycleAt, MissingAt, digits, End, Ended, EndsBy, Ending, Failure, First, first_row, handed_out, HandsOut, Id, IsHonest, IsShelf, IsStep, IsWalk, last_next, Place, place_after, place_after_rows, Reading, Row, rows_of, Sdr, SdrView, sdr_view_of, Seen, seen_after, Shelf, StandsAt, start_of, StaysHonest, StepIsHonest, Stepped, stays_refl, stays_trans, store_shelf, Store, WalkEnd, with_handed}
-use Rattle.ipmi_commands.specs.Prelude.{AsksAt, AtEnd, Cause, cause_of, cause_of_unread, EndsFor, failure_of, FindsIt, FindsNone, Form, IsFresh, is_name, KeepsAt, listing_cursor, most_after, most_for_one, most_on_walk, NoMemory, OnWalk, reading_for, reading_spots, shelf_of, Unread}
+use Rattle.ipmi_commands.specs.Below.{AreSteps, CommandState, cursor_after, CursorHoldsCurrent, CursorState, Done, CycleAt, MissingAt, digits, End, Ended, EndsBy, Ending, Failure, First, first_row, handed_out, HandsOut, Id, IsHonest, IsShelf, IsStep, IsWalk, last_next, Place, place_after, place_after_rows, Reading, Row, rows_of, Sdr, SdrView, sdr_view_of, Seen, seen_after, Shelf, StandsAt, start_of, StaysHonest, StepIsHonest, Stepped, stays_refl, stays_trans, store_shelf, Store, WalkEnd, WalkStep, with_handed}
+use Rattle.ipmi_commands.specs.Prelude.{AsksAt, AtEnd, Cause, cause_of, cause_of_unread, EndsFor, failure_of, FindsIt, FindsNone, Form, IsFresh, is_name, KeepsAt, listing_cursor, most_after, most_for_one, most_on_walk, NoMemory, OnWalk, reading_for, reading_spots, shelf_of, Spot, Unread}
 use Rattle.ipmi_records.specs.Sdr.{name_of}
-use Rattle.ipmi_commands.specs.Sensors.{EndsFound, FindsAlong, FindsBy, Found, found_among, found_by, found_of, found_of_result, found_spots, has_one_of, RowIsLost, SearchCalls, Searches, SearchesBy, StepEnds, with_readings}
-use Rattle.ipmi_commands.specs.Traced.{IsTraced, seen_next}
+use Rattle.ipmi_commands.specs.Sensors.{EndsFound, FindsAlong, FindsBy, Found, found_among, found_by, found_of, found_of_result, found_spots, has_one_of, SearchCalls, Searches, SearchesBy, StopsAtResult, with_readings}
+use Rattle.ipmi_commands.specs.Traced.{IsStopAmong, IsTraced, seen_next}
 use Rattle.ipmi_commands.proofs.AskLemmas.{asks_nothing, then_no_memory}
 use Rattle.ipmi_commands.proofs.CallLemmas.{called_more, called_stopped, calls_ended, HandsNothing, HasCalled}
 use Rattle.ipmi_commands.proofs.CountLemmas.{between, ends_here, ends_since}
@@ -175,15 +175,7 @@ module _ {names : List (List ℕ)} {tries : ℕ} {begun now : CursorState} {s s'
       finds = record {
         steps = all_steps step h;
         traced = all_traced step h s'' (stays_refl s'' (honest_step step h).stays.honest);
-        ends = inl (record {
-          ended = ended;
-          is = refl;
-          done = (kept.went h).steps;
-          step = last_step step;
-          are = refl;
-          returned = refl;
-          found = all_found step h s'' new (sym (append-nil new));
-        });
+        ends = record { done = (kept.went h).steps; step = last_step step; are = refl; stops = refl; found = (kept.went h).found };
       };
     }
 
@@ -213,15 +205,7 @@ module _ {names : List (List ℕ)} {tries : ℕ} {begun now : CursorState} {s s'
           finds = record {
             steps = all_steps step h;
             traced = all_traced step h last lost.asks.ends.stays;
-            ends = inr (record {
-              done = (kept.went h).steps;
-              step = last_step step;
-              row = row;
-              are = refl;
-              returned = refl;
-              there = lost.there;
-              found = (kept.went h).found;
-            });
+            ends = record { done = (kept.went h).steps; step = last_step step; are = refl; stops = lost.there; found = (kept.went h).found };
           };
         }
 
@@ -331,21 +315,53 @@ module _ (names : List (List ℕ)) (begun now : CursorState) (s s' : Seen) (old 
         rows,
       )
 
-  along : (ending : Ending) → FindsBy names begun now s s' old new ending → FindsAlong names s.store walk end old new ending
+  abbrev Along : Ending → Type 0
+  Along = FindsAlong names s.store walk end old new
+
+  -- a step that failed after the first k rows
+  along_ended : (k : ℕ) (c next : CursorState) (ended : Ended) → WalkStep (rows_of begun.shelf s.store) start walk end k c next (Err ended)
+      → new ≡ old ++ found_among names s.store (take k walk) → Along (Err (Failure.Ended ended))
+  along_ended k c next (Ended.Cycle n) at found = (at.1, rw (take_all k walk (omega (arith, at.0))) at found)
+  along_ended k c next (Ended.Missing n) at found = (at.1, rw (take_all k walk (omega (arith, at.0))) at found)
+  along_ended k c next (Ended.GaveUp n) at found = (k, found)
+  along_ended k c next (Ended.Refused n code) at found = (k, found)
+  along_ended k c next (Ended.Stalled n) at found = (k, found)
+  along_ended k c next (Ended.Malformed n) at found = (k, found)
+
+  -- a reading that was not found
+  along_lost : (k : ℕ) (spots : List Spot) (failure : Failure) → IsStopAmong spots (cause_of (Err failure))
+      → new ≡ old ++ found_among names s.store (take k walk) → Along (Err failure)
+  along_lost k spots (Failure.Ended (Ended.Cycle n)) there found = absurd there
+  along_lost k spots (Failure.Ended (Ended.Missing n)) there found = absurd there
+  along_lost k spots _ there found = (k, found)
+
+  along_stopped : (k : ℕ) (c next : CursorState) (result : Result (Option Row) Ended) (failure : Failure)
+      → WalkStep (rows_of begun.shelf s.store) start walk end k c next result → StopsAtResult names result failure
+      → new ≡ old ++ found_among names s.store (take k walk) → Along (Err failure)
+  along_stopped k c next (Ok (Some row)) failure at stops found = along_lost k (found_spots names row) failure stops found
+  along_stopped k c next (Ok None) failure at stops found = absurd stops
+  along_stopped k c next (Err ended) failure at stops found =
+      subst (λ (f : Failure). Along (Err f)) (sym stops) (along_ended k c next ended at found)
+
+  along : (ending : Ending) → FindsBy names begun now s s' old new ending → Along ending
   along (Ok done) f =
       let at = first_found f.steps s' f.traced.are f.traced.stays same f.ends.1 in
       let all = whole_walk at.0 (cursor_after begun f.steps) (same_shelf begun s f.steps f.traced.are) at.2 (ap (λ (c : CursorState). c.place) f.traced.cursor ∙ f.ends.0) in
       (all.0, at.1 ∙ ap (λ (l : List Row). old ++ found_among names s.store l) all.1)
-  along (Err failure) f = elim f.ends [
-    | inl ended ↦ let at = first_found f.steps s' f.traced.are f.traced.stays same ended.found in (at.0, at.1)
-    | inr lost ↦
-        let parts = split_last begun s lost.done lost.step (subst (AreSteps begun s) lost.are f.traced.are) in
-        let before = stays_trans s (seen_after s lost.done) lost.step.before (steps_stay begun s lost.done honest parts.0) parts.1 in
-        let after = stays_trans lost.step.before lost.step.seen s' (parts.2.honest parts.1.honest).stays
-        (subst (λ (x : Seen). StaysHonest x s') (ap (seen_after s) lost.are ∙ seen_more s lost.done lost.step) f.traced.stays) in
-        let at = first_found lost.done lost.step.before parts.0 parts.1 (between s lost.step.before s' before after same).0 lost.found in
-        (at.0, at.1)
-  ]
+  along (Err failure) f =
+      let done = f.ends.done in
+      let step = f.ends.step in
+      let parts = split_last begun s done step (subst (AreSteps begun s) f.ends.are f.traced.are) in
+      let before = stays_trans s (seen_after s done) step.before (steps_stay begun s done honest parts.0) parts.1 in
+      let made = (parts.2.honest parts.1.honest).stays in
+      let after = subst (λ (x : Seen). StaysHonest x s') (ap (seen_after s) f.ends.are ∙ seen_more s done step) f.traced.stays in
+      let first = (between s step.before s' before (stays_trans step.before step.seen s' made after) same).0 in
+      let quiet = (between step.before step.seen s' made after (same ∙ sym first)).0 in
+      let at = first_found done step.before parts.0 parts.1 first f.ends.found in
+      let rows : rows_of (cursor_after begun done).shelf step.before.store ≡ rows_of begun.shelf s.store =
+      ap (λ (x : Shelf). rows_of x step.before.store) (same_shelf begun s done parts.0) ∙ ap (rows_of begun.shelf) (before.store.stays first) in
+      let stepped = (rw rows at ((parts.2.walks parts.1.honest).follows quiet start walk end at.0)) w ends at.2 in
+      along_stopped at.0 (cursor_after begun done) step.cursor step.result failure stepped f.ends.stops at.1
 
 -- ---- a new cursor
 

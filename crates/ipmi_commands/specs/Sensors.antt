@@ -2,7 +2,7 @@
 use Rattle.std.specs.Prelude.{◌≡◌, ◌⊎◌, ℕ, ◌+◌, ◌*◌, ◌<◌, ◌≤◌, Bool, false, IsTrue, if◌then◌else◌, Option, None, Some, Result, Ok, Err, List, [], ◌∷◌, ◌++◌, length, take}
 use Rattle.std.specs.FinSet as set
 use Rattle.std.specs.List.{list_any}
-use Rattle.ipmi_commands.specs.Below.{CursorState, CursorHoldsCurrent, digits, Done, End, Ended, Ending, Failure, IsHonest, Kind, LastCallSays, Place, Reading, RefusesRecord, Row, Sdr, SdrFault, SdrView, sdr_view_of, Seen, Stepped, Store, WalkEnd}
+use Rattle.ipmi_commands.specs.Below.{CursorState, CursorHoldsCurrent, CycleAt, digits, Done, End, Ended, Ending, Failure, IsHonest, Kind, LastCallSays, MissingAt, Place, Reading, RefusesRecord, Row, Sdr, SdrFault, SdrView, sdr_view_of, Seen, Stepped, Store, WalkEnd}
 use Rattle.ipmi_records.specs.Sdr as sdr
 use Rattle.ipmi_commands.specs.declared.job.Detail.{Detail}
 use Rattle.ipmi_commands.specs.declared.job.Form.{Form}
@@ -79,35 +79,27 @@ abbrev pub found_spots : List (List ℕ) → Row → List Spot
 found_spots names row =
     if has_one_of names (sdr_view_of row.bytes) then reading_spots row.id (sdr_view_of row.bytes) else []
 
--- the last step returned no record, for this reason; all that the steps returned was searched
-pub record StepEnds (names : List (List ℕ)) (steps : List Stepped) (last : Seen) (old new : List Found)
-    (failure : Failure) : Type 0 where
-  pub ended : Ended
-  pub is : failure ≡ Failure.Ended ended
-  pub done : List Stepped
-  pub step : Stepped
-  pub are : steps ≡ done ++ step ∷ []
-  pub returned : step.result ≡ Err ended
-  pub found : new ≡ old ++ found_by names steps last
+-- why a search stops at the result of a step: the step failed for this reason; or the record that it returned
+-- has one of the names, and its reading was given up or refused; or memory ran out
+abbrev pub StopsAtResult : List (List ℕ) → Result (Option Row) Ended → Failure → Type 0
+StopsAtResult names (Ok (Some row)) failure = IsStopAmong (found_spots names row) (cause_of (Err failure))
+StopsAtResult names (Ok None) failure = ⊥
+StopsAtResult names (Err ended) failure = failure ≡ Failure.Ended ended
 
--- the last record was not kept: it has one of the names and its reading was given up or refused, or memory
--- ran out; all before it was searched
-pub record RowIsLost (names : List (List ℕ)) (steps : List Stepped) (old new : List Found)
+-- the search stopped at the last step; what the steps before it returned was searched
+pub record StopsAtLast (names : List (List ℕ)) (steps : List Stepped) (old new : List Found)
     (failure : Failure) : Type 0 where
   pub done : List Stepped
   pub step : Stepped
-  pub row : Row
   pub are : steps ≡ done ++ step ∷ []
-  pub returned : step.result ≡ Ok (Some row)
-  pub there : IsStopAmong (found_spots names row) (cause_of (Err failure))
+  pub stops : StopsAtResult names step.result failure
   pub found : new ≡ old ++ found_by names done step.before
 
 -- at Ok the cursor is at the end, and all that it returned was searched
 abbrev pub EndsFound : List (List ℕ) → CursorState → List Stepped → Seen → List Found → List Found
     → Ending → Type 0
 EndsFound names now steps last old new (Ok done) = (now.place ≡ End) × (new ≡ old ++ found_by names steps last)
-EndsFound names now steps last old new (Err failure) =
-    StepEnds names steps last old new failure ⊎ RowIsLost names steps old new failure
+EndsFound names now steps last old new (Err failure) = StopsAtLast names steps old new failure
 
 -- the steps of a cursor, and what was found by them
 pub record FindsBy (names : List (List ℕ)) (begun now : CursorState) (s s' : Seen)
@@ -130,11 +122,16 @@ pub record FindsFrom (names : List (List ℕ)) (start : Place) (s s' : Seen) (ol
 abbrev pub HasNoMemory : Seen → Seen → List Found → List Found → Ending → Type 0
 HasNoMemory s s' old new ending = (ending ≡ Err Failure.OutOfMemory) × (s' ≡ s) × (new ≡ old)
 
--- along a walk: at Ok it ends with `Done` and all its rows were searched, otherwise its first `count` rows
+-- Along a walk. At Ok it ends with `Done`, and all its rows were searched; so they were at its cycle or missing
+-- id. Otherwise its first `count` rows were.
 abbrev pub FindsAlong : List (List ℕ) → Store → List Row → WalkEnd → List Found → List Found → Ending
     → Type 0
 FindsAlong names store walk end old new (Ok done) =
     (end ≡ Done) × (new ≡ old ++ found_among names store walk)
+FindsAlong names store walk end old new (Err (Failure.Ended (Ended.Cycle n))) =
+    (end ≡ CycleAt n) × (new ≡ old ++ found_among names store walk)
+FindsAlong names store walk end old new (Err (Failure.Ended (Ended.Missing n))) =
+    (end ≡ MissingAt n) × (new ≡ old ++ found_among names store walk)
 FindsAlong names store walk end old new (Err failure) =
     (count : ℕ) × (new ≡ old ++ found_among names store (take count walk))
 
