@@ -1,10 +1,10 @@
 -- The blocks of found sensors, printed one after another.
-use Rattle.std.proofs.Common.{◌≡◌, ℕ, ◌+◌, ◌<◌, Ok, Err, Result, List, [], ◌∷◌, ◌++◌, length, take, drop, get_or, refl, sym, ap, subst, ◌∙◌, false, take-append-drop}
+use Rattle.std.proofs.Common.{◌≡◌, ℕ, ◌+◌, ◌<◌, Err, List, [], ◌∷◌, ◌++◌, length, take, drop, get_or, refl, sym, ap, subst, ◌∙◌, false, take-append-drop}
 use Rattle.std.proofs.lemmas.List.{at_drop_more, take_more}
-use Rattle.ipmi_commands.specs.Below.{Ending, Failure, sdr_view_of}
+use Rattle.ipmi_commands.specs.Below.{Failure, sdr_view_of}
 use Rattle.ipmi_commands.specs.Output.{and_then, no_output, Output, piece_of}
 use Rattle.ipmi_commands.specs.Prelude.{Wording, WritesPiece}
-use Rattle.ipmi_commands.specs.Sensors.{AreBlocks, CutsBlock, Found, IsBlockOfFound, IsPieceOfFound, PrintsBlocks, PrintsFirst, PrintsFound}
+use Rattle.ipmi_commands.specs.Sensors.{AreBlocks, Found, IsBlockOfFound, IsPieceOfFound, PrintsBlocks, PrintsFirst, PrintsFound}
 use Rattle.ipmi_commands.proofs.OutputLemmas.{nothing_then, then_assoc, then_nothing}
 
 module _ (wording : Wording) (name : List ℕ) where

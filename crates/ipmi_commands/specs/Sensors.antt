@@ -2,7 +2,7 @@
 use Rattle.std.specs.Prelude.{◌≡◌, ◌⊎◌, ℕ, ◌+◌, ◌*◌, ◌<◌, ◌≤◌, Bool, false, IsTrue, if◌then◌else◌, Option, None, Some, Result, Ok, Err, List, [], ◌∷◌, ◌++◌, length, take}
 use Rattle.std.specs.FinSet as set
 use Rattle.std.specs.List.{list_any}
-use Rattle.ipmi_commands.specs.Below.{CursorState, CursorHoldsCurrent, CycleAt, digits, Done, End, Ended, Ending, Failure, IsHonest, Kind, LastCallSays, MissingAt, Place, Reading, RefusesRecord, Row, Sdr, SdrFault, SdrView, sdr_view_of, Seen, Stepped, Store, WalkEnd}
+use Rattle.ipmi_commands.specs.Below.{CursorState, CursorHoldsCurrent, CycleAt, digits, Done, End, Ended, Ending, Failure, Kind, LastCallSays, MissingAt, Place, Reading, RefusesRecord, Row, Sdr, SdrFault, SdrView, sdr_view_of, Seen, Stepped, Store, WalkEnd}
 use Rattle.ipmi_records.specs.Sdr as sdr
 use Rattle.ipmi_commands.specs.declared.job.Detail.{Detail}
 use Rattle.ipmi_commands.specs.declared.job.Form.{Form}

@@ -89,7 +89,6 @@ fn is_one_of(names: &[Word], own: &Option<String>) -> bool
 }
 
 /// Appends the record and its reading to `found` if it has one of these names. If this fails, `found` is unchanged.
-#[tactic(auto, using(crate::proofs::AskLemmas::no_memory, crate::proofs::AskLemmas::then_no_memory))]
 fn find_in<C: Controller>(
     alloc: Global,
     ctl: &mut C,

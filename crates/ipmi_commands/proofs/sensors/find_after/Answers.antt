@@ -1,4 +1,4 @@
-use Rattle.std.proofs.Common.{rules, refl, Ok, ◌∙◌, ap, arith}
+use Rattle.std.proofs.Common.{rules, Ok, ◌∙◌, ap, arith}
 use Rattle.ipmi_commands.specs.Below.{row_of_record}
 use Rattle.ipmi_commands.proofs.CallLemmas.{len-next_ids}
 use Rattle.ipmi_commands.proofs.SensorLemmas.{done_calls, ended_calls, lost_calls, search_begun, search_done, search_ended, search_lost, search_more}
