@@ -1,17 +1,17 @@
 -- Sensors that one walk of the sensor data records finds by their names, and the blocks that are printed of them.
 use Rattle.std.specs.Prelude.{◌≡◌, ◌⊎◌, ℕ, ◌+◌, ◌*◌, ◌<◌, ◌≤◌, Bool, false, IsTrue, if◌then◌else◌, Option, None, Some, Result, Ok, Err, List, [], ◌∷◌, ◌++◌, length, take}
 use Rattle.std.specs.FinSet as set
-use Rattle.std.specs.List.{list_any}
+use Rattle.std.specs.List.{Contains, list_any}
 use Rattle.ipmi_commands.specs.Below.{CursorState, CursorHoldsCurrent, CycleAt, digits, Done, End, Ended, Ending, Failure, Kind, LastCallSays, MissingAt, Place, Reading, RefusesRecord, Row, Sdr, SdrFault, SdrView, sdr_view_of, Seen, Stepped, Store, WalkEnd}
 use Rattle.ipmi_records.specs.Sdr as sdr
 use Rattle.ipmi_commands.specs.declared.job.Detail.{Detail}
 use Rattle.ipmi_commands.specs.declared.job.Form.{Form}
 use Rattle.ipmi_commands.specs.declared.job.Wording.{Wording}
-use Rattle.ipmi_commands.specs.Allowed.{cause_of, EndsFor, TextsJoined}
+use Rattle.ipmi_commands.specs.Allowed.{cause_of, EndsFor, Printed, TextsJoined}
 use Rattle.ipmi_commands.specs.Calls.{most_for_one}
 use Rattle.ipmi_commands.specs.Output.{and_then, IsCut, no_output, Output, piece_of}
-use Rattle.ipmi_commands.specs.Plan.{OnWalk, reading_spots, Spot}
-use Rattle.ipmi_commands.specs.Texts.{IfChosen, IsBlockIn, is_name, reading_for}
+use Rattle.ipmi_commands.specs.Plan.{OnWalk, reading_spots, row_items, Spot}
+use Rattle.ipmi_commands.specs.Texts.{IfChosen, IsBlockIn, is_name, IsPieceOver, reading_for}
 use Rattle.ipmi_commands.specs.Traced.{IsStopAmong, IsTraced, seen_next}
 
 -- ---- what is found
@@ -208,3 +208,13 @@ PrintsFound wording name found old new (Ok done) = PrintsBlocks wording name fou
 PrintsFound wording name found old new (Err Failure.OutOfMemory) = PrintsFirst wording name found old new
 PrintsFound wording name found old new (Err Failure.WriteFault) = CutsBlock wording name found old new
 PrintsFound wording name found old new (Err failure) = ⊥
+
+-- ---- a law
+
+-- what is printed of a walk's rows that a search for several names found is, for each of the names, what a
+-- listing of this name prints of the walk
+abbrev pub BlocksAreOfListing : Type 0
+BlocksAreOfListing = (wording : Wording) (names : List (List ℕ)) (name : List ℕ) (store : Store) (start : Place)
+    (walk : List Row) (old new : Output) → Contains names name
+    → PrintsBlocks wording name (found_among names store walk) old new
+    → Printed (IsPieceOver store) (row_items (Form.Block wording name) start walk) old new
