@@ -9,7 +9,7 @@ use Rattle.ipmi_bus.proofs.WalkLemmas.{all_at_end}
 use Rattle.ipmi_commands.specs.Below.{AreSteps, CommandState, cursor_after, CursorHoldsCurrent, CursorState, Done, CycleAt, MissingAt, End, Ended, EndsBy, Ending, Failure, First, first_row, handed_out, Id, IsHonest, IsStep, IsWalk, last_next, Place, place_after, place_after_rows, Reading, Row, rows_of, Sdr, SdrView, sdr_view_of, Seen, seen_after, Shelf, StandsAt, start_of, StaysHonest, StepIsHonest, Stepped, stays_refl, stays_trans, store_shelf, Store, WalkEnd, WalkStep, with_handed}
 use Rattle.ipmi_commands.specs.Prelude.{AsksAt, AtEnd, Cause, cause_of, cause_of_unread, EndsFor, failure_of, FindsIt, FindsNone, Form, IsFresh, is_name, most_after, most_for_one, NoMemory, OnWalk, reading_for, reading_spots, shelf_of, Spot, Unread}
 use Rattle.ipmi_records.specs.Sdr.{name_of}
-use Rattle.ipmi_commands.specs.Sensors.{FindsAlong, FindsBy, Found, found_among, found_by, found_of, found_of_result, found_spots, has_one_of, SearchCalls, Searches, SearchesBy, StopsAtResult, with_readings}
+use Rattle.ipmi_commands.specs.Sensors.{AddsNamed, AreNamed, FindsAlong, FindsBy, Found, found_among, found_by, found_of, found_of_result, found_spots, has_one_of, SearchCalls, Searches, SearchesBy, StopsAtResult, with_readings}
 use Rattle.ipmi_commands.specs.Traced.{IsStopAmong, IsTraced, seen_next}
 use Rattle.ipmi_commands.proofs.AskLemmas.{asks_nothing, then_no_memory}
 use Rattle.ipmi_commands.proofs.CallLemmas.{called_more, called_stopped, calls_ended, HandsNothing, HasCalled}
@@ -50,6 +50,10 @@ module _ (names : List (List ℕ)) (tries : ℕ) (row : Row) {view : SdrView} (i
         → FindsNone (found_spots names row) tries s s' NoMemory
     named_unkept found = rw spots_are (then_no_memory found.asks)
 
+    pub named_added : (reading : Option Reading) (old new : List Found)
+        → new ≡ old ++ record { id = row.id; bytes = row.bytes; reading = reading } ∷ [] → AddsNamed names old new
+    named_added reading old new kept = record { more = record { id = row.id; bytes = row.bytes; reading = reading } ∷ []; named = (whether ∙ named, tt); new_is = kept }
+
     -- the row with its reading
     pub named_found : {reading : Option Reading} {s s' : Seen} (old new : List Found)
         → FindsIt (λ store. reading ≡ reading_for store view) (reading_spots row.id (Ok view)) tries s s'
@@ -59,6 +63,22 @@ module _ (names : List (List ℕ)) (tries : ℕ) (row : Row) {view : SdrView} (i
       asks = rw spots_are found.asks;
       is = λ keeps. rw (whether ∙ named, is) (kept ∙ ap (λ (r : Option Reading). old ++ record { id = row.id; bytes = row.bytes; reading = r } ∷ []) (found.is (rw spots_are at keeps)));
     }
+
+-- ---- over any controller
+
+pub adds_none : (names : List (List ℕ)) (old : List Found) → AddsNamed names old old
+adds_none names old = record { more = []; named = tt; new_is = sym (append-nil old) }
+
+named_joined : (names : List (List ℕ)) (a b : List Found) → AreNamed names a → AreNamed names b → AreNamed names (a ++ b)
+named_joined names [] b first rest = rest
+named_joined names (x ∷ a) b first rest = (first.0, named_joined names a b first.1 rest)
+
+pub adds_more : (names : List (List ℕ)) (a b c : List Found) → AddsNamed names a b → AddsNamed names b c → AddsNamed names a c
+adds_more names a b c first then_ = record {
+  more = first.more ++ then_.more;
+  named = named_joined names first.more then_.more first.named then_.named;
+  new_is = then_.new_is ∙ ap (λ (l : List Found). l ++ then_.more) first.new_is ∙ append_assoc a first.more then_.more;
+}
 
 -- ---- what is found by one more step
 

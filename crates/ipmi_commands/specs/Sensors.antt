@@ -1,5 +1,5 @@
 -- Sensors that one walk of the sensor data records finds by their names, and the blocks that are printed of them.
-use Rattle.std.specs.Prelude.{◌≡◌, ◌⊎◌, ℕ, ◌+◌, ◌*◌, ◌<◌, ◌≤◌, Bool, false, IsTrue, if◌then◌else◌, Option, None, Some, Result, Ok, Err, List, [], ◌∷◌, ◌++◌, length, take}
+use Rattle.std.specs.Prelude.{◌≡◌, ◌⊎◌, ℕ, ◌+◌, ◌*◌, ◌<◌, ◌≤◌, Bool, true, false, IsTrue, if◌then◌else◌, Option, None, Some, Result, Ok, Err, List, [], ◌∷◌, ◌++◌, length, take}
 use Rattle.std.specs.FinSet as set
 use Rattle.std.specs.List.{Contains, list_any}
 use Rattle.ipmi_commands.specs.Below.{CursorState, CursorHoldsCurrent, CycleAt, digits, Done, End, Ended, Ending, Failure, Kind, LastCallSays, MissingAt, Place, Reading, RefusesRecord, Row, Sdr, SdrFault, SdrView, sdr_view_of, Seen, Stepped, Store, WalkEnd}
@@ -64,6 +64,17 @@ found_by names (step ∷ steps) last =
 -- a listing that requests a reading for each record: a search makes at most as many calls
 abbrev pub with_readings : Form
 with_readings = Form.Line Detail.Short Kind.All
+
+-- each has one of the names
+abbrev pub AreNamed : List (List ℕ) → List Found → Type 0
+AreNamed names [] = Unit {0}
+AreNamed names (found ∷ rest) = (has_one_of names (sdr_view_of found.bytes) ≡ true) × AreNamed names rest
+
+-- records with one of the names were added at the end, and nothing else
+pub record AddsNamed (names : List (List ℕ)) (old new : List Found) : Type 0 where
+  pub more : List Found
+  pub named : AreNamed names more
+  pub new_is : new ≡ old ++ more
 
 -- the possible ends of a search: a failure at a record or a reading agrees with the last call
 abbrev pub EndsSearch : Seen → Ending → Type 0
