@@ -133,8 +133,8 @@ pub record FindsFrom (names : List (List ℕ)) (start : Place) (s s' : Seen) (ol
 abbrev pub HasNoMemory : Seen → Seen → List Found → List Found → Ending → Type 0
 HasNoMemory s s' old new ending = (ending ≡ Err Failure.OutOfMemory) × (s' ≡ s) × (new ≡ old)
 
--- Along a walk. At Ok it ends with `Done`, and all its rows were searched; so they were at its cycle or missing
--- id. Otherwise its first `count` rows were.
+-- Along a walk: all its rows were searched at Ok, when it ends with `Done`, and when the search ended with its
+-- cycle or its missing id; otherwise its first `count` rows were.
 abbrev pub FindsAlong : List (List ℕ) → Store → List Row → WalkEnd → List Found → List Found → Ending
     → Type 0
 FindsAlong names store walk end old new (Ok done) =

@@ -51,5 +51,4 @@ pub fn finished_runs_are_one()
 /// listing of this name prints of the walk.
 pub fn blocks_are_of_a_listing()
     ensures { BlocksAreOfListing }
-{
-}
+{}

@@ -153,8 +153,8 @@ fn find_after<'a, C: Controller>(
 }
 
 /// Appends each record with one of these names to `found`, with its reading, in one walk of the sensor data records
-/// that starts at the command's id or at the first record. A record with a fault is passed over. If the walk breaks off,
-/// `found` has the records that were found before.
+/// that starts at the command's id or at the first record. A record with a fault is passed over. If the walk breaks
+/// off, `found` has the records that were found before.
 #[tactic(auto, using(crate::proofs::SensorLemmas::adds_none))]
 pub fn find_sensors<'a, C: Controller>(
     alloc: Global,
