@@ -2,7 +2,7 @@
 use Rattle.std.specs.Prelude.{◌≡◌, ◌⊎◌, ℕ, ◌+◌, ◌*◌, ◌<◌, ◌≤◌, Bool, true, false, IsTrue, if◌then◌else◌, Option, None, Some, Result, Ok, Err, List, [], ◌∷◌, ◌++◌, length, take}
 use Rattle.std.specs.FinSet as set
 use Rattle.std.specs.List.{Contains, list_any}
-use Rattle.ipmi_commands.specs.Below.{CursorState, CursorHoldsCurrent, CycleAt, digits, Done, End, Ended, Ending, Failure, Kind, LastCallSays, MissingAt, Place, Reading, RefusesRecord, Row, Sdr, SdrFault, SdrView, sdr_view_of, Seen, Stepped, Store, WalkEnd}
+use Rattle.ipmi_commands.specs.Below.{CursorState, CursorHoldsCurrent, CycleAt, digits, Done, End, Ended, Ending, Failure, Kind, LastCallSays, MissingAt, OnGrowing, Place, Reading, RefusesRecord, Row, Sdr, SdrFault, SdrView, sdr_view_of, Seen, Stepped, Store, WalkEnd, WasHeld}
 use Rattle.ipmi_records.specs.Sdr as sdr
 use Rattle.ipmi_commands.specs.declared.job.Detail.{Detail}
 use Rattle.ipmi_commands.specs.declared.job.Form.{Form}
@@ -146,14 +146,37 @@ FindsAlong names store walk end old new (Err (Failure.Ended (Ended.Missing n))) 
 FindsAlong names store walk end old new (Err failure) =
     (count : ℕ) × (new ≡ old ++ found_among names store (take count walk))
 
--- a search over an honest controller: why it ended; what was found, whatever the store does; and along the
--- walk, if no store was added
+-- what is found of a row over a store that the controller held meanwhile, followed by what is found of the rest
+pub record FoundThen (names : List (List ℕ)) (s s' : Seen) (row : Row) (IsRest : List Found → Type 0)
+    (found : List Found) : Type 0 where
+  pub store : Store
+  pub held : WasHeld s s' store
+  pub rest : List Found
+  pub is_rest : IsRest rest
+  pub joined : found ≡ found_of names store row ++ rest
+
+-- what is found of the rows, in their order; each perhaps over another store
+abbrev pub AreFoundWhile : List (List ℕ) → Seen → Seen → List Row → List Found → Type 0
+AreFoundWhile names s s' [] found = found ≡ []
+AreFoundWhile names s s' (row ∷ rows) found =
+    FoundThen names s s' row (λ rest. AreFoundWhile names s s' rows rest) found
+
+-- along a log that was held meanwhile: all its rows were searched at Ok, otherwise its first `count` rows
+abbrev pub FindsWhile : List (List ℕ) → List Row → Seen → Seen → List Found → List Found → Ending → Type 0
+FindsWhile names log s s' old new (Ok done) =
+    (more : List Found) × (new ≡ old ++ more) × AreFoundWhile names s s' log more
+FindsWhile names log s s' old new (Err failure) =
+    (count : ℕ) × (more : List Found) × (new ≡ old ++ more) × AreFoundWhile names s s' (take count log) more
+
+-- a search over an honest controller: why it ended; what was found, whatever the store does; along the walk, if
+-- no store was added; and along the log as it was meanwhile, if records were only appended
 pub record Searches (names : List (List ℕ)) (start : Place) (tries : ℕ) (s s' : Seen)
     (old new : List Found) (ending : Ending) : Type 0 where
   pub why : EndsFor tries (IsTrue s.plain) s s' (cause_of ending)
   pub traces : HasNoMemory s s' old new ending ⊎ FindsFrom names start s s' old new ending
   pub along : s'.stores_added ≡ s.stores_added
       → OnWalk Sdr start s.store (λ walk end. FindsAlong names s.store walk end old new ending)
+  pub grows : OnGrowing Sdr start s s' (λ log. FindsWhile names log s s' old new ending)
 
 -- ---- for the contracts of private functions
 
