@@ -9,6 +9,7 @@ mod device_lines;
 mod devices;
 mod entry_types;
 mod faults_at_calls;
+mod found_sensors;
 mod growing;
 mod image_faults;
 mod images;

@@ -1,10 +1,13 @@
 -- The blocks of found sensors, printed one after another.
-use Rattle.std.proofs.Common.{◌≡◌, ℕ, ◌+◌, ◌<◌, Ok, Err, Result, List, [], ◌∷◌, ◌++◌, length, take, drop, get_or, refl, sym, ap, subst, ◌∙◌, false, take-append-drop}
+use Rattle.std.proofs.Common.{◌≡◌, ℕ, ◌+◌, ◌<◌, Bool, true, cond, Ok, Err, Result, List, [], ◌∷◌, ◌++◌, length, take, drop, get_or, refl, sym, ap, subst, ◌∙◌, false, take-append-drop}
+use Rattle.std.specs.List.{Contains}
 use Rattle.std.proofs.lemmas.List.{at_drop_more, take_more}
-use Rattle.ipmi_commands.specs.Below.{Ending, Failure, sdr_view_of}
+use Rattle.std.proofs.lemmas.List.Folds.{list_any_at}
+use Rattle.ipmi_records.specs.Sdr.{name_of}
+use Rattle.ipmi_commands.specs.Below.{Failure, Place, place_after, Row, SdrFault, SdrView, sdr_view_of, Store}
 use Rattle.ipmi_commands.specs.Output.{and_then, no_output, Output, piece_of}
-use Rattle.ipmi_commands.specs.Prelude.{Wording, WritesPiece}
-use Rattle.ipmi_commands.specs.Sensors.{AreBlocks, CutsBlock, Found, IsBlockOfFound, IsPieceOfFound, PrintsBlocks, PrintsFirst, PrintsFound}
+use Rattle.ipmi_commands.specs.Prelude.{AreTexts, Form, IfChosen, IsBlockIn, IsBlockOfName, is_name, IsPieceOver, reading_for, row_items, Wording, WritesPiece}
+use Rattle.ipmi_commands.specs.Sensors.{AreBlocks, BlocksAreOfListing, Found, found_among, found_row, has_one_of, IsBlockOfFound, IsPieceOfFound, reading_in, PrintsBlocks, PrintsFirst, PrintsFound}
 use Rattle.ipmi_commands.proofs.OutputLemmas.{nothing_then, then_assoc, then_nothing}
 
 module _ (wording : Wording) (name : List ℕ) where
@@ -68,3 +71,61 @@ module _ (wording : Wording) (name : List ℕ) where
             are = blocks_more (take k all) next printed.text (piece_of text false) printed.are is_piece;
             new_is = is ∙ ap (λ (o : Output). and_then o (piece_of text false)) printed.new_is ∙ then_assoc old printed.text (piece_of text false);
           })
+
+-- ---- the blocks of what is found along a walk
+
+module _ (wording : Wording) (names : List (List ℕ)) (name : List ℕ) (among : Contains names name) (store : Store) where
+  -- the text of a row that is found
+  found_text : (id : ℕ) (bytes : List ℕ) (view : Result SdrView SdrFault) (text : List ℕ)
+      → IsBlockOfFound wording name (record { id = id; bytes = bytes; reading = reading_in store view }) view text
+      → IsBlockOfName wording name store id view text
+  found_text id bytes (Ok view) text is = is
+  found_text id bytes (Err fault) text is = is
+
+  -- a row that is not found has no text
+  no_text : (id : ℕ) (view : Result SdrView SdrFault) → has_one_of names view ≡ false
+      → IsBlockOfName wording name store id view []
+  no_text id (Ok view) none = not_chosen (is_name name (name_of view)) refl
+    where
+      not_chosen : (b : Bool) → is_name name (name_of view) ≡ b
+          → IfChosen b (λ t. IsBlockIn wording id view (reading_for store view) t) []
+      not_chosen false is = refl
+      not_chosen true is =
+          let one = list_any_at (λ n. is_name n (name_of view)) names among.0 name among.1 (ap (λ (n : List ℕ). is_name n (name_of view)) among.2 ∙ is) in
+          cc (one, none)
+  no_text id (Err fault) none = refl
+
+  -- one row, and the rest
+  row_texts : (start : Place) (row : Row) (walk : List Row)
+      → ((text : Output) → AreBlocks wording name (found_among names store walk) text
+      → AreTexts (IsPieceOver store) (row_items (Form.Block wording name) (place_after row.next) walk) text)
+      → (one : Bool) → has_one_of names (sdr_view_of row.bytes) ≡ one → (text : Output)
+      → AreBlocks wording name (cond one (found_row store row ∷ []) [] ++ found_among names store walk) text
+      → AreTexts (IsPieceOver store) (row_items (Form.Block wording name) start (row ∷ walk)) text
+  row_texts start row walk more true is text are = record {
+    first = are.first;
+    rest = are.rest;
+    is_first = record { is_text = found_text row.id row.bytes (sdr_view_of row.bytes) are.first.bytes are.is_first.is_text; counted = are.is_first.counted };
+    is_rest = more are.rest are.is_rest;
+    joined = are.joined;
+  }
+  row_texts start row walk more false is text are = record {
+    first = no_output;
+    rest = text;
+    is_first = record { is_text = no_text row.id (sdr_view_of row.bytes) is; counted = refl };
+    is_rest = more text are;
+    joined = sym (nothing_then text);
+  }
+
+  texts_of_blocks : (start : Place) (walk : List Row) (text : Output) → AreBlocks wording name (found_among names store walk) text
+      → AreTexts (IsPieceOver store) (row_items (Form.Block wording name) start walk) text
+  texts_of_blocks start [] text are = are
+  texts_of_blocks start (row ∷ walk) text are =
+      row_texts start row walk (λ rest. texts_of_blocks (place_after row.next) walk rest) (has_one_of names (sdr_view_of row.bytes)) refl text are
+
+pub blocks_of_listing : BlocksAreOfListing
+blocks_of_listing wording names name store start walk old new among printed = record {
+  text = printed.text;
+  are = texts_of_blocks wording names name among store start walk printed.text printed.are;
+  new_is = printed.new_is;
+}

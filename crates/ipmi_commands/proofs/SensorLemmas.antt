@@ -1,23 +1,26 @@
 -- A search for sensors, step by step of its cursor.
-use Rattle.std.proofs.Common.{◌≡◌, ◌⊎◌, inl, inr, ℕ, ◌+◌, ◌<◌, ◌≤◌, IsTrue, Option, None, Some, Result, Ok, Err, List, [], ◌∷◌, ◌++◌, length, take, refl, sym, ap, subst, ◌∙◌, arith, append-nil, append_assoc, take_all, Bool, true, false, cond}
+use Rattle.std.proofs.Common.{◌≡◌, inl, inr, ℕ, ◌+◌, ◌≤◌, IsTrue, Option, None, Some, Result, Ok, Err, List, [], ◌∷◌, ◌++◌, length, take, refl, sym, ap, subst, ◌∙◌, arith, append-nil, append_assoc, take_all, length-append, Bool, true, false}
 use Rattle.std.specs.FinSet as set
 use Rattle.std.specs.List.{list_any}
 use Rattle.std.proofs.lemmas.Bool.Decides.{nat_tests}
-use Rattle.ipmi_bus.proofs.GrowthLaws.{steps_stay}
+use Rattle.std.proofs.lemmas.List.{take-take}
+use Rattle.std.proofs.Math.Seq.{take-append_seam}
+use Rattle.ipmi_bus.proofs.GrowthLaws.{moment, steps_stay}
+use Rattle.ipmi_bus.proofs.HeldLemmas.{held_at_last, held_in_first}
 use Rattle.ipmi_bus.proofs.StepsLaws.{steps_follow}
 use Rattle.ipmi_bus.proofs.WalkLemmas.{all_at_end}
-use Rattle.ipmi_commands.specs.Below.{AreSteps, cursor_after, CursorHoldsCurrent, CursorState, Done, CycleAt, MissingAt, digits, End, Ended, EndsBy, Ending, Failure, First, first_row, handed_out, HandsOut, Id, IsHonest, IsShelf, IsStep, IsWalk, last_next, Place, place_after, place_after_rows, Reading, Row, rows_of, Sdr, SdrView, sdr_view_of, Seen, seen_after, Shelf, StandsAt, start_of, StaysHonest, StepIsHonest, Stepped, stays_refl, stays_trans, store_shelf, Store, WalkEnd, with_handed}
-use Rattle.ipmi_commands.specs.Prelude.{AsksAt, AtEnd, Cause, cause_of, cause_of_unread, EndsFor, failure_of, FindsIt, FindsNone, Form, IsFresh, is_name, KeepsAt, listing_cursor, most_after, most_for_one, most_on_walk, NoMemory, OnWalk, reading_for, reading_spots, shelf_of, Unread}
+use Rattle.ipmi_commands.specs.Below.{AreSteps, cursor_after, CursorHoldsCurrent, CursorState, Done, CycleAt, MissingAt, End, Ended, EndsBy, Ending, Failure, First, first_row, handed_out, Id, IsHonest, IsLog, IsStep, IsWalk, last_next, OnGrowing, OnlyGrew, Place, place_after, place_after_rows, Reading, Row, rows_of, Sdr, SdrView, sdr_view_of, Seen, seen_after, Shelf, StandsAt, start_of, StaysHonest, StepIsHonest, Stepped, stays_refl, stays_trans, store_shelf, Store, WalkEnd, WalkStep, WasHeld, WasLog, with_handed}
+use Rattle.ipmi_commands.specs.Prelude.{AsksAt, AtEnd, Cause, cause_of, cause_of_unread, EndsFor, failure_of, FindsIt, FindsNone, Form, IsFresh, is_name, most_after, most_for_one, NoMemory, OnWalk, reading_for, reading_spots, shelf_of, Spot, Unread}
 use Rattle.ipmi_records.specs.Sdr.{name_of}
-use Rattle.ipmi_commands.specs.Sensors.{EndsFound, FindsAlong, FindsBy, Found, found_among, found_by, found_of, found_of_result, found_spots, has_one_of, RowIsLost, SearchCalls, Searches, SearchesBy, StepEnds, with_readings}
-use Rattle.ipmi_commands.specs.Traced.{IsTraced, seen_next}
+use Rattle.ipmi_commands.specs.Sensors.{AddsNamed, AreFoundWhile, AreNamed, FindsAlong, FindsBy, FindsWhile, Found, found_among, found_by, found_of, found_of_result, found_spots, has_one_of, SearchCalls, Searches, SearchesBy, StopsAtResult, with_readings}
+use Rattle.ipmi_commands.specs.Traced.{IsStopAmong, IsTraced, seen_next}
 use Rattle.ipmi_commands.specs.declared.limits.RequestLimits.{RequestLimits}
 use Rattle.ipmi_commands.proofs.AskLemmas.{asks_nothing, then_no_memory}
 use Rattle.ipmi_commands.proofs.CallLemmas.{called_more, called_stopped, calls_ended, HandsNothing, HasCalled}
 use Rattle.ipmi_commands.proofs.CountLemmas.{between, ends_here, ends_since}
 use Rattle.ipmi_commands.proofs.GrownListing.{split_last}
 use Rattle.ipmi_commands.proofs.ListingLemmas.{current-kept, holds_none, step_cause, step_ends}
-use Rattle.ipmi_commands.proofs.MeanwhileLemmas.{if_keeps, next_stays, reading_keeps}
+use Rattle.ipmi_commands.proofs.MeanwhileLemmas.{if_keeps, log_now, next_stays, reading_keeps}
 use Rattle.ipmi_commands.proofs.TraceLemmas.{cursor_more, handed_joined, next_more, seen_more, steps_more}
 
 -- ---- what is found of a row
@@ -51,6 +54,10 @@ module _ (names : List (List ℕ)) (tries : ℕ) (row : Row) {view : SdrView} (i
         → FindsNone (found_spots names row) tries s s' NoMemory
     named_unkept found = rw spots_are (then_no_memory found.asks)
 
+    pub named_added : (reading : Option Reading) (old new : List Found)
+        → new ≡ old ++ record { id = row.id; bytes = row.bytes; reading = reading } ∷ [] → AddsNamed names old new
+    named_added reading old new kept = record { more = record { id = row.id; bytes = row.bytes; reading = reading } ∷ []; named = (whether ∙ named, tt); new_is = kept }
+
     -- the row with its reading
     pub named_found : {reading : Option Reading} {s s' : Seen} (old new : List Found)
         → FindsIt (λ store. reading ≡ reading_for store view) (reading_spots row.id (Ok view)) tries s s'
@@ -60,6 +67,22 @@ module _ (names : List (List ℕ)) (tries : ℕ) (row : Row) {view : SdrView} (i
       asks = rw spots_are found.asks;
       is = λ keeps. rw (whether ∙ named, is) (kept ∙ ap (λ (r : Option Reading). old ++ record { id = row.id; bytes = row.bytes; reading = r } ∷ []) (found.is (rw spots_are at keeps)));
     }
+
+-- ---- over any controller
+
+pub adds_none : (names : List (List ℕ)) (old : List Found) → AddsNamed names old old
+adds_none names old = record { more = []; named = tt; new_is = sym (append-nil old) }
+
+named_joined : (names : List (List ℕ)) (a b : List Found) → AreNamed names a → AreNamed names b → AreNamed names (a ++ b)
+named_joined names [] b first rest = rest
+named_joined names (x ∷ a) b first rest = (first.0, named_joined names a b first.1 rest)
+
+pub adds_more : (names : List (List ℕ)) (a b c : List Found) → AddsNamed names a b → AddsNamed names b c → AddsNamed names a c
+adds_more names a b c first then_ = record {
+  more = first.more ++ then_.more;
+  named = named_joined names first.more then_.more first.named then_.named;
+  new_is = then_.new_is ∙ ap (λ (l : List Found). l ++ then_.more) first.new_is ∙ append_assoc a first.more then_.more;
+}
 
 -- ---- what is found by one more step
 
@@ -176,15 +199,7 @@ module _ {names : List (List ℕ)} {tries : ℕ} {begun now : CursorState} {s s'
       finds = record {
         steps = all_steps step h;
         traced = all_traced step h s'' (stays_refl s'' (honest_step step h).stays.honest);
-        ends = inl (record {
-          ended = ended;
-          is = refl;
-          done = (kept.went h).steps;
-          step = last_step step;
-          are = refl;
-          returned = refl;
-          found = all_found step h s'' new (sym (append-nil new));
-        });
+        ends = record { done = (kept.went h).steps; step = last_step step; are = refl; stops = refl; found = (kept.went h).found };
       };
     }
 
@@ -214,15 +229,7 @@ module _ {names : List (List ℕ)} {tries : ℕ} {begun now : CursorState} {s s'
           finds = record {
             steps = all_steps step h;
             traced = all_traced step h last lost.asks.ends.stays;
-            ends = inr (record {
-              done = (kept.went h).steps;
-              step = last_step step;
-              row = row;
-              are = refl;
-              returned = refl;
-              there = lost.there;
-              found = (kept.went h).found;
-            });
+            ends = record { done = (kept.went h).steps; step = last_step step; are = refl; stops = lost.there; found = (kept.went h).found };
           };
         }
 
@@ -332,21 +339,102 @@ module _ (names : List (List ℕ)) (begun now : CursorState) (s s' : Seen) (old 
         rows,
       )
 
-  along : (ending : Ending) → FindsBy names begun now s s' old new ending → FindsAlong names s.store walk end old new ending
+  abbrev Along : Ending → Type 0
+  Along = FindsAlong names s.store walk end old new
+
+  -- a step that failed after the first k rows
+  along_ended : (k : ℕ) (c next : CursorState) (ended : Ended) → WalkStep (rows_of begun.shelf s.store) start walk end k c next (Err ended)
+      → new ≡ old ++ found_among names s.store (take k walk) → Along (Err (Failure.Ended ended))
+  along_ended k c next (Ended.Cycle n) at found = (at.1, rw (take_all k walk (omega (arith, at.0))) at found)
+  along_ended k c next (Ended.Missing n) at found = (at.1, rw (take_all k walk (omega (arith, at.0))) at found)
+  along_ended k c next (Ended.GaveUp n) at found = (k, found)
+  along_ended k c next (Ended.Refused n code) at found = (k, found)
+  along_ended k c next (Ended.Stalled n) at found = (k, found)
+  along_ended k c next (Ended.Malformed n) at found = (k, found)
+
+  -- a reading that was not found
+  along_lost : (k : ℕ) (spots : List Spot) (failure : Failure) → IsStopAmong spots (cause_of (Err failure))
+      → new ≡ old ++ found_among names s.store (take k walk) → Along (Err failure)
+  along_lost k spots (Failure.Ended (Ended.Cycle n)) there found = absurd there
+  along_lost k spots (Failure.Ended (Ended.Missing n)) there found = absurd there
+  along_lost k spots _ there found = (k, found)
+
+  along_stopped : (k : ℕ) (c next : CursorState) (result : Result (Option Row) Ended) (failure : Failure)
+      → WalkStep (rows_of begun.shelf s.store) start walk end k c next result → StopsAtResult names result failure
+      → new ≡ old ++ found_among names s.store (take k walk) → Along (Err failure)
+  along_stopped k c next (Ok (Some row)) failure at stops found = along_lost k (found_spots names row) failure stops found
+  along_stopped k c next (Ok None) failure at stops found = absurd stops
+  along_stopped k c next (Err ended) failure at stops found =
+      subst (λ (f : Failure). Along (Err f)) (sym stops) (along_ended k c next ended at found)
+
+  along : (ending : Ending) → FindsBy names begun now s s' old new ending → Along ending
   along (Ok done) f =
       let at = first_found f.steps s' f.traced.are f.traced.stays same f.ends.1 in
       let all = whole_walk at.0 (cursor_after begun f.steps) (same_shelf begun s f.steps f.traced.are) at.2 (ap (λ (c : CursorState). c.place) f.traced.cursor ∙ f.ends.0) in
       (all.0, at.1 ∙ ap (λ (l : List Row). old ++ found_among names s.store l) all.1)
-  along (Err failure) f = elim f.ends [
-    | inl ended ↦ let at = first_found f.steps s' f.traced.are f.traced.stays same ended.found in (at.0, at.1)
-    | inr lost ↦
-        let parts = split_last begun s lost.done lost.step (subst (AreSteps begun s) lost.are f.traced.are) in
-        let before = stays_trans s (seen_after s lost.done) lost.step.before (steps_stay begun s lost.done honest parts.0) parts.1 in
-        let after = stays_trans lost.step.before lost.step.seen s' (parts.2.honest parts.1.honest).stays
-        (subst (λ (x : Seen). StaysHonest x s') (ap (seen_after s) lost.are ∙ seen_more s lost.done lost.step) f.traced.stays) in
-        let at = first_found lost.done lost.step.before parts.0 parts.1 (between s lost.step.before s' before after same).0 lost.found in
-        (at.0, at.1)
-  ]
+  along (Err failure) f =
+      let done = f.ends.done in
+      let step = f.ends.step in
+      let parts = split_last begun s done step (subst (AreSteps begun s) f.ends.are f.traced.are) in
+      let before = stays_trans s (seen_after s done) step.before (steps_stay begun s done honest parts.0) parts.1 in
+      let made = (parts.2.honest parts.1.honest).stays in
+      let after = subst (λ (x : Seen). StaysHonest x s') (ap (seen_after s) f.ends.are ∙ seen_more s done step) f.traced.stays in
+      let first = (between s step.before s' before (stays_trans step.before step.seen s' made after) same).0 in
+      let quiet = (between step.before step.seen s' made after (same ∙ sym first)).0 in
+      let at = first_found done step.before parts.0 parts.1 first f.ends.found in
+      let rows : rows_of (cursor_after begun done).shelf step.before.store ≡ rows_of begun.shelf s.store =
+      ap (λ (x : Shelf). rows_of x step.before.store) (same_shelf begun s done parts.0) ∙ ap (rows_of begun.shelf) (before.store.stays first) in
+      let stepped = (rw rows at ((parts.2.walks parts.1.honest).follows quiet start walk end at.0)) w ends at.2 in
+      along_stopped at.0 (cursor_after begun done) step.cursor step.result failure stepped f.ends.stops at.1
+
+-- ---- along a log that grew
+
+module _ (names : List (List ℕ)) (first last : Seen) where
+  found_then : (result : Result (Option Row) Ended) (store : Store) (rows : List Row) (rest : List Found)
+      → WasHeld first last store → AreFoundWhile names first last rows rest
+      → AreFoundWhile names first last (with_handed result rows) (found_of_result names store result ++ rest)
+  found_then (Ok (Some row)) store rows rest held are = record { store = store; held = held; rest = rest; is_rest = are; joined = refl }
+  found_then (Ok None) store rows rest held are = are
+  found_then (Err ended) store rows rest held are = are
+
+  found_while : (c : CursorState) (s : Seen) (steps : List Stepped) (now : Seen) → StaysHonest first s → AreSteps c s steps
+      → StaysHonest (seen_after s steps) now → StaysHonest now last → AreFoundWhile names first last (handed_out steps) (found_by names steps now)
+  found_while c s [] now before are stays after = refl
+  found_while c s (step ∷ steps) now before are stays after =
+      let made = (are.1.honest are.0.honest).stays in
+      let to_here = stays_trans first s step.seen before (stays_trans s step.before step.seen are.0 made) in
+      let next = next_stays step.cursor step.seen steps now made.honest are.2 stays in
+      let there = seen_next steps now in
+      let to_there = stays_trans first step.seen there to_here next.0 in
+      let on = stays_trans there now last next.1 after in
+      found_then step.result there.store (handed_out steps) (found_by names steps now)
+      (held_in_first first there last to_there.store on.store there.store (held_at_last first there))
+      (found_while step.cursor step.seen steps now to_here are.2 stays after)
+
+module _ (names : List (List ℕ)) (begun now : CursorState) (s s' : Seen) (old new : List Found) (start : Place)
+    (honest : IsHonest s) (first : List Row) (log : IsLog begun.shelf start s.store first)
+    (stands : StandsAt (rows_of begun.shelf s.store) start first 0 begun) (grew : OnlyGrew begun.shelf start s s') where
+  grown : (ending : Ending) → FindsBy names begun now s s' old new ending
+      → (rows : List Row) × WasLog begun.shelf start s s' first rows × FindsWhile names rows s s' old new ending
+  grown (Ok done) f =
+      let m = moment begun s s' start first honest log stands f.steps f.traced.are f.traced.stays grew in
+      let whole = m.whole (ap (λ (c : CursorState). c.place) f.traced.cursor ∙ f.ends.0) in
+      let last = stays_refl s' f.traced.stays.honest in
+      let those = found_while names s s' begun s f.steps s' (stays_refl s honest) f.traced.are f.traced.stays last in
+      (m.rows, m.was, (found_by names f.steps s', f.ends.1, subst (λ (l : List Row). AreFoundWhile names s s' l (found_by names f.steps s')) whole those))
+  grown (Err failure) f =
+      let m = moment begun s s' start first honest log stands f.steps f.traced.are f.traced.stays grew in
+      let done = f.ends.done in
+      let step = f.ends.step in
+      let parts = split_last begun s done step (subst (AreSteps begun s) f.ends.are f.traced.are) in
+      let made = (parts.2.honest parts.1.honest).stays in
+      let after = stays_trans step.before step.seen s' made (subst (λ (x : Seen). StaysHonest x s') (ap (seen_after s) f.ends.are ∙ seen_more s done step) f.traced.stays) in
+      let those = found_while names s s' begun s done step.before (stays_refl s honest) parts.0 parts.1 after in
+      let hd = handed_out done in
+      let all : handed_out f.steps ≡ hd ++ handed_out (step ∷ []) = ap handed_out f.ends.are ∙ handed_joined done (step ∷ []) in
+      let few : length hd ≤ length (handed_out f.steps) = omega (arith, ap (length {A = Row}) all, length-append hd (handed_out (step ∷ []))) in
+      let rows : hd ≡ take (length hd) m.rows = sym (take-append_seam hd (handed_out (step ∷ []))) ∙ ap (take (length hd)) (sym all ∙ m.begins) ∙ take-take (length hd) (length (handed_out f.steps)) m.rows few in
+      (m.rows, m.was, (length hd, found_by names done step.before, f.ends.found, subst (λ (l : List Row). AreFoundWhile names s s' l (found_by names done step.before)) rows those))
 
 -- ---- a new cursor
 
@@ -369,4 +457,16 @@ search_by_cursor {form = form} {from = from} {names} {begun = begun} {now = now}
       });
       along = λ same. subst (λ (x : Shelf). OnWalk x (start_of from) s.store (λ walk end. FindsAlong names s.store walk end old new ending)) shelf
           (λ walk end w ends. along names begun now s s' old new (start_of from) honest same walk end w ends (fresh.stands (rows_of begun.shelf s.store) walk) ending by_cursor.finds);
+      grows = subst (λ (x : Shelf). OnGrowing x (start_of from) s s' (λ log. FindsWhile names log s s' old new ending)) shelf
+          (λ first log grew. grown names begun now s s' old new (start_of from) honest first log (fresh.stands (rows_of begun.shelf s.store) first) grew ending by_cursor.finds);
     }
+
+-- without memory for one
+pub search_without_memory : {names : List (List ℕ)} {start : Place} {tries : ℕ} {s : Seen} {old : List Found} → IsHonest s
+    → Searches names start tries s s old old (Err Failure.OutOfMemory)
+search_without_memory {s = s} {old = old} honest = record {
+  why = ends_here honest refl tt;
+  traces = inl (refl, refl, refl);
+  along = λ same walk end w ends. (0, sym (append-nil old));
+  grows = λ first log grew. (first, log_now s s (stays_refl s honest).store honest first log, (0, [], sym (append-nil old), refl));
+}

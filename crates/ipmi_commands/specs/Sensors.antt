@@ -1,17 +1,17 @@
 -- Sensors that one walk of the sensor data records finds by their names, and the blocks that are printed of them.
-use Rattle.std.specs.Prelude.{◌≡◌, ◌⊎◌, ℕ, ◌+◌, ◌*◌, ◌<◌, ◌≤◌, Bool, false, IsTrue, if◌then◌else◌, Option, None, Some, Result, Ok, Err, List, [], ◌∷◌, ◌++◌, length, take}
+use Rattle.std.specs.Prelude.{◌≡◌, ◌⊎◌, ℕ, ◌+◌, ◌*◌, ◌<◌, ◌≤◌, Bool, true, false, IsTrue, if◌then◌else◌, Option, None, Some, Result, Ok, Err, List, [], ◌∷◌, ◌++◌, length, take}
 use Rattle.std.specs.FinSet as set
-use Rattle.std.specs.List.{list_any}
-use Rattle.ipmi_commands.specs.Below.{CursorState, CursorHoldsCurrent, digits, Done, End, Ended, Ending, Failure, IsHonest, Kind, LastCallSays, Place, Reading, RefusesRecord, Row, Sdr, SdrFault, SdrView, sdr_view_of, Seen, Stepped, Store, WalkEnd}
+use Rattle.std.specs.List.{Contains, list_any}
+use Rattle.ipmi_commands.specs.Below.{CursorState, CursorHoldsCurrent, CycleAt, digits, Done, End, Ended, Ending, Failure, Kind, LastCallSays, MissingAt, OnGrowing, Place, Reading, RefusesRecord, Row, Sdr, SdrFault, SdrView, sdr_view_of, Seen, Stepped, Store, WalkEnd, WasHeld}
 use Rattle.ipmi_records.specs.Sdr as sdr
 use Rattle.ipmi_commands.specs.declared.job.Detail.{Detail}
 use Rattle.ipmi_commands.specs.declared.job.Form.{Form}
 use Rattle.ipmi_commands.specs.declared.job.Wording.{Wording}
-use Rattle.ipmi_commands.specs.Allowed.{cause_of, EndsFor, TextsJoined}
+use Rattle.ipmi_commands.specs.Allowed.{cause_of, EndsFor, Printed, TextsJoined}
 use Rattle.ipmi_commands.specs.Calls.{most_for_one}
 use Rattle.ipmi_commands.specs.Output.{and_then, IsCut, no_output, Output, piece_of}
-use Rattle.ipmi_commands.specs.Plan.{OnWalk, reading_spots, Spot}
-use Rattle.ipmi_commands.specs.Texts.{IfChosen, IsBlockIn, is_name, reading_for}
+use Rattle.ipmi_commands.specs.Plan.{OnWalk, reading_spots, row_items, Spot}
+use Rattle.ipmi_commands.specs.Texts.{IfChosen, IsBlockIn, is_name, IsPieceOver, reading_for}
 use Rattle.ipmi_commands.specs.Traced.{IsStopAmong, IsTraced, seen_next}
 
 -- ---- what is found
@@ -65,6 +65,17 @@ found_by names (step ∷ steps) last =
 abbrev pub with_readings : Form
 with_readings = Form.Line Detail.Short Kind.All
 
+-- each has one of the names
+abbrev pub AreNamed : List (List ℕ) → List Found → Type 0
+AreNamed names [] = Unit {0}
+AreNamed names (found ∷ rest) = (has_one_of names (sdr_view_of found.bytes) ≡ true) × AreNamed names rest
+
+-- records with one of the names were added at the end, and nothing else
+pub record AddsNamed (names : List (List ℕ)) (old new : List Found) : Type 0 where
+  pub more : List Found
+  pub named : AreNamed names more
+  pub new_is : new ≡ old ++ more
+
 -- the possible ends of a search: a failure at a record or a reading agrees with the last call
 abbrev pub EndsSearch : Seen → Ending → Type 0
 EndsSearch seen (Ok done) = Unit {0}
@@ -79,35 +90,27 @@ abbrev pub found_spots : List (List ℕ) → Row → List Spot
 found_spots names row =
     if has_one_of names (sdr_view_of row.bytes) then reading_spots row.id (sdr_view_of row.bytes) else []
 
--- the last step returned no record, for this reason; all that the steps returned was searched
-pub record StepEnds (names : List (List ℕ)) (steps : List Stepped) (last : Seen) (old new : List Found)
-    (failure : Failure) : Type 0 where
-  pub ended : Ended
-  pub is : failure ≡ Failure.Ended ended
-  pub done : List Stepped
-  pub step : Stepped
-  pub are : steps ≡ done ++ step ∷ []
-  pub returned : step.result ≡ Err ended
-  pub found : new ≡ old ++ found_by names steps last
+-- why a search stops at the result of a step: the step failed for this reason; or the record that it returned
+-- has one of the names, and its reading was given up or refused; or memory ran out
+abbrev pub StopsAtResult : List (List ℕ) → Result (Option Row) Ended → Failure → Type 0
+StopsAtResult names (Ok (Some row)) failure = IsStopAmong (found_spots names row) (cause_of (Err failure))
+StopsAtResult names (Ok None) failure = ⊥
+StopsAtResult names (Err ended) failure = failure ≡ Failure.Ended ended
 
--- the last record was not kept: it has one of the names and its reading was given up or refused, or memory
--- ran out; all before it was searched
-pub record RowIsLost (names : List (List ℕ)) (steps : List Stepped) (old new : List Found)
+-- the search stopped at the last step; what the steps before it returned was searched
+pub record StopsAtLast (names : List (List ℕ)) (steps : List Stepped) (old new : List Found)
     (failure : Failure) : Type 0 where
   pub done : List Stepped
   pub step : Stepped
-  pub row : Row
   pub are : steps ≡ done ++ step ∷ []
-  pub returned : step.result ≡ Ok (Some row)
-  pub there : IsStopAmong (found_spots names row) (cause_of (Err failure))
+  pub stops : StopsAtResult names step.result failure
   pub found : new ≡ old ++ found_by names done step.before
 
 -- at Ok the cursor is at the end, and all that it returned was searched
 abbrev pub EndsFound : List (List ℕ) → CursorState → List Stepped → Seen → List Found → List Found
     → Ending → Type 0
 EndsFound names now steps last old new (Ok done) = (now.place ≡ End) × (new ≡ old ++ found_by names steps last)
-EndsFound names now steps last old new (Err failure) =
-    StepEnds names steps last old new failure ⊎ RowIsLost names steps old new failure
+EndsFound names now steps last old new (Err failure) = StopsAtLast names steps old new failure
 
 -- the steps of a cursor, and what was found by them
 pub record FindsBy (names : List (List ℕ)) (begun now : CursorState) (s s' : Seen)
@@ -130,22 +133,50 @@ pub record FindsFrom (names : List (List ℕ)) (start : Place) (s s' : Seen) (ol
 abbrev pub HasNoMemory : Seen → Seen → List Found → List Found → Ending → Type 0
 HasNoMemory s s' old new ending = (ending ≡ Err Failure.OutOfMemory) × (s' ≡ s) × (new ≡ old)
 
--- along a walk: at Ok it ends with `Done` and all its rows were searched, otherwise its first `count` rows
+-- Along a walk: all its rows were searched at Ok, when it ends with `Done`, and when the search ended with its
+-- cycle or its missing id; otherwise its first `count` rows were.
 abbrev pub FindsAlong : List (List ℕ) → Store → List Row → WalkEnd → List Found → List Found → Ending
     → Type 0
 FindsAlong names store walk end old new (Ok done) =
     (end ≡ Done) × (new ≡ old ++ found_among names store walk)
+FindsAlong names store walk end old new (Err (Failure.Ended (Ended.Cycle n))) =
+    (end ≡ CycleAt n) × (new ≡ old ++ found_among names store walk)
+FindsAlong names store walk end old new (Err (Failure.Ended (Ended.Missing n))) =
+    (end ≡ MissingAt n) × (new ≡ old ++ found_among names store walk)
 FindsAlong names store walk end old new (Err failure) =
     (count : ℕ) × (new ≡ old ++ found_among names store (take count walk))
 
--- a search over an honest controller: why it ended; what was found, whatever the store does; and along the
--- walk, if no store was added
+-- what is found of a row over a store that the controller held meanwhile, followed by what is found of the rest
+pub record FoundThen (names : List (List ℕ)) (s s' : Seen) (row : Row) (IsRest : List Found → Type 0)
+    (found : List Found) : Type 0 where
+  pub store : Store
+  pub held : WasHeld s s' store
+  pub rest : List Found
+  pub is_rest : IsRest rest
+  pub joined : found ≡ found_of names store row ++ rest
+
+-- what is found of the rows, in their order; each perhaps over another store
+abbrev pub AreFoundWhile : List (List ℕ) → Seen → Seen → List Row → List Found → Type 0
+AreFoundWhile names s s' [] found = found ≡ []
+AreFoundWhile names s s' (row ∷ rows) found =
+    FoundThen names s s' row (λ rest. AreFoundWhile names s s' rows rest) found
+
+-- along a log that was held meanwhile: all its rows were searched at Ok, otherwise its first `count` rows
+abbrev pub FindsWhile : List (List ℕ) → List Row → Seen → Seen → List Found → List Found → Ending → Type 0
+FindsWhile names log s s' old new (Ok done) =
+    (more : List Found) × (new ≡ old ++ more) × AreFoundWhile names s s' log more
+FindsWhile names log s s' old new (Err failure) =
+    (count : ℕ) × (more : List Found) × (new ≡ old ++ more) × AreFoundWhile names s s' (take count log) more
+
+-- a search over an honest controller: why it ended; what was found, whatever the store does; along the walk, if
+-- no store was added; and along the log as it was meanwhile, if records were only appended
 pub record Searches (names : List (List ℕ)) (start : Place) (tries : ℕ) (s s' : Seen)
     (old new : List Found) (ending : Ending) : Type 0 where
   pub why : EndsFor tries (IsTrue s.plain) s s' (cause_of ending)
   pub traces : HasNoMemory s s' old new ending ⊎ FindsFrom names start s s' old new ending
   pub along : s'.stores_added ≡ s.stores_added
       → OnWalk Sdr start s.store (λ walk end. FindsAlong names s.store walk end old new ending)
+  pub grows : OnGrowing Sdr start s s' (λ log. FindsWhile names log s s' old new ending)
 
 -- ---- for the contracts of private functions
 
@@ -211,3 +242,13 @@ PrintsFound wording name found old new (Ok done) = PrintsBlocks wording name fou
 PrintsFound wording name found old new (Err Failure.OutOfMemory) = PrintsFirst wording name found old new
 PrintsFound wording name found old new (Err Failure.WriteFault) = CutsBlock wording name found old new
 PrintsFound wording name found old new (Err failure) = ⊥
+
+-- ---- a law
+
+-- what is printed of a walk's rows that a search for several names found is, for each of the names, what a
+-- listing of this name prints of the walk
+abbrev pub BlocksAreOfListing : Type 0
+BlocksAreOfListing = (wording : Wording) (names : List (List ℕ)) (name : List ℕ) (store : Store) (start : Place)
+    (walk : List Row) (old new : Output) → Contains names name
+    → PrintsBlocks wording name (found_among names store walk) old new
+    → Printed (IsPieceOver store) (row_items (Form.Block wording name) start walk) old new

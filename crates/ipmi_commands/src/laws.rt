@@ -1,5 +1,6 @@
 //! Laws of plans. They follow from the definitions of plans. Each law is the contract of a function that does nothing.
 ghost use Rattle.ipmi_commands.specs.Prelude.{FinishedRunsAreOne, ItemsHaveAText, ItemsHaveOneText};
+ghost use Rattle.ipmi_commands.specs.Sensors.{BlocksAreOfListing};
 
 /// Over a well-formed store, each list of items in codes and in words has a text.
 pub fn items_have_a_text()
@@ -45,3 +46,9 @@ pub fn finished_runs_are_one()
     ipmi_bus::laws::one_walk_has_an_end();
     ipmi_bus::laws::what_is_found_is_a_row();
 }
+
+/// What is printed of the sensors that one search for several names found along a walk is, for each of the names, what a
+/// listing of this name prints of the walk.
+pub fn blocks_are_of_a_listing()
+    ensures { BlocksAreOfListing }
+{}

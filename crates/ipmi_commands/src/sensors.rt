@@ -5,7 +5,7 @@ ghost use Rattle.std.specs.List.{list_any};
 ghost use Rattle.ipmi_records.specs.Sdr.{name_of};
 ghost use Rattle.ipmi_commands.specs.Below.{AsksAtMost, IsHonest, row_of_record, Sdr, sdr_view_of, start_of, write_faults};
 ghost use Rattle.ipmi_commands.specs.Prelude.{Finds, IsFrom, is_name, LacksValue, most_on_walk, printed};
-ghost use Rattle.ipmi_commands.specs.Sensors.{EndsSearch, Found, found_of, found_spots, IsBlockOfFound, PrintsFound, SearchCalls, Searches, SearchesBy, with_readings};
+ghost use Rattle.ipmi_commands.specs.Sensors.{AddsNamed, EndsSearch, Found, found_of, found_spots, IsBlockOfFound, PrintsFound, SearchCalls, Searches, SearchesBy, with_readings};
 
 use crate::job::{Form, Wording};
 use crate::limits::RequestLimits;
@@ -90,7 +90,7 @@ fn is_one_of(names: &[Word], own: &Option<String>) -> bool
 }
 
 /// Appends the record and its reading to `found` if it has one of these names. If this fails, `found` is unchanged.
-#[tactic(auto, using(crate::proofs::AskLemmas::no_memory, crate::proofs::AskLemmas::then_no_memory))]
+#[tactic(auto, using(crate::proofs::SensorLemmas::adds_none))]
 fn find_in<C: Controller>(
     alloc: Global,
     ctl: &mut C,
@@ -103,6 +103,7 @@ fn find_in<C: Controller>(
     ensures asked { AsksAtMost 0 (C.seen ctl.old) (C.seen ctl.new) }
     ensures says { IfErr result (λ unread. LacksValue unread (C.seen ctl.new)) }
     ensures kept { OnErr result (found.new ≡ found.old) }
+    ensures adds { AddsNamed names.now found.old found.new }
     ensures honest { let row = row_of_record lent.now in IsHonest (C.seen ctl.old) →
         Finds (λ store _. found.new ≡ found.old ++ found_of names.now store row) (found_spots names.now row)
         tries (C.seen ctl.old) (C.seen ctl.new) result }
@@ -133,6 +134,7 @@ fn find_after<'a, C: Controller>(
     requires room { set.len cursor.old.ids ≤ 65536 }
     ensures asked { AsksAtMost cursor.old.part (C.seen ctl.old) (C.seen ctl.new) }
     ensures ends { EndsSearch (C.seen ctl.new) result }
+    ensures adds { AddsNamed names.now found.old found.new }
     ensures calls { SearchCalls tries cursor.old (C.seen ctl.old) (C.seen ctl.new) }
     ensures honest { IsHonest (C.seen ctl.old) →
         SearchesBy names.now tries cursor.old cursor.new (C.seen ctl.old) (C.seen ctl.new)
@@ -152,8 +154,9 @@ fn find_after<'a, C: Controller>(
 }
 
 /// Appends each record with one of these names to `found`, with its reading, in one walk of the sensor data records
-/// that starts at the id `from` or at the first record. A record with a fault is passed over. If this fails,
-/// `found` has the records found before.
+/// that starts at the id `from` or at the first record. A record with a fault is passed over. If the walk breaks
+/// off, `found` has the records that were found before.
+#[tactic(auto, using(crate::proofs::SensorLemmas::adds_none))]
 pub fn find_sensors<'a, C: Controller>(
     alloc: Global,
     ctl: &mut C,
@@ -165,6 +168,7 @@ pub fn find_sensors<'a, C: Controller>(
     requires { IsFrom from }
     ensures asked { AsksAtMost limits.part (C.seen ctl.old) (C.seen ctl.new) }
     ensures ends { EndsSearch (C.seen ctl.new) result }
+    ensures adds { AddsNamed names.now found.old found.new }
     ensures calls { (C.seen ctl.new).calls ≤ (C.seen ctl.old).calls + most_on_walk with_readings
         limits.tries }
     ensures searches { IsHonest (C.seen ctl.old) →

@@ -1,7 +1,7 @@
-use Rattle.std.proofs.Common.{◌≡◌, Bool, true, false, not, Ok, Err, arith, sym, ◌∙◌}
+use Rattle.std.proofs.Common.{arith, sym}
 use Rattle.ipmi_commands.specs.Below.{row_of_record}
 use Rattle.ipmi_commands.proofs.AskLemmas.{passed}
-use Rattle.ipmi_commands.proofs.SensorLemmas.{named_found, named_lost, named_unkept, none_named}
+use Rattle.ipmi_commands.proofs.SensorLemmas.{named_added, named_found, named_lost, named_unkept, none_named}
 use Rattle.ipmi_commands.proofs.sensors.find_in.Goals as goal
 
 pub returns-then-not-is_one_of-clause-honest : goal.returns-then-not-is_one_of-clause-honest
@@ -22,3 +22,8 @@ pub returns-clause-honest : goal.returns-clause-honest
 returns-clause-honest g c = λ h.
     named_found c.args.names.now c.args.tries (row_of_record c.args.lent.now) (sym c.in-Ok.ensures) c.in_ok-own.ensures c.is_one_of.ensures
     (grind (arith, c.if-not-is_one_of.false)) _ _ (c.in_ok-reading.ensures.honest h) c.in_ok-push.ensures.ok
+
+pub returns-clause-adds : goal.returns-clause-adds
+returns-clause-adds g c =
+    named_added c.args.names.now c.args.tries (row_of_record c.args.lent.now) (sym c.in-Ok.ensures) c.in_ok-own.ensures c.is_one_of.ensures
+    (grind (arith, c.if-not-is_one_of.false)) _ _ _ c.in_ok-push.ensures.ok

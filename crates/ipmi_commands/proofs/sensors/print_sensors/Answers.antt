@@ -16,5 +16,5 @@ pub sensors-preserved : goal.sensors-preserved
 sensors-preserved g c = (
   omega (arith, c.in-Ok-write_piece.ensures.faults, c.sensors.invariant.0),
   block_more c.args.wording c.args.name.now c.args.found.now c.deref-sensor-items.result.now (c.deref-sensor-items.ensures.value ∙ c.found.view_is) c.sensors.sensor-index
-  c.sensors-test.true c.sensor-item.result c.sensor-item.is c.sensors.invariant.1 _ c.in-Ok.ensures (rw c.deref.ensures.value at c.in-Ok-write_piece.ensures.piece),
+      c.sensors-test.true c.sensor-item.result c.sensor-item.is c.sensors.invariant.1 _ c.in-Ok.ensures (rw c.deref.ensures.value at c.in-Ok-write_piece.ensures.piece),
 )
