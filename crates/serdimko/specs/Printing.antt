@@ -8,7 +8,7 @@ use Rattle.ipmi_command_line.specs.declared.task.Task.{Task}
 use Rattle.ipmi_commands.specs.Prelude.{change, job_in, most_on_walk, Output, Runs}
 use Rattle.ipmi_commands.specs.declared.job.Job.{Job}
 use Rattle.ipmi_commands.specs.declared.job.Wording.{Wording}
-use Rattle.ipmi_commands.specs.Sensors.{EndsSearch, Found, PrintsFound, Searches, with_readings}
+use Rattle.ipmi_commands.specs.Sensors.{AddsNamed, EndsSearch, Found, PrintsFound, Searches, with_readings}
 use Rattle.ipmi_commands.specs.declared.limits.RequestLimits.{RequestLimits}
 use Rattle.ipmi_json.specs.Info.{end_members}
 use Rattle.ipmi_json.specs.Object.{IsLineOf}
@@ -182,6 +182,7 @@ pub record PrintsSensors (limits : RequestLimits) (names : List (List ℕ)) (fro
   pub asked : AsksAtMost limits.part old.seen new.seen
   pub calls : new.seen.calls ≤ old.seen.calls + most_on_walk with_readings limits.tries
   pub may_end : EndsSearch new.seen searched
+  pub named : AddsNamed names [] found
   pub searches : IsHonest old.seen
       → Searches names (start_of from) limits.tries old.seen new.seen [] found searched
   pub prints : PrintsSearched searched report found names old new said said' result
