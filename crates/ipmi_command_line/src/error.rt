@@ -26,6 +26,10 @@ pub enum Hint<'a> {
     Quotes,
     /// A file.
     File,
+    /// A kind of sensor data records, without `list` before it.
+    Kind(&'a str),
+    /// An option whose first dash is typographic. What follows the dash.
+    Dash(&'a str),
 }
 
 /// Why a command line is refused. It displays as one line, in which control characters of the user are escaped.
@@ -53,6 +57,8 @@ pub enum UsageError<'a> {
     TwoIds,
     /// There is no live controller for `capture`.
     NotLive,
+    /// There is a live controller for `image rewrite`.
+    NotSaved,
     /// There are several images, and the command takes one.
     SeveralImages,
     /// Standard input is an image twice.
@@ -171,6 +177,19 @@ impl fmt::Display for Hint<'_> {
             Hint::FirstRecord => f.write_str(": leave it out to begin with the first record"),
             Hint::Quotes => f.write_str(": quote a name that has spaces"),
             Hint::File => f.write_str(": a file comes after --image"),
+            Hint::Kind(kind) => write!(f, ": did you mean 'sdr list {kind}'?"),
+            Hint::Dash(rest) if rest.len() == 1 => {
+                write!(
+                    f,
+                    ": an option begins with a plain dash, as -{}",
+                    Escaped(rest)
+                )
+            }
+            Hint::Dash(rest) => write!(
+                f,
+                ": an option begins with two plain dashes, as --{}",
+                Escaped(rest)
+            ),
         }
     }
 }
@@ -252,6 +271,9 @@ impl UsageError<'_> {
         match self {
             UsageError::TwoIds => "'sel get' takes an ID or --id, not both",
             UsageError::NotLive => "'capture' needs a live controller: see serdimko-live --help",
+            UsageError::NotSaved => {
+                "'image rewrite' needs a saved image: write serdimko --image FILE image rewrite"
+            }
             UsageError::SeveralImages => "'image rewrite' takes one image",
             UsageError::StandardInputTwice => "standard input is given twice",
             UsageError::ImageAndLive => "--image does not go with a live controller",

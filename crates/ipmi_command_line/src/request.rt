@@ -11,7 +11,7 @@ use crate::arguments::{arguments, has_value, is_given, value, value_count};
 use crate::command::{DEFAULT_TRIES, FIRST_ID, LAST_ID, number_or, start_of_text};
 use crate::commands::{CommandRow, Verb, row_of};
 use crate::error::UsageError;
-use crate::mistake::{refused, unknown_word, value_error, word_error};
+use crate::mistake::{misplaced_option, refused, unknown_word, value_error, word_error};
 use crate::number::{decimal, digits, number};
 use crate::table::{oldest, task_of, task_of_four};
 use crate::task::{Count, Kind, Task};
@@ -572,7 +572,7 @@ fn request_of_row<'a>(
     ensures range { IfOk result IsRequest }
 {
     if let Some(name) = misplaced(row.3, matches) {
-        return Err(UsageError::Misplaced(name, row.0));
+        return Err(misplaced_option(row, name));
     }
     let action = action_of(alloc, row, words, matches)?;
     let source = source_of(alloc, matches)?;
