@@ -3,6 +3,7 @@ ghost use Rattle.std.specs.Prelude.{◌≡◌};
 ghost use Rattle.ipmi_command_line.specs.declared.error.UsageError.{UsageError};
 
 use crate::commands::{COMMANDS, CommandRow, Operand, begins_with};
+use crate::table::KINDS;
 use std::alloc::AllocError;
 use std::error::Error;
 use std::fmt;
@@ -137,18 +138,33 @@ fn write_next_words<W: fmt::Write>(
     Ok(())
 }
 
+/// Writes the kinds of sensor data records that a word names.
+fn write_kinds<W: fmt::Write>(f: &mut fmt::Formatter<W>) -> fmt::Result {
+    f.write_str("a kind")?;
+    for (place, (name, _)) in KINDS.iter().enumerate() {
+        f.write_str(match place {
+            0 => ": ",
+            _ if place + 1 == KINDS.len() => " or ",
+            _ => ", ",
+        })?;
+        f.write_str(name)?;
+    }
+    Ok(())
+}
+
 /// What follows the words of a command, as messages and help name it.
 impl fmt::Display for Operand {
     fn fmt<W: fmt::Write>(&self, f: &mut fmt::Formatter<W>) -> fmt::Result {
-        f.write_str(match self {
+        let words = match self {
+            Operand::Kind => return write_kinds(f),
             Operand::Nothing => "nothing",
-            Operand::Kind => "a kind: all, full, compact, event, generic, mclocator or fru",
             Operand::Name | Operand::Names => "a NAME",
             Operand::Count => "a number from 0 to 65535",
             Operand::EntryId => "an ID from 1 to 65534",
             Operand::DeviceId => "an ID from 0 to 254",
             Operand::Topic => "a command",
-        })
+        };
+        f.write_str(words)
     }
 }
 

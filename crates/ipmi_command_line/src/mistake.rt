@@ -5,21 +5,11 @@ ghost use Rattle.ipmi_command_line.specs.Hints.{after_dash, is_beginning, is_nea
 use crate::commands::{COMMANDS, CommandRow, Operand, Verb};
 use crate::error::{Hint, UsageError, next_word};
 use crate::number::{digits, number};
+use crate::table::{KINDS, kind_of};
 use clap::Error;
 use std::alloc::{AllocError, Global};
 use std::convert::AsStr;
 use strsim::osa_distance;
-
-/// The kinds of sensor data records.
-const KINDS: [&str; 7] = [
-    "all",
-    "full",
-    "compact",
-    "event",
-    "generic",
-    "mclocator",
-    "fru",
-];
 
 /// Options with which stock `ipmitool` connects.
 const CONNECTION: [&str; 20] = [
@@ -178,7 +168,7 @@ fn hint_of_word<'a>(word: &'a str, after: &[&str]) -> Hint<'a> {
     }
     match (after, option_named(word)) {
         ([], Some(option)) => Hint::Word(option),
-        (["sdr"], _) if KINDS.contains(&word) => Hint::Kind(word),
+        (["sdr"], _) if kind_of(word).is_some() => Hint::Kind(word),
         _ => Hint::None,
     }
 }
@@ -224,7 +214,7 @@ fn unknown_kind<'a>(alloc: Global, word: &'a str) -> Result<UsageError<'a>, Allo
     if is_file(word) {
         return Ok(UsageError::UnknownKind(word, Hint::File));
     }
-    for name in KINDS.iter() {
+    for (name, _) in &KINDS {
         if is_near(alloc, word, name)? {
             return Ok(UsageError::UnknownKind(word, Hint::Word(*name)));
         }
