@@ -4,7 +4,7 @@ use Rattle.std.specs.Option.{option_and_then}
 use Rattle.std.proofs.lemmas.Bool.{false≢true, true≢false}
 use Rattle.std.proofs.lemmas.Bool.Decides.{nat_tests}
 use Rattle.std.specs.Result.{result_ok}
-use Rattle.std.proofs.Common.{◌||◌, ◌==◌, Result, Ok, Err, is_some, nat_le, slice_get, ◌≡◌, ◌≤◌, ◌∙◌, ◌⊎◌, ◌&&◌, ℕ, inl, inr, ap, sym, refl, subst, arith, Bool, true, false, not, List, [], ◌∷◌, Option, Some, None, option_map, bytes_eq, codes, length, if◌then◌else◌, unwrap_or}
+use Rattle.std.proofs.Common.{◌||◌, ◌==◌, Result, Ok, Err, is_some, nat_le, slice_get, ◌≡◌, ◌∙◌, ◌&&◌, ℕ, ap, sym, refl, subst, arith, Bool, true, false, not, List, [], ◌∷◌, Option, Some, None, option_map, bytes_eq, codes, length, if◌then◌else◌, unwrap_or}
 use Rattle.std.proofs.lemmas.Bool.{and_parts}
 use Rattle.std.proofs.lemmas.Option.{none-some}
 use Rattle.std.proofs.lemmas.Slice.Eq.{bytes_eq-Decides}
@@ -18,15 +18,12 @@ use Rattle.ipmi_command_line.specs.declared.request.Format.{Format}
 use Rattle.ipmi_command_line.specs.declared.request.Limits.{Limits}
 use Rattle.ipmi_command_line.specs.declared.request.Request.{Request}
 use Rattle.ipmi_command_line.specs.declared.request.Source.{Source}
-use Rattle.ipmi_bus.specs.declared.controller.Shelf.{Shelf}
 use Rattle.ipmi_command_line.specs.Command.{CommandState, command_of_task, meaning_of, number_or, start_of_text, with_options}
 use Rattle.ipmi_command_line.specs.Commands.{RowState, commands, row_of}
 use Rattle.ipmi_command_line.specs.Number.{digits_of, number_of, within}
 use Rattle.ipmi_command_line.specs.Request.{entry_of, format_of, has_option, limits_of, misplaced, part_of_text, printed_of, request_of, request_of_found, request_of_words, rewrite_of, source_of, text_format, with_parts}
-use Rattle.ipmi_command_line.specs.Table.{are, entries_of, inventory_of, kind_of, newest, oldest, task_of, task_of_four, task_of_one, task_of_three, task_of_two}
+use Rattle.ipmi_command_line.specs.Table.{are, entries_of, newest, oldest, task_of, task_of_four, task_of_one, task_of_three, task_of_two}
 use Rattle.ipmi_command_line.specs.declared.commands.Verb.{Verb}
-use Rattle.ipmi_command_line.specs.declared.task.Count.{Count}
-use Rattle.ipmi_command_line.specs.declared.task.Kind.{Kind}
 use Rattle.ipmi_command_line.specs.declared.task.Task.{Task}
 
 abbrev pub is_rewrite : Task → Bool

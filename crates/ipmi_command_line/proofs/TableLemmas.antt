@@ -1,7 +1,34 @@
--- The rows of the table, by the number of words.
-use Rattle.std.proofs.Common.{◌≡◌, ◌≤◌, ◌<◌, List, ◌∷◌, [], None, Bor, arith, get_or, length, map, refl}
+-- The rows of the table, by the number of words; and kinds of sensor data records.
+use Rattle.std.proofs.Common.{◌≡◌, ◌≤◌, ◌<◌, ◌∙◌, ap, Bool, true, false, bytes_eq, if◌then◌else◌, List, ◌∷◌, [], Option, None, Some, option_map, Bor, arith, get_or, length, map, refl}
+use Rattle.std.specs.List.{find}
 use Rattle.clap.specs.Words.{Text}
-use Rattle.ipmi_command_line.specs.Table.{task_of, task_of_four, task_of_one, task_of_three, task_of_two}
+use Rattle.ipmi_command_line.specs.declared.task.Kind.{Kind}
+use Rattle.ipmi_command_line.specs.Table.{KindRow, kind_among, task_of, task_of_four, task_of_one, task_of_three, task_of_two}
+
+-- ---- kinds
+
+kind_if : (is : Bool) (row : KindRow) (r : Option KindRow) (k : Option Kind) → option_map (λ (row : KindRow). row.1) r ≡ k
+    → option_map (λ (row : KindRow). row.1) (if is then Some row else r) ≡ (if is then Some row.1 else k)
+kind_if true row r k h = refl
+kind_if false row r k h = h
+
+kind_of_row : (word : Text) (table : List KindRow)
+    → option_map (λ (row : KindRow). row.1) (find (λ (row : KindRow). bytes_eq word row.0.now) table) ≡ kind_among table word
+kind_of_row word [] = refl
+kind_of_row word (row ∷ table) = kind_if (bytes_eq word row.0.now) row _ _ (kind_of_row word table)
+
+row_read : (r : Option (Bor KindRow))
+    → option_map (λ (row : Bor KindRow). row.now.1) r ≡ option_map (λ (row : KindRow). row.1) (option_map (λ (row : Bor KindRow). row.now) r)
+row_read None = refl
+row_read (Some row) = refl
+
+-- a row that `find` gives
+pub kind_found : (word : Text) (r : Option (Bor KindRow)) (table : List KindRow)
+    → option_map (λ (row : Bor KindRow). row.now) r ≡ find (λ (row : KindRow). bytes_eq word row.0.now) table
+    → option_map (λ (row : Bor KindRow). row.now.1) r ≡ kind_among table word
+kind_found word r table found = row_read r ∙ ap (option_map (λ (row : KindRow). row.1)) found ∙ kind_of_row word table
+
+-- ---- tasks
 
 pub one_word : (words : List (Bor Text)) (e : Bor Text) → 1 ≤ length words → length words < 2
     → task_of_one (get_or words 0 e).now ≡ task_of (map (λ word. word.now) words)

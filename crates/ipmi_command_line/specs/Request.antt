@@ -1,6 +1,6 @@
 -- What a command line asks for: a function of the options and words that `clap` found, and of the table of commands. None if
 -- the line is refused.
-use Rattle.std.specs.Prelude.{ℕ, ◌≤◌, ◌==◌, ◌&&◌, Bool, true, false, not, is_some, is_none, List, [], ◌∷◌, Option, Some, None, ⊤, option_map, unwrap_or, codes, bytes_eq, count_by, drop, length, map, nat_le, nat_lt, take, IfSome, IsTrue, OnSome, if◌then◌else◌}
+use Rattle.std.specs.Prelude.{ℕ, ◌≤◌, ◌==◌, ◌&&◌, Bool, false, not, is_some, List, [], ◌∷◌, Option, Some, None, ⊤, option_map, unwrap_or, codes, bytes_eq, count_by, drop, length, map, nat_le, nat_lt, take, IfSome, IsTrue, OnSome, if◌then◌else◌}
 use Rattle.std.specs.List.{after_first, before_first, find, list_any, position_or_len}
 use Rattle.clap.specs.Words.{Row, Text, first_of}
 use Rattle.ipmi_command_line.specs.Arguments.{free_words, has_value, is_given, is_taken, rows_of_words, values_of}

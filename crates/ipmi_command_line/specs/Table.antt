@@ -1,6 +1,7 @@
 -- The table of commands: the task for the words of a command line. There is a function for each
 -- number of words, with a line for each command.
 use Rattle.std.specs.Prelude.{ℕ, Bool, ◌&&◌, List, [], ◌∷◌, zero, suc, Option, Some, None, option_map, codes, if◌then◌else◌, bytes_eq}
+use Rattle.std.specs.Borrow.{Bor}
 use Rattle.ipmi_bus.specs.declared.controller.Shelf.{Shelf}
 use Rattle.ipmi_command_line.specs.declared.task.Count.{Count}
 use Rattle.ipmi_command_line.specs.declared.task.Kind.{Kind}
@@ -12,6 +13,15 @@ abbrev pub are : List ℕ → List ℕ → List ℕ → List ℕ → Bool
 are a b first second = bytes_eq a first && bytes_eq b second
 
 -- ---- the last word of a command
+
+-- a row of the table of kinds in the program: a word, and the kind that it names
+abbrev pub KindRow : Type 0
+KindRow = Bor (List ℕ) × Kind
+
+-- the kind that a word names by a table
+abbrev pub kind_among : List KindRow → List ℕ → Option Kind
+kind_among [] word = None
+kind_among (row ∷ table) word = if bytes_eq word row.0.now then Some row.1 else kind_among table word
 
 -- a kind of sensor data record
 abbrev pub kind_of : List ℕ → Option Kind

@@ -3,6 +3,7 @@ ghost use Rattle.std.specs.Prelude.{◌≡◌};
 ghost use Rattle.ipmi_command_line.specs.declared.error.UsageError.{UsageError};
 
 use crate::commands::{COMMANDS, CommandRow, Operand, begins_with};
+use crate::table::KINDS;
 use std::alloc::AllocError;
 use std::error::Error;
 use std::fmt;
@@ -26,6 +27,10 @@ pub enum Hint<'a> {
     Quotes,
     /// A file.
     File,
+    /// A kind of sensor data records, without `list` before it.
+    Kind(&'a str),
+    /// An option whose first dash is typographic. What follows the dash.
+    Dash(&'a str),
 }
 
 /// Why a command line is refused. It displays as one line, in which control characters of the user are escaped.
@@ -53,6 +58,8 @@ pub enum UsageError<'a> {
     TwoIds,
     /// There is no live controller for `capture`.
     NotLive,
+    /// There is a live controller for `image rewrite`.
+    NotSaved,
     /// There are several images, and the command takes one.
     SeveralImages,
     /// Standard input is an image twice.
@@ -131,18 +138,33 @@ fn write_next_words<W: fmt::Write>(
     Ok(())
 }
 
+/// Writes the kinds of sensor data records that a word names.
+fn write_kinds<W: fmt::Write>(f: &mut fmt::Formatter<W>) -> fmt::Result {
+    f.write_str("a kind")?;
+    for (place, (name, _)) in KINDS.iter().enumerate() {
+        f.write_str(match place {
+            0 => ": ",
+            _ if place + 1 == KINDS.len() => " or ",
+            _ => ", ",
+        })?;
+        f.write_str(name)?;
+    }
+    Ok(())
+}
+
 /// What follows the words of a command, as messages and help name it.
 impl fmt::Display for Operand {
     fn fmt<W: fmt::Write>(&self, f: &mut fmt::Formatter<W>) -> fmt::Result {
-        f.write_str(match self {
+        let words = match self {
+            Operand::Kind => return write_kinds(f),
             Operand::Nothing => "nothing",
-            Operand::Kind => "a kind: all, full, compact, event, generic, mclocator or fru",
             Operand::Name | Operand::Names => "a NAME",
             Operand::Count => "a number from 0 to 65535",
             Operand::EntryId => "an ID from 1 to 65534",
             Operand::DeviceId => "an ID from 0 to 254",
             Operand::Topic => "a command",
-        })
+        };
+        f.write_str(words)
     }
 }
 
@@ -171,6 +193,19 @@ impl fmt::Display for Hint<'_> {
             Hint::FirstRecord => f.write_str(": leave it out to begin with the first record"),
             Hint::Quotes => f.write_str(": quote a name that has spaces"),
             Hint::File => f.write_str(": a file comes after --image"),
+            Hint::Kind(kind) => write!(f, ": did you mean 'sdr list {kind}'?"),
+            Hint::Dash(rest) if rest.len() == 1 => {
+                write!(
+                    f,
+                    ": an option begins with a plain dash, as -{}",
+                    Escaped(rest)
+                )
+            }
+            Hint::Dash(rest) => write!(
+                f,
+                ": an option begins with two plain dashes, as --{}",
+                Escaped(rest)
+            ),
         }
     }
 }
@@ -252,6 +287,9 @@ impl UsageError<'_> {
         match self {
             UsageError::TwoIds => "'sel get' takes an ID or --id, not both",
             UsageError::NotLive => "'capture' needs a live controller: see serdimko-live --help",
+            UsageError::NotSaved => {
+                "'image rewrite' needs a saved image: write serdimko --image FILE image rewrite"
+            }
             UsageError::SeveralImages => "'image rewrite' takes one image",
             UsageError::StandardInputTwice => "standard input is given twice",
             UsageError::ImageAndLive => "--image does not go with a live controller",

@@ -1,24 +1,15 @@
 //! What is wrong with a command line that has no request.
-ghost use Rattle.std.specs.Prelude.{◌≡◌};
+ghost use Rattle.std.specs.Prelude.{◌≡◌, IfOk, option_map};
+ghost use Rattle.ipmi_command_line.specs.Hints.{after_dash, is_beginning, is_near, is_slip, needs_image, option_named};
 
-use crate::commands::{COMMANDS, CommandRow, Operand};
+use crate::commands::{COMMANDS, CommandRow, Operand, Verb};
 use crate::error::{Hint, UsageError, next_word};
 use crate::number::{digits, number};
+use crate::table::{KINDS, kind_of};
 use clap::Error;
 use std::alloc::{AllocError, Global};
 use std::convert::AsStr;
 use strsim::osa_distance;
-
-/// The kinds of sensor data records.
-const KINDS: [&str; 7] = [
-    "all",
-    "full",
-    "compact",
-    "event",
-    "generic",
-    "mclocator",
-    "fru",
-];
 
 /// Options with which stock `ipmitool` connects.
 const CONNECTION: [&str; 20] = [
@@ -98,20 +89,88 @@ pub(crate) fn value_error<'a>(option: &'static str, value: Option<&'a str>) -> U
     UsageError::Value(option, value, hint)
 }
 
+/// Whether the option names a live controller for a command that reads a saved image.
+fn needs_image(verb: Verb, option: &str) -> bool
+    ensures { result ≡ needs_image verb option.now }
+{
+    matches!(verb, Verb::Rewrite) && option == "live"
+}
+
+/// The option does not go with the command.
+pub(crate) fn misplaced_option<'a>(row: &CommandRow, option: &'static str) -> UsageError<'a> {
+    if needs_image(row.1, option) {
+        return UsageError::NotSaved;
+    }
+    UsageError::Misplaced(option, row.0)
+}
+
 // ---- words
 
-/// The first name that starts with the word, if the word has three letters or more. Otherwise the first name that differs by
-/// one wrong, missing, extra or swapped letter.
-fn is_near(alloc: Global, word: &str, name: &str) -> Result<bool, AllocError> {
-    if word.len() > 2 && name.starts_with(word) {
+/// Whether the word is the beginning of the name, three letters or more.
+fn is_beginning(word: &str, name: &str) -> bool
+    ensures { result ≡ is_beginning word.now name.now }
+{
+    word.len() >= 3 && name.as_bytes().starts_with(word.as_bytes())
+}
+
+/// Whether one letter at most is wrong, missing, extra or swapped.
+fn is_slip(alloc: Global, word: &str, name: &str) -> Result<bool, AllocError>
+    ensures { IfOk result (λ slip. slip ≡ is_slip word.now name.now) }
+{
+    Ok(osa_distance(alloc, word, name)? <= 1)
+}
+
+/// Whether the word is the name in capital letters, its beginning, or the name with a slip.
+fn is_near(alloc: Global, word: &str, name: &str) -> Result<bool, AllocError>
+    ensures { IfOk result (λ near. near ≡ is_near word.now name.now) }
+{
+    if word.eq_ignore_ascii_case(name) {
         return Ok(true);
     }
-    Ok(osa_distance(alloc, word, name)? <= 1)
+    if is_beginning(word, name) {
+        return Ok(true);
+    }
+    is_slip(alloc, word, name)
+}
+
+/// What follows the em dash or en dash that the word begins with.
+fn after_dash(word: &str) -> Option<&str>
+    ensures { option_map (λ rest. rest.now) result ≡ after_dash word.now }
+{
+    match word.strip_prefix("—") {
+        Some(rest) => Some(rest),
+        None => word.strip_prefix("–"),
+    }
+}
+
+/// The option whose name is the word.
+fn option_named(word: &str) -> Option<&'static str>
+    ensures { option_map (λ option. option.now) result ≡ option_named word.now }
+{
+    match word {
+        "version" => Some("--version"),
+        _ => None,
+    }
 }
 
 /// Whether the word looks like a file's name.
 fn is_file(word: &str) -> bool {
     word == "-" || word.contains('.') || word.contains('/')
+}
+
+/// What the word means by itself that no command has after these.
+fn hint_of_word<'a>(word: &'a str, after: &[&str]) -> Hint<'a> {
+    if let Some(rest) = after_dash(word) {
+        return Hint::Dash(rest);
+    }
+    if is_file(word) {
+        return Hint::File;
+    }
+    match (after, option_named(word)) {
+        ([], Some(option)) => Hint::Word(option),
+        (["sdr"], _) if kind_of(word).is_some() => Hint::Kind(word),
+        _ => Hint::None,
+    }
 }
 
 /// No command has the word after these.
@@ -120,8 +179,9 @@ fn unknown<'a>(
     word: &'a str,
     after: &'static [&'static str],
 ) -> Result<UsageError<'a>, AllocError> {
-    if is_file(word) {
-        return Ok(UsageError::UnknownWord(word, after, Hint::File));
+    let hint = hint_of_word(word, after);
+    if !matches!(hint, Hint::None) {
+        return Ok(UsageError::UnknownWord(word, after, hint));
     }
     for row in COMMANDS.iter() {
         if let Some(name) = next_word(row, after) {
@@ -154,7 +214,7 @@ fn unknown_kind<'a>(alloc: Global, word: &'a str) -> Result<UsageError<'a>, Allo
     if is_file(word) {
         return Ok(UsageError::UnknownKind(word, Hint::File));
     }
-    for name in KINDS.iter() {
+    for (name, _) in &KINDS {
         if is_near(alloc, word, name)? {
             return Ok(UsageError::UnknownKind(word, Hint::Word(*name)));
         }
@@ -222,6 +282,16 @@ fn id_error<'a>(row: &CommandRow, words: &[&'a str], id: Option<&'a str>) -> Usa
     }
 }
 
+/// The first word that is an option typed with a typographic dash.
+fn dashed<'a>(own: &'static [&'static str], words: &[&'a str]) -> Option<UsageError<'a>> {
+    for word in words {
+        if let Some(rest) = after_dash(word) {
+            return Some(UsageError::Extra(word, own, Hint::Dash(rest)));
+        }
+    }
+    None
+}
+
 /// What is wrong with the words after those of a command.
 pub(crate) fn word_error<'a>(
     alloc: Global,
@@ -231,6 +301,9 @@ pub(crate) fn word_error<'a>(
 ) -> Result<UsageError<'a>, AllocError> {
     let (own, _, operand, ..) = *row;
     let after = words.get(own.len()..).unwrap_or(&[]);
+    if let Some(error) = dashed(own, after) {
+        return Ok(error);
+    }
     match (operand, after) {
         (Operand::Count, _) => count_error(alloc, row, after),
         (Operand::EntryId | Operand::DeviceId, _) => Ok(id_error(row, after, id)),

@@ -1,7 +1,7 @@
 //! What a command line of `serdimko` asks for.
-ghost use Rattle.std.specs.Prelude.{◌≡◌, ◌≤◌, ◌⊎◌, ◌==◌, codes, false, if◌then◌else◌, IfOk, IfSome, length, map, MatchResult, None, option_map, Some, true};
+ghost use Rattle.std.specs.Prelude.{◌≡◌, ◌≤◌, ◌⊎◌, ◌==◌, codes, false, if◌then◌else◌, IfOk, IfSome, length, map, MatchResult, None, option_map, Some};
 ghost use Rattle.clap.specs.Words.{first_of, found_of, rows_of};
-ghost use Rattle.ipmi_command_line.specs.Arguments.{is_taken, rows_of_words, values_of};
+ghost use Rattle.ipmi_command_line.specs.Arguments.{values_of};
 ghost use Rattle.ipmi_command_line.specs.Command.{IsTask, number_or, start_of_text};
 ghost use Rattle.ipmi_command_line.specs.Commands.{row_of, row_state, texts};
 ghost use Rattle.ipmi_command_line.specs.Request.{action_of, among_flags, among_values, capture_of, entry_of, events_of, format_of, hex_id_of, help_of, IsRequest, IsAction, has_option, limits_of, live_of, misplaced, named_of, part_of_text, printed_of, request_of, request_of_command, request_of_help, request_of_row, request_of_rows, request_of_words, rewrite_of, short_request, source_of, standard_inputs, start_of, task_of_row, tool_of, topic_named, topic_of};
@@ -11,7 +11,7 @@ use crate::arguments::{arguments, has_value, is_given, value, value_count};
 use crate::command::{DEFAULT_TRIES, FIRST_ID, LAST_ID, number_or, start_of_text};
 use crate::commands::{CommandRow, Verb, row_of};
 use crate::error::UsageError;
-use crate::mistake::{refused, unknown_word, value_error, word_error};
+use crate::mistake::{misplaced_option, refused, unknown_word, value_error, word_error};
 use crate::number::{decimal, digits, number};
 use crate::table::{oldest, task_of, task_of_four};
 use crate::task::{Count, Kind, Task};
@@ -572,7 +572,7 @@ fn request_of_row<'a>(
     ensures range { IfOk result IsRequest }
 {
     if let Some(name) = misplaced(row.3, matches) {
-        return Err(UsageError::Misplaced(name, row.0));
+        return Err(misplaced_option(row, name));
     }
     let action = action_of(alloc, row, words, matches)?;
     let source = source_of(alloc, matches)?;

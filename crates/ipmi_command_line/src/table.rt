@@ -1,7 +1,7 @@
 //! The table of commands: the task for the words of a command line.
-ghost use Rattle.std.specs.Prelude.{◌≡◌, IfOk, IfSome, map};
+ghost use Rattle.std.specs.Prelude.{◌≡◌, IfOk, IfSome, map, option_map};
 ghost use Rattle.ipmi_command_line.specs.Command.{IsCount, IsTask};
-ghost use Rattle.ipmi_command_line.specs.Table.{inventory_of, kind_of, newest, oldest, task_of, task_of_four, task_of_one, task_of_three, task_of_two};
+ghost use Rattle.ipmi_command_line.specs.Table.{inventory_of, kind_among, kind_of, newest, oldest, task_of, task_of_four, task_of_one, task_of_three, task_of_two};
 
 use crate::command::{FIRST_ID, LAST_ID};
 use crate::number::number;
@@ -10,19 +10,34 @@ use crate::words::Word;
 use ipmi_bus::{LAST_FRU_DEVICE_ID, Shelf};
 use std::alloc::{AllocError, Global};
 
+/// A kind of sensor data records: the word that names it, and the kind. A row is a tuple, as specs/ can then read the table.
+pub(crate) type KindRow = (&'static str, Kind);
+
+/// The kinds of sensor data records that a word names.
+pub(crate) const KINDS: [KindRow; 7] = [
+    ("all", Kind::All),
+    ("full", Kind::Full),
+    ("compact", Kind::Compact),
+    ("event", Kind::Event),
+    ("generic", Kind::Generic),
+    ("mclocator", Kind::Mc),
+    ("fru", Kind::Fru),
+];
+
+/// The row of a table of kinds whose word this is.
+fn kind_row(table: &'static [KindRow], word: &str) -> Option<&'static KindRow>
+    ensures { option_map (λ row. row.now.1) result ≡ kind_among table.entry.now word.now }
+{
+    table.iter().find(|row| word == row.0)
+}
+
 /// The kind of sensor data record named by a word.
-fn kind_of(word: &str) -> Option<Kind>
+pub(crate) fn kind_of(word: &str) -> Option<Kind>
     ensures { result ≡ kind_of word.now }
 {
-    match word {
-        "all" => Some(Kind::All),
-        "full" => Some(Kind::Full),
-        "compact" => Some(Kind::Compact),
-        "event" => Some(Kind::Event),
-        "generic" => Some(Kind::Generic),
-        "mclocator" => Some(Kind::Mc),
-        "fru" => Some(Kind::Fru),
-        _ => None,
+    match kind_row(&KINDS, word) {
+        Some(row) => Some(row.1),
+        None => None,
     }
 }
 

@@ -1,4 +1,4 @@
-use Rattle.std.proofs.Common.{◌≡◌, ◌≢◌, ◌∙◌, ◌⊎◌, suc, arith, length, ne_eqb, true, false, List, [], ◌∷◌, ap, ap₂, inl, inr, refl, sym, Result, Ok, Err, IfOk, IfErr}
+use Rattle.std.proofs.Common.{◌≡◌, ◌≢◌, ◌∙◌, ◌⊎◌, suc, arith, length, ne_eqb, true, false, List, [], ◌∷◌, ap, inl, inr, refl, sym, Result, Ok, Err, IfOk, IfErr}
 use Rattle.clap.proofs.OnLiterals.{clap_on_literals}
 use Rattle.clap.specs.declared.error.Error.{Error}
 use Rattle.clap.specs.declared.error.kind.ErrorKind.{ErrorKind}

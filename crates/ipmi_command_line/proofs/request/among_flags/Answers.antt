@@ -3,7 +3,7 @@ use Rattle.std.proofs.lemmas.Iterator.{YieldsList-from_slice}
 use Rattle.std.proofs.lemmas.Iterator.Search.{find_from_yields_List}
 use Rattle.clap.specs.Words.{Text, found_of, rows_of}
 use Rattle.ipmi_command_line.proofs.CommandLemmas.{name_found}
-use Rattle.ipmi_command_line.specs.Arguments.{has_value, is_given}
+use Rattle.ipmi_command_line.specs.Arguments.{is_given}
 use Rattle.ipmi_command_line.specs.Commands.{texts}
 use Rattle.ipmi_command_line.specs.Request.{has_option}
 use Rattle.ipmi_command_line.proofs.request.among_flags.Goals as goal
