@@ -163,7 +163,7 @@ if [ "$(grep -c '^0 0a 22' "$TOOL_LOG")" -ne 1 ]; then fault 'reservations'; fi
 # A wrong command line starts no session, and is reported.
 says 2 "unknown command 'srd': did you mean 'sdr'?" -- srd
 says 2 '--image does not go with a live controller' -- --image x sdr
-says 2 "--live does not go with 'image rewrite'" -- image rewrite
+says 2 "'image rewrite' needs a saved image: write serdimko --image FILE image rewrite" -- image rewrite
 says 2 'live: -- is missing before the command, as in: live -I open -- sdr list' sdr list
 says 2 'live: all users would see the password of -P: use -E with IPMI_PASSWORD, or -f FILE' -P secret -- sdr
 says 2 'live: all users would see the key of -k or -y: use -K with IPMI_KGKEY, or -Y' -k secret -- sdr

@@ -14,7 +14,9 @@ returns-in-Err-clause-faults g c = omega (arith, c.loop-name.invariant.0, c.in-E
 pub returns-in-Err-clause-prints : goal.returns-in-Err-clause-prints
 returns-in-Err-clause-prints g c =
     named_last c.args.report.now c.args.found.now c.args.names.now _ c.loop-name.name-index _ _ c.name-item.result
-    c.loop-name.invariant.1 (omega (arith, c.loop-name-test.true)) c.name-item.is _ c.in-Err.ensures.prints
+    c.loop-name.invariant.1 (omega (arith, c.loop-name-test.true)) c.name-item.is _
+    (subst (λ (n : List ℕ). PrintsFound c.args.report.now.wording n c.args.found.now (printed (out_of c.loop-name.out).taken c.loop-name.summary)
+    (printed (out_of c.print_sensors.new.out).taken c.print_sensors.new.summary) (Err c.in-Err.failure)) c.as_str.ensures c.in-Err.ensures.prints)
 
 pub loop-name-preserved : goal.loop-name-preserved
 loop-name-preserved g c = (
