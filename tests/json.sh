@@ -174,7 +174,7 @@ for image, run_text in zip((images[0], images[2]), re.findall(r'(?:.*\n)*?\{"obj
         fault('labels:', run_text)
 
 refused = [
-    ('--label', 'a=b', 'sdr'), ('--json', '--label', 'a', 'sdr'), ('--json', '--label', '=b', 'sdr'), ('--json', '--strict', 'sdr'),
+    ('--label', 'a=b', 'sdr'), ('--json', '--label', 'a', 'sdr'), ('--json', '--label', '=b', 'sdr'),
     ('--json', '--label', 'a=b', '--label', 'a=c', 'sdr'), ('--json', 'capture'), ('--json', 'image', 'rewrite'), ('--json=1', 'sdr')]
 keys = set.union(inventory, *entries.values(), *records.values(), *examples.values(), {'image'})
 refused += [('--json', '--label', f'{key}=x', 'sdr') for key in keys]

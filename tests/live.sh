@@ -160,6 +160,19 @@ if [ "$(cut -d ' ' -f 1 "$TOOL_LOG" | sort -u | tr '\n' ' ')" != '0 1 3 ' ]; the
 # A listing needs only one reservation.
 if [ "$(grep -c '^0 0a 22' "$TOOL_LOG")" -ne 1 ]; then fault 'reservations'; fi
 
+# `sensor get` finds all names in one walk: ten names take no more requests than a line for each sensor.
+: > "$TOOL_LOG"
+live --freeipmi -- sensor
+if [ "$status" -ne 0 ]; then fault "sensor: status $status"; fi
+requests=$(wc -l < "$TOOL_LOG")
+mapfile -t names < <("$SERDIMKO" --image "$TOOL_IMAGE" sensor | cut -d '|' -f 1 | sed 's/ *$//' | head -n 10)
+: > "$TOOL_LOG"
+live --freeipmi -- sensor get "${names[@]}"
+if [ "$status" -ne 0 ]; then fault "sensor get: status $status, $(cat "$work/err")"; fi
+if [ "$(wc -l < "$TOOL_LOG")" -gt "$requests" ]; then fault "sensor get: $(wc -l < "$TOOL_LOG") requests, and $requests of all sensors"; fi
+"$SERDIMKO" --image "$TOOL_IMAGE" sensor get "${names[@]}" > "$work/other"
+cmp -s "$work/out" "$work/other" || fault 'sensor get: the blocks differ from those of the image'
+
 # A wrong command line starts no session, and is reported.
 says 2 "unknown command 'srd': did you mean 'sdr'?" -- srd
 says 2 '--image does not go with a live controller' -- --image x sdr

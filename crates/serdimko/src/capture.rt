@@ -258,7 +258,13 @@ fn capture_from<
         (seen_of P.seen controller.new) (last_words controller.new) (option_map (λ word. word.now) output.entry)
         (W.contents out.old) (W.contents out.new) (E.received err.old) (E.received err.new)) }
 {
-    let captured = capture(rt.alloc(), controller, limits.part(), limits.tries(), counter)?;
+    let captured = capture(
+        rt.alloc(),
+        controller,
+        limits.part(),
+        limits.tries(),
+        counter,
+    )?;
     counter.clear();
     let status = report_captured(rt, controller.lost(), &captured, output, out, err);
     drop(captured);

@@ -14,7 +14,9 @@ use crate::report::Report;
 use crate::run_error::RunError;
 use ipmi_bus::Controller;
 use ipmi_command_line::{Task, Word, Words};
-use ipmi_commands::{FoundSensors, Job, RequestLimits, Summary, execute, find_sensors, print_sensors};
+use ipmi_commands::{
+    FoundSensors, Job, RequestLimits, Summary, execute, find_sensors, print_sensors,
+};
 use ipmi_image::ImageController;
 use ipmi_output::{Failure, MessageSink, Name};
 use std::alloc::Global;
@@ -230,7 +232,16 @@ pub(crate) fn print_query<C: Connection, W: Write + Drop, E: MessageSink>(
             report.tell(&error, err)
         }
         Query::Sensors(names, from) => {
-            print_by_name(alloc, ctl, limits, names.as_slice(), *from, report, out, err)
+            print_by_name(
+                alloc,
+                ctl,
+                limits,
+                names.as_slice(),
+                *from,
+                report,
+                out,
+                err,
+            )
         }
     }
 }

@@ -252,7 +252,15 @@ pub(crate) fn print_images<W: Write + Drop, E: MessageSink>(
     let is_only_input = images.len() == 1;
     let mut highest = 0;
     for image in images {
-        let (status, is_open) = print_image(rt, settings, query, Some(image), is_only_input, out, err);
+        let (status, is_open) = print_image(
+            rt,
+            settings,
+            query,
+            Some(image),
+            is_only_input,
+            out,
+            err,
+        );
         highest = highest.max(status);
         if !is_open {
             return (highest, false);

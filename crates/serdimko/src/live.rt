@@ -150,5 +150,13 @@ pub(crate) fn print_live<R: Files + Clock + AllocGlobal, W: Write + Drop, E: Mes
     };
     let report = settings.report(labels.as_slice(), NAME, true);
     let mut controller = controller_of(rt, live);
-    print_query(alloc, &mut controller, settings.limits, query, &report, out, err)
+    print_query(
+        alloc,
+        &mut controller,
+        settings.limits,
+        query,
+        &report,
+        out,
+        err,
+    )
 }

@@ -136,7 +136,13 @@ fn run<E: MessageSink>(rt: &HostRuntime, request: Request, err: &mut E) -> Resul
         }
         Action::Rewrite => {
             let settings = settings_of(limits, format, strict);
-            run_query(rt, &Query::Print(Task::Rewrite, None), &source, &settings, err)
+            run_query(
+                rt,
+                &Query::Print(Task::Rewrite, None),
+                &source,
+                &settings,
+                err,
+            )
         }
     }
 }

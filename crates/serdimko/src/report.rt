@@ -97,7 +97,11 @@ impl Report<'_> {
     }
 
     /// Writes the message of the error, if there is one, and returns the exit status, and whether more can be printed.
-    pub(crate) fn tell<E: MessageSink>(&self, error: &Option<RunError<'_>>, err: &mut E) -> (u8, bool)
+    pub(crate) fn tell<E: MessageSink>(
+        &self,
+        error: &Option<RunError<'_>>,
+        err: &mut E,
+    ) -> (u8, bool)
         ensures tells { Tells self.now.name.now self.now.is_only_input error.now (E.received err.old) (E.received err.new) result.0 }
         ensures open { result.1 ≡ is_output_open error.now }
     {

@@ -93,7 +93,10 @@ impl<'a> RunError<'a> {
     }
 
     /// The error of a run over a controller, given the tool's last output if the connection was lost.
-    pub(crate) fn of_connection(error: Option<RunError<'a>>, said: Option<String>) -> Option<RunError<'a>>
+    pub(crate) fn of_connection(
+        error: Option<RunError<'a>>,
+        said: Option<String>,
+    ) -> Option<RunError<'a>>
         ensures { result ≡ lost_error said error.entry }
     {
         match (said, error) {

@@ -72,7 +72,13 @@ fn search_in_moods(rt: &impl Abort, alloc: Global, moods: &str) -> Search {
 }
 
 /// The blocks in the order of the names, and after each name the number of blocks so far.
-fn assert_blocks(rt: &impl Abort, alloc: Global, found: &FoundSensors, wanted: &str, pieces: &[u64]) {
+fn assert_blocks(
+    rt: &impl Abort,
+    alloc: Global,
+    found: &FoundSensors,
+    wanted: &str,
+    pieces: &[u64],
+) {
     let mut out = Written::new(Vec::new(alloc));
     let mut summary = Summary::new();
     for (name, count) in NAMES.iter().zip(pieces) {
@@ -93,7 +99,13 @@ fn one_walk_finds_all_names(rt: HostRuntime) {
     assert!(&rt; matches!(&search.ending, Ok(())), "ending");
     assert!(&rt; search.calls == 9, "{} calls", search.calls);
     let blocks = [PSU1_BLOCK, SECOND_PSU1_BLOCK, CPU_TEMP_BLOCK].concat(alloc);
-    assert_blocks(&rt, alloc, &search.found, &blocks.expect(&rt, "memory"), &[2, 2, 3]);
+    assert_blocks(
+        &rt,
+        alloc,
+        &search.found,
+        &blocks.expect(&rt, "memory"),
+        &[2, 2, 3],
+    );
     drop(search);
 }
 

@@ -7,11 +7,18 @@ returns-in_default g c =
 
 pub returns : goal.returns
 returns g c =
-    inr (c.report-report-2.result, _, _, _, record {
-      labels = c.as_slice.result;
-      labels_are = rw c.as_slice.ensures.value (rw c.labels.ensures at c.in-Ok.ensures);
-      wording = c.report-report-2.ensures.wording;
-      strict = c.report-report-2.ensures.strict;
-      name_is = c.report-report-2.ensures.name;
-      input = c.report-report-2.ensures.input;
-    }, rw c.controller_of-controller.ensures at c.print_query.ensures)
+    inr (
+      c.report-report-2.result,
+      _,
+      _,
+      _,
+      record {
+        labels = c.as_slice.result;
+        labels_are = rw c.as_slice.ensures.value (rw c.labels.ensures at c.in-Ok.ensures);
+        wording = c.report-report-2.ensures.wording;
+        strict = c.report-report-2.ensures.strict;
+        name_is = c.report-report-2.ensures.name;
+        input = c.report-report-2.ensures.input;
+      },
+      rw c.controller_of-controller.ensures at c.print_query.ensures,
+    )
