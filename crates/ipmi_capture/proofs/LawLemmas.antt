@@ -9,7 +9,7 @@ use Rattle.ipmi_capture.specs.Capture.{device_named, devices_of, HasWalk, Invent
 use Rattle.ipmi_capture.specs.Laws.{CapturesPrintTheSame, CapturesPrintWhatTheyHave, devices_asked, is_walked, IsKnownPlace, IsOfCapture, IsUnneeded, PrintsTheSame, SameText, sensors_asked}
 use Rattle.ipmi_capture.specs.Left.{EndIsNoted, LacksInfo, LacksInventory, LacksReading, LacksRecords, SameOrLeft}
 use Rattle.ipmi_capture.specs.declared.left.Left.{Left}
-use Rattle.ipmi_commands.specs.Prelude.{after_names, AtInventory, bytes_of_rows, entries_in, IfChosen, info_plan, inventories_plan, inventory_plan, is_name, IsBlockIn, IsBlockOfName, IsDevicePiece, IsInventoryIn, IsLocatorPiece, IsRowText, Item, last_rows, listing, listing_plan, OfInventory, OnEntries, OnInventories, OnWalk, reading_by, reading_for, row_is_of_kind, row_items, Spot, spots_before, view_has_name, with_first_spots}
+use Rattle.ipmi_commands.specs.Prelude.{after_names, AtInventory, bytes_of_rows, entries_in, IfChosen, info_plan, inventories_plan, inventory_plan, is_name, IsBlockIn, IsBlockOfName, IsDevicePiece, IsInventoryIn, IsLocatorPiece, IsRowText, Item, last_rows, listing, listing_plan, OfInventory, OnEntries, OnInventories, OnWalk, reading_by, reading_for, row_is_of_kind, row_items, ReadPoint, points_before, view_has_name, with_first_points}
 use Rattle.ipmi_commands.specs.declared.job.Wording.{Wording}
 use Rattle.ipmi_command_line.specs.declared.task.Count.{Count}
 use Rattle.ipmi_command_line.specs.declared.task.Kind.{Kind}
@@ -100,18 +100,18 @@ module _ (a b : Store) where
       All-cons (SameText a b) _ _ (same row (inl refl)) (rows_same form (place_after row.next) rows (λ r among. same r (inr among)))
 
   -- the inventory of a device, and other items
-  inventory_same : (wording : Wording) (id : ℕ) (name : Option (List ℕ)) (items : List Item) (spots : List Spot)
+  inventory_same : (wording : Wording) (id : ℕ) (name : Option (List ℕ)) (items : List Item) (points : List ReadPoint)
       → inventory_of id a ≡ inventory_of id b → All (SameText a b) items
-      → All (SameText a b) (record { subject = OfInventory wording id name; spots = spots } ∷ items)
-  inventory_same wording id name items spots same others =
+      → All (SameText a b) (record { subject = OfInventory wording id name; points = points } ∷ items)
+  inventory_same wording id name items points same others =
       All-cons (SameText a b) _ _ (piece wording id name same) others
 
-  -- the first item with other spots
-  first_texts : (spots : List Spot) (items : List Item) → All (SameText a b) items
-      → All (SameText a b) (with_first_spots spots items)
-  first_texts spots [] same = same
-  first_texts spots (item ∷ items) same =
-      All-cons (SameText a b) (record { subject = item.subject; spots = spots }) items (All-head (SameText a b) item items same) (All-tail (SameText a b) item items same)
+  -- the first item with other points
+  first_texts : (points : List ReadPoint) (items : List Item) → All (SameText a b) items
+      → All (SameText a b) (with_first_points points items)
+  first_texts points [] same = same
+  first_texts points (item ∷ items) same =
+      All-cons (SameText a b) (record { subject = item.subject; points = points }) items (All-head (SameText a b) item items same) (All-tail (SameText a b) item items same)
 
   info_same : (wording : Wording) (shelf : Shelf) (o : Option (List ℕ))
       → All (SameText a b) (info_plan wording shelf o).items
@@ -392,7 +392,7 @@ module _ (exists : WalkExists) (unique : WalkIsUnique) (found : FoundIsRow) (ima
 
   -- one entry
   entry_same : (id : ℕ) (from : Option ℕ) → SameWalk Sel image store → IsKnownPlace Sel image (Id id)
-      → PrintsTheSame image store Wording.Codes (Task.SelGet id) from
+      → PrintsTheSame image store Wording.Plain (Task.SelGet id) from
   entry_same id from walks known = λ tries tries' walk end is ends walk' end' is' ends'.
       let one = one_walk Sel (Id id) walks known walk walk' end end' is ends is' ends' in
       (rw (one.0, one.1) refl, rows_same image store _ (Id id) (take 1 walk) (λ row among. itself _))
@@ -418,7 +418,7 @@ module _ (exists : WalkExists) (unique : WalkIsUnique) (found : FoundIsRow) (ima
       )
 
   entries_same : (count : Count) (from : Option ℕ) → SameWalk Sel image store
-      → IsKnownPlace Sel image (start_of from) → PrintsTheSame image store Wording.Codes (Task.SelList count) from
+      → IsKnownPlace Sel image (start_of from) → PrintsTheSame image store Wording.Plain (Task.SelList count) from
   entries_same Count.All from walks known = lines_same _ Count.All from walks known
   entries_same (Count.First n) from walks known = lines_same _ (Count.First n) from walks known
   entries_same (Count.Last n) from walks known = lines_same _ (Count.Last n) from walks known
@@ -469,7 +469,7 @@ module _ (exists : WalkExists) (unique : WalkIsUnique) (found : FoundIsRow) (ima
       let name = device_name 0 (bytes_of_rows records) in
       let plan = inventories_plan wording name walk e in
       let same = inventories_same wording name walks inventories walk e w we walk' e' w' we' in
-      (rw (one.0, one.1) (ap (after_names records end) same.0), first_texts image store (spots_before records end plan) plan.items same.1)
+      (rw (one.0, one.1) (ap (after_names records end) same.0), first_texts image store (points_before records end plan) plan.items same.1)
 
   -- one inventory, and an info
   inventory_agrees : (wording : Wording) (id : ℕ) → SameInventory image store id
@@ -485,26 +485,26 @@ module _ (exists : WalkExists) (unique : WalkIsUnique) (found : FoundIsRow) (ima
 
   prints_the_same : (wording : Wording) (task : Task) (from : Option ℕ) → HasAsked image store task wording
       → IsOfCapture image task from → PrintsTheSame image store wording task from
-  prints_the_same Wording.Codes Task.Hex from asked known = λ tries tries'. listing_same _ from (asked.walk Sdr refl) known (λ row among. itself _)
-  prints_the_same Wording.Codes (Task.List kind) from asked known = λ tries tries'. listing_same _ from (asked.walk Sdr refl) known (λ row among. line_same kind asked.readings row among IsSdrLine (fault_is row.id))
-  prints_the_same Wording.Codes (Task.Elist kind) from asked known = λ tries tries'. listing_same _ from (asked.walk Sdr refl) known (λ row among. line_same kind asked.readings row among IsExtendedLine (fault_is row.id))
-  prints_the_same Wording.Codes (Task.Get name) from asked known = λ tries tries'. listing_same _ from (asked.walk Sdr refl) known (block_same Wording.Codes name asked.readings)
-  prints_the_same Wording.Codes (Task.SelList count) from asked known = entries_same count from (asked.walk Sel refl) known
-  prints_the_same Wording.Codes (Task.SelGet id) from asked known = entry_same id from (asked.walk Sel refl) known
-  prints_the_same Wording.Codes (Task.Info shelf) from asked known = λ tries tries'. info_agrees Wording.Codes shelf (asked.info shelf refl)
-  prints_the_same Wording.Codes (Task.Fru None) from asked known = λ tries tries'. inventories_same Wording.Codes None (asked.walk Sdr refl) asked.inventories
-  prints_the_same Wording.Codes (Task.Fru (Some id)) from asked known = λ tries tries'. inventory_agrees Wording.Codes id (All-head (SameInventory image store) id [] asked.inventories)
-  prints_the_same Wording.Codes Task.Rewrite from asked known = absurd known
-  prints_the_same Wording.Words Task.Hex from asked known = λ tries tries'. listing_same _ from (asked.walk Sdr refl) known (λ row among. itself _)
-  prints_the_same Wording.Words (Task.List kind) from asked known = λ tries tries'. listing_same _ from (asked.walk Sdr refl) known (λ row among. line_same kind asked.readings row among IsSensorLine (fault_is row.id))
-  prints_the_same Wording.Words (Task.Elist kind) from asked known = λ tries tries'. listing_same _ from (asked.walk Sdr refl) known (λ row among. line_same kind asked.readings row among IsExtendedLine (fault_is row.id))
-  prints_the_same Wording.Words (Task.Get name) from asked known = λ tries tries'. listing_same _ from (asked.walk Sdr refl) known (block_same Wording.Words name asked.readings)
-  prints_the_same Wording.Words (Task.SelList count) from asked known = events_same Wording.Words count from (asked.walk Sdr refl) (asked.walk Sel refl) known
-  prints_the_same Wording.Words (Task.SelGet id) from asked known = entry_same id from (asked.walk Sel refl) known
-  prints_the_same Wording.Words (Task.Info shelf) from asked known = λ tries tries'. info_agrees Wording.Codes shelf (asked.info shelf refl)
-  prints_the_same Wording.Words (Task.Fru None) from asked known = devices_same Wording.Words (asked.walk Sdr refl) asked.inventories
-  prints_the_same Wording.Words (Task.Fru (Some id)) from asked known = λ tries tries'. inventory_agrees Wording.Codes id (All-head (SameInventory image store) id [] asked.inventories)
-  prints_the_same Wording.Words Task.Rewrite from asked known = absurd known
+  prints_the_same Wording.Plain Task.Hex from asked known = λ tries tries'. listing_same _ from (asked.walk Sdr refl) known (λ row among. itself _)
+  prints_the_same Wording.Plain (Task.List kind) from asked known = λ tries tries'. listing_same _ from (asked.walk Sdr refl) known (λ row among. line_same kind asked.readings row among IsSdrLine (fault_is row.id))
+  prints_the_same Wording.Plain (Task.Elist kind) from asked known = λ tries tries'. listing_same _ from (asked.walk Sdr refl) known (λ row among. line_same kind asked.readings row among IsExtendedLine (fault_is row.id))
+  prints_the_same Wording.Plain (Task.Get name) from asked known = λ tries tries'. listing_same _ from (asked.walk Sdr refl) known (block_same Wording.Plain name asked.readings)
+  prints_the_same Wording.Plain (Task.SelList count) from asked known = entries_same count from (asked.walk Sel refl) known
+  prints_the_same Wording.Plain (Task.SelGet id) from asked known = entry_same id from (asked.walk Sel refl) known
+  prints_the_same Wording.Plain (Task.Info shelf) from asked known = λ tries tries'. info_agrees Wording.Plain shelf (asked.info shelf refl)
+  prints_the_same Wording.Plain (Task.Fru None) from asked known = λ tries tries'. inventories_same Wording.Plain None (asked.walk Sdr refl) asked.inventories
+  prints_the_same Wording.Plain (Task.Fru (Some id)) from asked known = λ tries tries'. inventory_agrees Wording.Plain id (All-head (SameInventory image store) id [] asked.inventories)
+  prints_the_same Wording.Plain Task.Rewrite from asked known = absurd known
+  prints_the_same Wording.Descriptive Task.Hex from asked known = λ tries tries'. listing_same _ from (asked.walk Sdr refl) known (λ row among. itself _)
+  prints_the_same Wording.Descriptive (Task.List kind) from asked known = λ tries tries'. listing_same _ from (asked.walk Sdr refl) known (λ row among. line_same kind asked.readings row among IsSensorLine (fault_is row.id))
+  prints_the_same Wording.Descriptive (Task.Elist kind) from asked known = λ tries tries'. listing_same _ from (asked.walk Sdr refl) known (λ row among. line_same kind asked.readings row among IsExtendedLine (fault_is row.id))
+  prints_the_same Wording.Descriptive (Task.Get name) from asked known = λ tries tries'. listing_same _ from (asked.walk Sdr refl) known (block_same Wording.Descriptive name asked.readings)
+  prints_the_same Wording.Descriptive (Task.SelList count) from asked known = events_same Wording.Descriptive count from (asked.walk Sdr refl) (asked.walk Sel refl) known
+  prints_the_same Wording.Descriptive (Task.SelGet id) from asked known = entry_same id from (asked.walk Sel refl) known
+  prints_the_same Wording.Descriptive (Task.Info shelf) from asked known = λ tries tries'. info_agrees Wording.Plain shelf (asked.info shelf refl)
+  prints_the_same Wording.Descriptive (Task.Fru None) from asked known = devices_same Wording.Descriptive (asked.walk Sdr refl) asked.inventories
+  prints_the_same Wording.Descriptive (Task.Fru (Some id)) from asked known = λ tries tries'. inventory_agrees Wording.Plain id (All-head (SameInventory image store) id [] asked.inventories)
+  prints_the_same Wording.Descriptive Task.Rewrite from asked known = absurd known
   prints_the_same (Wording.Json labels) Task.Hex from asked known = λ tries tries'. listing_same _ from (asked.walk Sdr refl) known (λ row among. itself _)
   prints_the_same (Wording.Json labels) (Task.List kind) from asked known = objects_same labels kind from (asked.walk Sdr refl) asked.readings known
   prints_the_same (Wording.Json labels) (Task.Elist kind) from asked known = objects_same labels kind from (asked.walk Sdr refl) asked.readings known

@@ -9,7 +9,7 @@ use Rattle.ipmi_commands.specs.Job.{job_in}
 use Rattle.ipmi_commands.specs.declared.job.Job.{Job}
 use Rattle.ipmi_commands.specs.declared.job.Wording.{Wording}
 use Rattle.ipmi_commands.specs.Plan.{Item, view_has_name}
-use Rattle.ipmi_commands.specs.Run.{OnPlan}
+use Rattle.ipmi_commands.specs.Run.{FollowsPlan}
 use Rattle.ipmi_commands.specs.Texts.{IsTextOver, row_is_of_kind}
 use Rattle.ipmi_command_line.specs.declared.task.Task.{Task}
 
@@ -45,7 +45,7 @@ SameText image store item = (text : List ℕ)
 -- print the same. The tries may differ, as they affect only the number of calls.
 abbrev pub SamePlan : Option Job → Store → Store → Type 0
 SamePlan (Some job) image store = (tries tries' : ℕ)
-    → OnPlan job tries store (λ plan calls. OnPlan job tries' image (λ plan' calls'.
+    → FollowsPlan job tries store (λ plan calls. FollowsPlan job tries' image (λ plan' calls'.
     (plan' ≡ plan) × All (SameText image store) plan.items))
 SamePlan None image store = ⊥
 
@@ -66,7 +66,7 @@ abbrev pub is_walked : Shelf → Task → Wording → Bool
 is_walked Sel (Task.SelList count) wording = true
 is_walked Sel (Task.SelGet id) wording = true
 is_walked Sel task wording = false
-is_walked Sdr (Task.SelList count) Wording.Codes = false
+is_walked Sdr (Task.SelList count) Wording.Plain = false
 is_walked Sdr (Task.SelList count) wording = true
 is_walked Sdr (Task.SelGet id) (Wording.Json labels) = true
 is_walked Sdr (Task.SelGet id) wording = false

@@ -2,7 +2,7 @@
 use Rattle.std.proofs.Common.{◌≡◌, ℕ, Bool, false, Result, Err, List, refl, arith, IsErrAnd}
 use Rattle.ipmi_commands.specs.Below.{CodeClass, CursorState, Failure, RefusesRecord, RefusesValue, IsStep, StepLeaves, Ended, Seen, IsHonest}
 use Rattle.ipmi_commands.specs.Run.{MayEndOn}
-use Rattle.ipmi_commands.specs.Prelude.{end_of, ending_of, EndsListing, failure_of, Form, LacksPiece, shelf_of, Unread, AtEnd, Cause, CountsSo, FindsNone, IsFine, AsksAt, NoMemory, Spot}
+use Rattle.ipmi_commands.specs.Prelude.{end_of, ending_of, EndsListing, failure_of, Form, PieceErrorIsTrue, shelf_of, ReadError, AtEnd, Cause, CountsSo, FindsNone, IsFine, AsksAt, NoMemory, ReadPoint}
 use Rattle.ipmi_commands.proofs.CountLemmas.{ends_as, ends_here}
 
 -- the reason for the failure is returned unchanged
@@ -11,22 +11,22 @@ pub passed : {T E : Type 0} (result : Result T E) (error : E) → IsErrAnd resul
 passed result error is = grind arith
 
 -- nothing was requested
-pub asks_nothing : (spots : List Spot) (tries : ℕ) (s : Seen) → IsHonest s
-    → AsksAt spots tries s s AtEnd
-asks_nothing spots tries s honest = record { ends = ends_here honest refl tt; calls = λ same. omega arith; keeps = λ p. record { sdr = refl; sel = refl } }
+pub asks_nothing : (points : List ReadPoint) (tries : ℕ) (s : Seen) → IsHonest s
+    → AsksAt points tries s s AtEnd
+asks_nothing points tries s honest = record { ends = ends_here honest refl tt; calls = λ same. omega arith; keeps = λ p. record { sdr = refl; sel = refl } }
 
 -- after an item was found, the run may still end for this cause
-pub asks_as : {spots : List Spot} {tries : ℕ} {s s' : Seen} {cause : Cause}
-    → AsksAt spots tries s s' AtEnd
-    → CountsSo tries s s' cause → IsFine cause → AsksAt spots tries s s' cause
+pub asks_as : {points : List ReadPoint} {tries : ℕ} {s s' : Seen} {cause : Cause}
+    → AsksAt points tries s s' AtEnd
+    → CountsSo tries s s' cause → IsFine cause → AsksAt points tries s s' cause
 asks_as asks counts fine = record { ends = ends_as asks.ends counts fine; calls = asks.calls; keeps = asks.keeps }
 
 -- memory ran out before anything was requested, or after
-pub no_memory : {spots : List Spot} {tries : ℕ} {s : Seen} → IsHonest s → FindsNone spots tries s s NoMemory
-no_memory {spots} {tries} {s} honest = record { asks = asks_as (asks_nothing spots tries s honest) refl tt; there = tt }
+pub no_memory : {points : List ReadPoint} {tries : ℕ} {s : Seen} → IsHonest s → FindsNone points tries s s NoMemory
+no_memory {points} {tries} {s} honest = record { asks = asks_as (asks_nothing points tries s honest) refl tt; there = tt }
 
-pub then_no_memory : {spots : List Spot} {tries : ℕ} {s s' : Seen} → AsksAt spots tries s s' AtEnd
-    → FindsNone spots tries s s' NoMemory
+pub then_no_memory : {points : List ReadPoint} {tries : ℕ} {s s' : Seen} → AsksAt points tries s s' AtEnd
+    → FindsNone points tries s s' NoMemory
 then_no_memory asks = record { asks = asks_as asks asks.ends.counts tt; there = tt }
 
 -- ---- over any controller
@@ -36,9 +36,9 @@ refuses_record : (asked : ℕ) (class : CodeClass) → RefusesValue asked class
 refuses_record asked class refuses = grind arith
 
 -- an item that was not found is a possible end of a listing
-pub unread_ends : (form : Form) (unread : Unread) (seen : Seen) → LacksPiece form unread seen
+pub unread_ends : (form : Form) (unread : ReadError) (seen : Seen) → PieceErrorIsTrue form unread seen
     → EndsListing form seen (Err (failure_of unread))
-unread_ends (Form.Device wording) (Unread.Inventory id ended) seen lacks = (wording, (refl, lacks))
+unread_ends (Form.Device wording) (ReadError.Inventory id ended) seen lacks = (wording, (refl, lacks))
 unread_ends form unread seen lacks = grind (arith, refuses_record)
 
 -- and so is the end after the last record

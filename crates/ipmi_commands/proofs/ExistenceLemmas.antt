@@ -42,16 +42,16 @@ module _ (line : (view : SdrView) (reading : Option Reading) → HasText (IsSdrL
       → IsRowInText (Form.Line detail kind) → HasText (IsRecordLine detail store row view)
   has_listed Detail.Short kind store row (Ok view) in_text = line view (reading_for store view)
   has_listed Detail.Extended kind store row (Ok view) in_text = extended view (reading_for store view)
-  has_listed Detail.Words kind store row (Ok view) in_text = sensor_line view (reading_for store view)
+  has_listed Detail.Descriptive kind store row (Ok view) in_text = sensor_line view (reading_for store view)
   has_listed Detail.Short kind store row (Err fault) in_text = (_, refl)
   has_listed Detail.Extended kind store row (Err fault) in_text = (_, refl)
-  has_listed Detail.Words kind store row (Err fault) in_text = (_, refl)
+  has_listed Detail.Descriptive kind store row (Err fault) in_text = (_, refl)
   has_listed (Detail.Json labels) kind store row view in_text = absurd in_text
 
   has_block : (wording : Wording) (id : ℕ) (view : SdrView) (reading : Option Reading) → IsOfText wording
       → HasText (IsBlockIn wording id view reading)
-  has_block Wording.Codes id view reading in_text = block id view reading
-  has_block Wording.Words id view reading in_text = sensor_block id view reading
+  has_block Wording.Plain id view reading in_text = block id view reading
+  has_block Wording.Descriptive id view reading in_text = sensor_block id view reading
   has_block (Wording.Json labels) id view reading in_text = absurd in_text
 
   has_block_of_name : (wording : Wording) (name : List ℕ) (store : Store) (id : ℕ) (view : Result SdrView SdrFault)
@@ -67,11 +67,11 @@ module _ (line : (view : SdrView) (reading : Option Reading) → HasText (IsSdrL
   has_in : (wording : Wording) (id : ℕ) (name inventory : Option (List ℕ))
       → ((bytes : List ℕ) → inventory ≡ Some bytes → AreBytes bytes) → IsOfText wording
       → HasText (IsInventoryIn wording id name inventory)
-  has_in Wording.Codes id name inventory are in_text =
+  has_in Wording.Plain id name inventory are in_text =
       let has = has_inventory_text inventory are in
       (_, record { part = has.0; is_part = has.1; text_is = refl })
-  has_in Wording.Words id name None are in_text = bare id name
-  has_in Wording.Words id name (Some bytes) are in_text = present id name bytes (are bytes refl)
+  has_in Wording.Descriptive id name None are in_text = bare id name
+  has_in Wording.Descriptive id name (Some bytes) are in_text = present id name bytes (are bytes refl)
   has_in (Wording.Json labels) id name inventory are in_text = absurd in_text
 
   has_inventory : (wording : Wording) (store : Store) (id : ℕ) (name : Option (List ℕ)) → IsStore store
@@ -80,8 +80,8 @@ module _ (line : (view : SdrView) (reading : Option Reading) → HasText (IsSdrL
       has_in wording id name (inventory_of id store) (λ bytes is. inventory_bytes store.inventories id bytes ok.inventories is) in_text
 
   has_elsewhere : (wording : Wording) (name : List ℕ) → IsOfText wording → HasText (IsElsewhereIn wording name)
-  has_elsewhere Wording.Codes name in_text = (_, refl)
-  has_elsewhere Wording.Words name in_text = (_, refl)
+  has_elsewhere Wording.Plain name in_text = (_, refl)
+  has_elsewhere Wording.Descriptive name in_text = (_, refl)
   has_elsewhere (Wording.Json labels) name in_text = absurd in_text
 
   has_device : (wording : Wording) (store : Store) (name : List ℕ) (id : Option ℕ) → IsStore store
@@ -97,8 +97,8 @@ module _ (line : (view : SdrView) (reading : Option Reading) → HasText (IsSdrL
 
   has_entry_line : (entries : Entries) (id : ℕ) (view : SelView) → IsRowInText (Form.EntryLine entries)
       → HasText (IsEntryLine entries id view)
-  has_entry_line Entries.Codes id view in_text = entry_line id view
-  has_entry_line (Entries.Words sensors) id view in_text = in_words id view sensors
+  has_entry_line Entries.Plain id view in_text = entry_line id view
+  has_entry_line (Entries.Descriptive sensors) id view in_text = in_words id view sensors
   has_entry_line (Entries.Json sensors labels) id view in_text = absurd in_text
 
   has_row : (form : Form) (store : Store) (row : Row) → IsStore store → IsRowInText form
@@ -111,12 +111,12 @@ module _ (line : (view : SdrView) (reading : Option Reading) → HasText (IsSdrL
   has_row (Form.RawObject labels) store row ok in_text = absurd in_text
   has_row Form.Raw store row ok in_text = (_, refl)
   has_row Form.Bytes store row ok in_text = (_, refl)
-  has_row Form.Passed store row ok in_text = (_, refl)
+  has_row Form.Skipped store row ok in_text = (_, refl)
 
   has_info : (wording : Wording) (shelf : Shelf) (bytes : List ℕ) → IsOfText wording
       → HasText (IsInfoIn wording shelf bytes)
-  has_info Wording.Codes shelf bytes in_text = info bytes
-  has_info Wording.Words shelf bytes in_text = info bytes
+  has_info Wording.Plain shelf bytes in_text = info bytes
+  has_info Wording.Descriptive shelf bytes in_text = info bytes
   has_info (Wording.Json labels) shelf bytes in_text = absurd in_text
 
   has_item : (store : Store) (subject : Subject) → IsStore store → IsInText subject

@@ -6,14 +6,14 @@ use Rattle.ipmi_commands.specs.Below.{AllFollowOrStop, WasLog, AreSteps, asked_a
 use Rattle.ipmi_commands.specs.Meanwhile.{IsTextWhile, KeepsFor, OnGrowingListing}
 use Rattle.ipmi_commands.specs.Traced.{EndsTrace, IsListed, IsWithin, PrintsSteps, ReturnsLast, Traces, TracesListing}
 use Rattle.ipmi_commands.specs.declared.limits.RequestLimits.{RequestLimits}
-use Rattle.ipmi_commands.specs.Prelude.{AtEnd, AtRecord, cause_of, Change, ending_of, first_end, first_rows, Form, HasFirstItems, IsAllowed, IsAmong, IsFresh, Item, listing, listing_plan, next_spots, Plan, Printed, row_items, rows_end, shelf_of, Spot, spots_at_walk_end, StopsAt, Subject}
+use Rattle.ipmi_commands.specs.Prelude.{AtEnd, AtRecord, cause_of, Change, ending_of, first_end, first_rows, Form, HasFirstItems, IsAllowed, IsAmong, IsFresh, Item, listing, listing_plan, next_points, Plan, Printed, row_items, rows_end, shelf_of, ReadPoint, points_at_walk_end, StopsAt, Subject}
 use Rattle.ipmi_commands.specs.Output.{Output}
 use Rattle.ipmi_commands.proofs.CallLemmas.{none_left, place_after_rows-append}
 use Rattle.ipmi_commands.proofs.ItemLemmas.{cut_after, row_item, row_items-append, row_items-split, stops_after}
 use Rattle.ipmi_commands.proofs.ListingLemmas.{may_later, take_used}
 use Rattle.ipmi_commands.proofs.MeanwhileLemmas.{steps_printed, text_while}
 use Rattle.ipmi_commands.proofs.NameLemmas.{while_found, while_none}
-use Rattle.ipmi_commands.proofs.SpotLemmas.{asked_first, spots_at_walk_end-joined}
+use Rattle.ipmi_commands.proofs.PointLemmas.{asked_first, points_at_walk_end-joined}
 use Rattle.ipmi_commands.proofs.TraceLemmas.{handed_joined}
 
 -- ---- steps, and more steps
@@ -66,7 +66,7 @@ after_log next (row ∷ walk) is = after_log row.next walk is
 -- a cursor that is after a whole log, and not at the end, is at the start of an empty one
 before_log : (rows : List Row) (start : Place) (log : List Row) → EndsBy rows start log Done
     → place_after_rows start log ≢ End
-    → IsAmong (spots_at_walk_end start log Done) (AtRecord (asked_at (place_after_rows start log)))
+    → IsAmong (points_at_walk_end start log Done) (AtRecord (asked_at (place_after_rows start log)))
 before_log rows start (row ∷ log) ends open_ = absurd (open_ (after_log row.next log ends))
 before_log rows First [] ends open_ = inl refl
 before_log rows (Id n) [] ends open_ = absurd ends
@@ -217,15 +217,15 @@ module _ (begun : CursorState) (s : Seen) (start : Place) (first : List Row) (ho
 
   -- all rows of the log were returned, and the cursor is not at the end: the log is empty
   at_last : IsWithin most (length hs + 1) → now.place ≢ End → rest ≡ []
-      → IsAmong p.end_spots (AtRecord (asked_at (place_after_rows place hs)))
+      → IsAmong p.end_points (AtRecord (asked_at (place_after_rows place hs)))
   at_last within open_ none =
       let whole : hs ≡ left = hs_is ∙ take_all (length hs) left (none_left most (length hs) left within none) in
       let there : place_after_rows place hs ≡ place_after_rows start m.rows =
       sym (place_after_rows-append start hp hs) ∙ ap (λ (l : List Row). place_after_rows start (hp ++ l)) whole ∙ ap (place_after_rows start) rows_are in
-      let spots : p.end_spots ≡ spots_at_walk_end start m.rows Done =
-      ap (spots_at_walk_end place left) (first_end-done most left) ∙ spots_at_walk_end-joined start hp left Done ∙ ap (λ (l : List Row). spots_at_walk_end start l Done) rows_are in
-      subst (λ (l : List Spot). IsAmong l (AtRecord (asked_at (place_after_rows place hs)))) (sym spots)
-      (subst (λ (q : Place). IsAmong (spots_at_walk_end start m.rows Done) (AtRecord (asked_at q))) (sym there)
+      let points : p.end_points ≡ points_at_walk_end start m.rows Done =
+      ap (points_at_walk_end place left) (first_end-done most left) ∙ points_at_walk_end-joined start hp left Done ∙ ap (λ (l : List Row). points_at_walk_end start l Done) rows_are in
+      subst (λ (l : List ReadPoint). IsAmong l (AtRecord (asked_at (place_after_rows place hs)))) (sym points)
+      (subst (λ (q : Place). IsAmong (points_at_walk_end start m.rows Done) (AtRecord (asked_at q))) (sym there)
       (before_log m.ends.0 start m.rows m.ends.1 (λ e. open_ (now_place open_ ∙ there ∙ e))))
 
   less : IsWithin most (length hs + 1) → IsWithin most (length hs)
@@ -241,8 +241,8 @@ module _ (begun : CursorState) (s : Seen) (start : Place) (first : List Row) (ho
     first = record { done = row_items form place hs; rest = row_items form (place_after_rows place hs) rest; items_are = items_hs (less within); printed = printed_hs printed };
     there =
         let asked : AtRecord n ≡ AtRecord (asked_at (place_after_rows place hs)) = ap AtRecord (at.0 ∙ ap asked_at (now_place at.1)) in
-        subst (IsAmong (next_spots (row_items form (place_after_rows place hs) rest) p.end_spots)) (sym asked)
-        (asked_first form (place_after_rows place hs) rest p.end_spots (at_last within at.1));
+        subst (IsAmong (next_points (row_items form (place_after_rows place hs) rest) p.end_points)) (sym asked)
+        (asked_first form (place_after_rows place hs) rest p.end_points (at_last within at.1));
   }
 
   never : (done : List Stepped) (step : Stepped) (ended : Ended) → trace.steps ≡ done ++ step ∷ [] → step.result ≡ Err ended

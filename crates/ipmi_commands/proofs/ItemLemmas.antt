@@ -1,7 +1,7 @@
 -- The items of a plan, their texts, and the output if a run stops before or at one of them.
 use Rattle.std.proofs.Common.{◌≡◌, ℕ, ◌+◌, ◌<◌, List, [], ◌∷◌, ◌++◌, length, take, drop, refl, sym, subst, ap, ◌∙◌, append_assoc, take-add, take-append-drop}
 use Rattle.ipmi_commands.specs.Below.{Place, Row, place_after, place_after_rows, asked_at, Ending}
-use Rattle.ipmi_commands.specs.Prelude.{AreTexts, AtEnd, AtRecord, Cause, Dishonest, Form, GaveUp, HasFirstItems, IsAmong, Item, Leaves, IsStopAmong, NoMemory, NoOutput, OfRow, Plan, Printed, PrintsAll, Refused, row_items, Spot, spots_because_of, next_spots, Subject}
+use Rattle.ipmi_commands.specs.Prelude.{AreTexts, AtEnd, AtRecord, Cause, Dishonest, Form, GaveUp, HasFirstItems, IsAmong, Item, Leaves, IsStopAmong, NoMemory, NoOutput, OfRow, Plan, Printed, PrintsAll, Refused, row_items, ReadPoint, points_because_of, next_points, Subject}
 use Rattle.ipmi_commands.specs.Output.{and_then, IsCut, no_output, Output}
 use Rattle.ipmi_commands.proofs.OutputLemmas.{nothing_then, then_assoc, then_nothing}
 
@@ -17,7 +17,7 @@ row_items-append form start (d ∷ done) rest = rw (row_items-append form (place
 -- the item of a row requested at this place
 abbrev pub row_item : Form → Place → Row → Item
 row_item form place row =
-    record { subject = OfRow form row; spots = AtRecord (asked_at place) ∷ spots_because_of form row }
+    record { subject = OfRow form row; points = AtRecord (asked_at place) ∷ points_because_of form row }
 
 -- the items of the first rows, and of the next row
 pub row_items-next : (form : Form) (at : Place) (rows : List Row) (count : ℕ) (row : Row)
@@ -38,7 +38,7 @@ row_items-split form at rows count =
 
 -- a plan with other items before its own
 abbrev pub after_items : List Item → Plan → Plan
-after_items first p = record { items = first ++ p.items; end = p.end; end_spots = p.end_spots }
+after_items first p = record { items = first ++ p.items; end = p.end; end_points = p.end_points }
 
 module _ (IsText : Subject → Output → Type 0) where
   pub texts_joined : (items more : List Item) (a b : Output) → AreTexts IsText items a
@@ -76,10 +76,10 @@ module _ (IsText : Subject → Output → Type 0) where
 
   -- after some items, the run gives up, is refused, or is out of memory
   pub stops_after : (p : Plan) (old new : Output) (ending : Ending) (cause : Cause)
-      (first : HasFirstItems IsText p old new) → IsStopAmong (next_spots first.rest p.end_spots) cause
+      (first : HasFirstItems IsText p old new) → IsStopAmong (next_points first.rest p.end_points) cause
       → Leaves IsText p old new ending cause
-  stops_after p old new ending (GaveUp spot) first may = record { first = first; there = may }
-  stops_after p old new ending (Refused spot code) first may = record { first = first; there = may }
+  stops_after p old new ending (GaveUp point) first may = record { first = first; there = may }
+  stops_after p old new ending (Refused point code) first may = record { first = first; there = may }
   stops_after p old new ending NoMemory first may = first
   stops_after p old new ending _ first may = absurd may
 
@@ -113,8 +113,8 @@ module _ (A B : Subject → Output → Type 0) (keep : (subject : Subject) (text
   pub leaves_map : (p : Plan) (old new : Output) (ending : Ending) (cause : Cause) → Leaves A p old new ending cause
       → Leaves B p old new ending cause
   leaves_map p old new ending AtEnd leaves = (printed_map p.items old new leaves.0, leaves.1)
-  leaves_map p old new ending (GaveUp spot) leaves = record { first = first_map p old new leaves.first; there = leaves.there }
-  leaves_map p old new ending (Refused spot code) leaves = record { first = first_map p old new leaves.first; there = leaves.there }
+  leaves_map p old new ending (GaveUp point) leaves = record { first = first_map p old new leaves.first; there = leaves.there }
+  leaves_map p old new ending (Refused point code) leaves = record { first = first_map p old new leaves.first; there = leaves.there }
   leaves_map p old new ending NoMemory leaves = first_map p old new leaves
   leaves_map p old new ending NoOutput leaves = record {
     whole = leaves.whole;
@@ -132,12 +132,12 @@ module _ (A B : Subject → Output → Type 0) (keep : (subject : Subject) (text
 -- ---- an output that one plan allows is allowed by another
 
 -- if the first items of the one plan were printed, so were the first items of the other, and the next item has at least these
--- spots and texts
+-- points and texts
 pub record IsCarried (IsText : Subject → Output → Type 0) (p q : Plan) (old new : Output)
     (rest : List Item) : Type 0 where
   pub first : HasFirstItems IsText q old new
-  pub spots : (spot : Spot) → IsAmong (next_spots rest p.end_spots) spot
-      → IsAmong (next_spots first.rest q.end_spots) spot
+  pub points : (point : ReadPoint) → IsAmong (next_points rest p.end_points) point
+      → IsAmong (next_points first.rest q.end_points) point
   pub next : (item : Item) (later : List Item) (text : Output) → rest ≡ item ∷ later
       → IsText item.subject text → 0 < length text.bytes
       → (item' : Item) × (later' : List Item) × (first.rest ≡ item' ∷ later')
@@ -150,8 +150,8 @@ pub leaves_carried : (IsText : Subject → Output → Type 0) (p q : Plan) (old 
     → (cause ≡ AtEnd → PrintsAll IsText p old new ending → PrintsAll IsText q old' new ending')
     → Leaves IsText p old new ending cause → Leaves IsText q old' new ending' cause
 leaves_carried IsText p q old old' new ending ending' AtEnd carry all leaves = all refl leaves
-leaves_carried IsText p q old old' new ending ending' (GaveUp spot) carry all leaves = let at = carry new leaves.first in record { first = at.first; there = at.spots spot leaves.there }
-leaves_carried IsText p q old old' new ending ending' (Refused spot code) carry all leaves = let at = carry new leaves.first in record { first = at.first; there = at.spots spot leaves.there }
+leaves_carried IsText p q old old' new ending ending' (GaveUp point) carry all leaves = let at = carry new leaves.first in record { first = at.first; there = at.points point leaves.there }
+leaves_carried IsText p q old old' new ending ending' (Refused point code) carry all leaves = let at = carry new leaves.first in record { first = at.first; there = at.points point leaves.there }
 leaves_carried IsText p q old old' new ending ending' NoMemory carry all leaves = (carry new leaves).first
 leaves_carried IsText p q old old' new ending ending' NoOutput carry all leaves =
     let at = carry leaves.whole leaves.first in
@@ -172,23 +172,23 @@ leaves_joined IsText done p old text new ending cause before leaves = leaves_car
         items_are = rw first.items_are (sym (append_assoc done first.done first.rest));
         printed = printed_joined IsText done first.done old text whole before first.printed;
       };
-      spots = λ spot among. among;
+      points = λ point among. among;
       next = λ item later text next is some. (item, later, next, is);
     })
     (λ is all. (printed_joined IsText done p.items old text new before all.0, all.1)) leaves
 
--- a longer plan with at least the same spots after each of the items
+-- a longer plan with at least the same points after each of the items
 pub leaves_longer : (IsText : Subject → Output → Type 0) (p q : Plan) (more : List Item)
     → q.items ≡ p.items ++ more
-    → ((spot : Spot) (rest : List Item) → IsAmong (next_spots rest p.end_spots) spot
-    → IsAmong (next_spots (rest ++ more) q.end_spots) spot)
+    → ((point : ReadPoint) (rest : List Item) → IsAmong (next_points rest p.end_points) point
+    → IsAmong (next_points (rest ++ more) q.end_points) point)
     → (old new : Output) (ending : Ending) (cause : Cause)
     → (cause ≡ AtEnd → PrintsAll IsText p old new ending → PrintsAll IsText q old new ending)
     → Leaves IsText p old new ending cause → Leaves IsText q old new ending cause
-leaves_longer IsText p q more items_are spots_are old new ending cause whole leaves = leaves_carried IsText p q old old new ending ending cause
+leaves_longer IsText p q more items_are points_are old new ending cause whole leaves = leaves_carried IsText p q old old new ending ending cause
     (λ whole first. record {
       first = record { done = first.done; rest = first.rest ++ more; items_are = items_are ∙ rw first.items_are (append_assoc first.done first.rest more); printed = first.printed };
-      spots = λ spot among. spots_are spot first.rest among;
+      points = λ point among. points_are point first.rest among;
       next = λ item later text next is some. (item, later ++ more, rw next refl, is);
     })
     whole leaves

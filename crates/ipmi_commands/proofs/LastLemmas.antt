@@ -5,7 +5,7 @@ use Rattle.std.proofs.Math.Seq.{drop-nil}
 use Rattle.ipmi_commands.specs.Below.{handed_out, IsLog, OnlyGrew, Shelf, stays_refl, WasLog, Place, Sel, Row, Store, rows_of, WalkEnd, Done, place_after, place_after_rows, Seen, IsHonest, StaysHonest, CursorState, StandsAt, start_of, Ending, Failure}
 use Rattle.ipmi_commands.specs.Traced.{EndsTrace}
 use Rattle.ipmi_commands.specs.declared.limits.RequestLimits.{RequestLimits}
-use Rattle.ipmi_commands.specs.Prelude.{AreTexts, calls_for, Cause, cause_of, Change, change, Counted, CountsEntries, spots_at_walk_end, end_spots_of_last, ending_of, EndsListing, Entries, first_end, first_rows, Form, IsAllowed, IsAmong, IsFresh, IsPieceOver, IsTextWhile, OfRow, OnGrowingLast, TracesListing, Item, Job, last_plan, Leaves, listing, listing_plan, ListsAfter, ListsHonestly, ListsAlong, Plan, Printed, Prints, row_items, rows_end, second_walk_bound, Spot, spots_of_rows, next_spots, spots_of_walk, Subject, walk_call_bound, with_first_spots}
+use Rattle.ipmi_commands.specs.Prelude.{AreTexts, calls_for, Cause, cause_of, Change, change, Counted, CountsEntries, points_at_walk_end, end_points_of_last, ending_of, EndsListing, Entries, first_end, first_rows, Form, IsAllowed, IsAmong, IsFresh, IsPieceOver, IsTextWhile, OfRow, OnGrowingLast, TracesListing, Item, Job, last_plan, Leaves, listing, listing_plan, ListsAfter, ListsHonestly, ListsAlong, Plan, Printed, Prints, row_items, rows_end, second_walk_bound, ReadPoint, points_of_rows, next_points, points_of_walk, Subject, walk_call_bound, with_first_points}
 use Rattle.ipmi_commands.specs.Output.{and_then, no_output, Output}
 use Rattle.ipmi_commands.proofs.CallLemmas.{calls_split}
 use Rattle.ipmi_commands.proofs.CountLemmas.{between, ends_here, ends_since}
@@ -14,7 +14,7 @@ use Rattle.ipmi_commands.proofs.GrownListing.{first_end-done, fresh_grown, grown
 use Rattle.ipmi_commands.proofs.MeanwhileLemmas.{log_again, log_first, log_later, log_now, log_second, while_second}
 use Rattle.ipmi_commands.proofs.ItemLemmas.{IsCarried, leaves_carried, leaves_map, no_items, none_printed, row_item, texts_joined}
 use Rattle.ipmi_commands.proofs.ListingLemmas.{fresh_along, fresh_ends, holds_none}
-use Rattle.ipmi_commands.proofs.SpotLemmas.{among_after, quiet_there, spots_at_walk_end-joined, spots_of_rows-split}
+use Rattle.ipmi_commands.proofs.PointLemmas.{among_after, quiet_there, points_at_walk_end-joined, points_of_rows-split}
 use Rattle.ipmi_commands.proofs.OutputLemmas.{nothing_in, then_nothing}
 
 -- a new cursor is at the place where it starts
@@ -22,38 +22,38 @@ pub starts_at : {limits : RequestLimits} {form : Form} {from : Option ℕ} {curs
     → IsFresh limits form from cursor → cursor.place ≡ start_of from
 starts_at fresh = ap (λ (c : CursorState). c.place) fresh.is
 
--- ---- the spots of the first item
+-- ---- the points of the first item
 
--- the spots of the first item along rows, or after them, are spots of the rows
-first_there : (entries : Entries) (start : Place) (rows : List Row) (ends : List Spot)
-    (spot : Spot) → IsAmong (next_spots (row_items (Form.EntryLine entries) start rows) ends) spot
-    → IsAmong (spots_of_rows start rows ++ ends) spot
-first_there entries start [] ends spot among = among
-first_there entries start (row ∷ rows) ends spot among = grind arith
+-- the points of the first item along rows, or after them, are points of the rows
+first_there : (entries : Entries) (start : Place) (rows : List Row) (ends : List ReadPoint)
+    (point : ReadPoint) → IsAmong (next_points (row_items (Form.EntryLine entries) start rows) ends) point
+    → IsAmong (points_of_rows start rows ++ ends) point
+first_there entries start [] ends point among = among
+first_there entries start (row ∷ rows) ends point among = grind arith
 
--- ---- plans whose first item has other spots
+-- ---- plans whose first item has other points
 
-module _ (IsText : Subject → Output → Type 0) (spots : List Spot) (p : Plan) (at_end : List Spot)
-    (end : Ending) (ends_are : p.end_spots ≡ at_end)
-    (wide : (spot : Spot) → IsAmong (next_spots p.items p.end_spots) spot → IsAmong spots spot) where
+module _ (IsText : Subject → Output → Type 0) (points : List ReadPoint) (p : Plan) (at_end : List ReadPoint)
+    (end : Ending) (ends_are : p.end_points ≡ at_end)
+    (wide : (point : ReadPoint) → IsAmong (next_points p.items p.end_points) point → IsAmong points point) where
   abbrev q : Plan
-  q = record { items = with_first_spots spots p.items; end = end; end_spots = end_spots_of_last spots p.items at_end }
+  q = record { items = with_first_points points p.items; end = end; end_points = end_points_of_last points p.items at_end }
 
   widened : (old new : Output) (done rest : List Item) → p.items ≡ done ++ rest
       → Printed IsText done old new → IsCarried IsText p q old new rest
   widened old new [] rest is printed = record {
-    first = record { done = []; rest = with_first_spots spots p.items; items_are = refl; printed = printed };
-    spots = λ spot among. grind (arith, wide spot (rw is among));
-    next = λ item later text next is_text some. (record { subject = item.subject; spots = spots }, later, ap (with_first_spots spots) (is ∙ next), is_text);
+    first = record { done = []; rest = with_first_points points p.items; items_are = refl; printed = printed };
+    points = λ point among. grind (arith, wide point (rw is among));
+    next = λ item later text next is_text some. (record { subject = item.subject; points = points }, later, ap (with_first_points points) (is ∙ next), is_text);
   }
   widened old new (d ∷ done) rest is printed = record {
     first = record {
-      done = with_first_spots spots (d ∷ done);
+      done = with_first_points points (d ∷ done);
       rest = rest;
-      items_are = ap (with_first_spots spots) is;
+      items_are = ap (with_first_points points) is;
       printed = record { text = printed.text; are = printed.are; new_is = printed.new_is };
     };
-    spots = λ spot among. rw is (rw ends_are at among);
+    points = λ point among. rw is (rw ends_are at among);
     next = λ item later text next is_text some. (item, later, next, is_text);
   }
 
@@ -71,22 +71,22 @@ last_leaves : (IsText : Subject → Output → Type 0) (entries : Entries) (n k 
     → IsAllowed IsText (last_plan entries n start walk Done) old new ending
 last_leaves IsText entries n k start walk old new ending is allowed =
     let place = place_after_rows start (take k walk) in
-    let ends = spots_at_walk_end start walk Done in
-    let joined : spots_at_walk_end place (drop k walk) Done ≡ ends = spots_at_walk_end-joined start (take k walk) (drop k walk) Done ∙ ap (λ (l : List Row). spots_at_walk_end start l Done) (take-append-drop k walk) in
-    rw (← is) (leaves_wide IsText (spots_of_walk start walk Done) (listing_plan (listing (Form.EntryLine entries) place None) (drop k walk) Done) ends (rows_end (Form.EntryLine entries) walk Done) joined
-    (λ spot among. rw (spots_of_rows-split k start walk ends) (among_after (spots_of_rows start (take k walk)) (spots_of_rows place (drop k walk) ++ ends) spot (first_there entries place (drop k walk) ends spot (rw joined at among))))
+    let ends = points_at_walk_end start walk Done in
+    let joined : points_at_walk_end place (drop k walk) Done ≡ ends = points_at_walk_end-joined start (take k walk) (drop k walk) Done ∙ ap (λ (l : List Row). points_at_walk_end start l Done) (take-append-drop k walk) in
+    rw (← is) (leaves_wide IsText (points_of_walk start walk Done) (listing_plan (listing (Form.EntryLine entries) place None) (drop k walk) Done) ends (rows_end (Form.EntryLine entries) walk Done) joined
+    (λ point among. rw (points_of_rows-split k start walk ends) (among_after (points_of_rows start (take k walk)) (points_of_rows place (drop k walk) ++ ends) point (first_there entries place (drop k walk) ends point (rw joined at among))))
     old new ending ending (cause_of ending) (λ is. is) allowed)
 
 -- ---- skipped entries
 
 calls_for-named : (entries : Entries) (store : Store) (tries : ℕ) (rows : List Row)
-    → calls_for (Form.EntryLine entries) store tries rows ≡ calls_for Form.Passed store tries rows
+    → calls_for (Form.EntryLine entries) store tries rows ≡ calls_for Form.Skipped store tries rows
 calls_for-named entries store tries [] = refl
 calls_for-named entries store tries (row ∷ rows) = rw (calls_for-named entries store tries rows) refl
 
 -- a skipped entry has no text
 abbrev AreNoTexts : (Subject → Output → Type 0) → Type 0
-AreNoTexts IsText = (row : Row) (text : Output) → IsText (OfRow Form.Passed row) text → text ≡ no_output
+AreNoTexts IsText = (row : Row) (text : Output) → IsText (OfRow Form.Skipped row) text → text ≡ no_output
 
 none_over : (store : Store) → AreNoTexts (IsPieceOver store)
 none_over store row text is = is.counted ∙ nothing_in text.bytes false is.is_text
@@ -96,19 +96,19 @@ none_while s s' row text is = none_over is.store row text is.is
 
 -- nothing is printed for skipped entries
 no_text : (IsText : Subject → Output → Type 0) → AreNoTexts IsText → (rows : List Row) (start : Place) (done rest : List Item) (text : Output)
-    → row_items Form.Passed start rows ≡ done ++ rest → AreTexts IsText done text
+    → row_items Form.Skipped start rows ≡ done ++ rest → AreTexts IsText done text
     → text ≡ no_output
 no_text IsText none rows start [] rest text is are = are
 no_text IsText none [] start (d ∷ done) rest text is are = cc is
 no_text IsText none (row ∷ rows) start (d ∷ done) rest text is are =
-    let head : row_item Form.Passed start row ≡ d = cc is in
+    let head : row_item Form.Skipped start row ≡ d = cc is in
     let first = none row are.first (subst (λ (x : Item). IsText x.subject are.first) (sym head) are.is_first) in
     grind (arith, are.joined, first, no_text IsText none rows (place_after row.next) done rest are.rest (cc is) are.is_rest)
 
 -- the first entries were skipped
 nothing : (IsText : Subject → Output → Type 0) → AreNoTexts IsText → (most : Option ℕ) (start : Place) (walk : List Row)
     (done rest : List Item) (old new : Output)
-    → row_items Form.Passed start (first_rows most walk) ≡ done ++ rest
+    → row_items Form.Skipped start (first_rows most walk) ≡ done ++ rest
     → Printed IsText done old new → new ≡ old
 nothing IsText none most start walk done rest old new is printed = printed.new_is ∙ rw (no_text IsText none (first_rows most walk) start done rest printed.text is printed.are) (then_nothing old)
 
@@ -116,16 +116,16 @@ nothing IsText none most start walk done rest old new is printed = printed.new_i
 module _ (IsText : Subject → Output → Type 0) (none : AreNoTexts IsText) (entries : Entries) (n : ℕ) (most : Option ℕ) (start : Place)
     (walk : List Row) (end : WalkEnd) (end_is : first_end most walk end ≡ end) (old new : Output) (failure : Failure) where
   abbrev passing : Plan
-  passing = listing_plan (listing Form.Passed start most) walk end
+  passing = listing_plan (listing Form.Skipped start most) walk end
 
   passing_failed : (cause : Cause) → Leaves IsText passing old new (Err failure) cause
       → Leaves IsText (last_plan entries n start walk end) old new (Err failure) cause
   passing_failed cause leaves = leaves_carried IsText passing (last_plan entries n start walk end) old old new (Err failure) (Err failure) cause
       (λ whole first. record {
         first = no_items IsText (last_plan entries n start walk end) old whole (nothing IsText none most start walk first.done first.rest old whole first.items_are first.printed);
-        spots = λ spot among. grind (arith, quiet_there Form.Passed (λ row. refl) most start walk first.done first.rest (spots_at_walk_end start walk end) spot first.items_are (rw end_is at among));
+        points = λ point among. grind (arith, quiet_there Form.Skipped (λ row. refl) most start walk first.done first.rest (points_at_walk_end start walk end) point first.items_are (rw end_is at among));
         next = λ item later text next is_text some.
-            let is : row_items Form.Passed start (first_rows most walk) ≡ (first.done ++ item ∷ []) ++ later = first.items_are ∙ rw next (sym (append_assoc first.done (item ∷ []) later)) in
+            let is : row_items Form.Skipped start (first_rows most walk) ≡ (first.done ++ item ∷ []) ++ later = first.items_are ∙ rw next (sym (append_assoc first.done (item ∷ []) later)) in
             let one : AreTexts IsText (item ∷ []) text = record { first = text; rest = no_output; is_first = is_text; is_rest = refl; joined = sym (then_nothing text) } in
             let empty = no_text IsText none (first_rows most walk) start (first.done ++ item ∷ []) later (and_then first.printed.text text) is (texts_joined IsText first.done (item ∷ []) first.printed.text text first.printed.are one) in
             absurd (omega (arith, some, ap (λ (o : Output). length o.bytes) empty, length-append first.printed.text.bytes text.bytes));
@@ -135,9 +135,9 @@ module _ (IsText : Subject → Output → Type 0) (none : AreNoTexts IsText) (en
 -- ---- counting entries
 
 -- all entries of the log as it was at one moment
-counts_grown : (from : Option ℕ) {begun now : CursorState} {c : Change} (result : Result ℕ Failure) (trace : TracesListing Form.Passed None begun now c result) (first : List Row)
-    (g : ListsGrown Sel (start_of from) first c.seen [] (handed_out trace.steps) Form.Passed None now c result)
-    → EndsTrace Form.Passed None now trace.steps c result
+counts_grown : (from : Option ℕ) {begun now : CursorState} {c : Change} (result : Result ℕ Failure) (trace : TracesListing Form.Skipped None begun now c result) (first : List Row)
+    (g : ListsGrown Sel (start_of from) first c.seen [] (handed_out trace.steps) Form.Skipped None now c result)
+    → EndsTrace Form.Skipped None now trace.steps c result
     → Counted (IsTextWhile c.seen c.seen') (start_of from) g.log Done c.old c.new result
 counts_grown from {begun} {now} {c} (Ok count) trace first g ends = (
   ends.0.count_is ∙ ap (length {A = Row}) (g.whole (elim ends.0.done [ inl limit ↦ cc limit | inr at_end ↦ at_end ])),
@@ -149,15 +149,15 @@ counts_grown from {begun} {now} {c} (Err failure) trace first g ends = λ entrie
 
 module _ {limits : RequestLimits} {from : Option ℕ} {tries : ℕ} {begun now : CursorState}
     {c : Change}
-    (fresh : IsFresh limits Form.Passed from begun) where
+    (fresh : IsFresh limits Form.Skipped from begun) where
   counts : (result : Result ℕ Failure) (walk : List Row) (end : WalkEnd)
-      → ListsAlong Form.Passed tries None begun now c result (start_of from) walk end 0
+      → ListsAlong Form.Skipped tries None begun now c result (start_of from) walk end 0
       → Counted (IsPieceOver c.seen.store) (start_of from) walk end c.old c.new result
   counts (Ok count) walk end along = (along.all.count_is, grind (arith, along.leaves.1), nothing (IsPieceOver c.seen.store) (none_over c.seen.store) None (start_of from) walk _ [] c.old c.new (sym (append-nil _)) along.leaves.0)
   counts (Err failure) walk end along = λ entries n. passing_failed (IsPieceOver c.seen.store) (none_over c.seen.store) entries n None (start_of from) walk end refl c.old c.new failure (cause_of (Err failure)) along.leaves
 
   pub counted : (result : Result ℕ Failure) → IsHonest c.seen
-      → ListsHonestly Form.Passed tries None begun now c result
+      → ListsHonestly Form.Skipped tries None begun now c result
       → CountsEntries (start_of from) tries c result
   counted result honest lists = record {
     ends = fresh_ends fresh lists;
@@ -194,17 +194,17 @@ after_without_memory entries tries start passed s text honest = record {
 }
 
 module _ (entries : Entries) {limits : RequestLimits} {from : Option ℕ}
-    {tries passed : ℕ} {begun mid : CursorState} {s s' : Seen} {old text : Output} (fresh : IsFresh limits Form.Passed from begun) where
+    {tries passed : ℕ} {begun mid : CursorState} {s s' : Seen} {old text : Output} (fresh : IsFresh limits Form.Skipped from begun) where
   -- skipping failed
   pub after_failed : (failure : Failure) → IsHonest s
-      → ListsHonestly Form.Passed tries (Some passed) begun mid (change s s' old text) (Err failure)
+      → ListsHonestly Form.Skipped tries (Some passed) begun mid (change s s' old text) (Err failure)
       → ListsAfter entries (start_of from) passed tries (change s s' old text) (Err failure)
   after_failed failure honest lists = record {
     ends = fresh_ends fresh lists;
     along = λ same walk end w ends n done is.
         let along = fresh_along fresh lists same walk end w ends in (
           passing_failed (IsPieceOver s.store) (none_over s.store) entries n (Some passed) (start_of from) walk end (grind (arith, done)) old text failure (cause_of (Err failure)) along.0.leaves,
-          omega (arith, along.1, calls_split Form.Passed s.store tries passed walk),
+          omega (arith, along.1, calls_split Form.Skipped s.store tries passed walk),
         );
     grows = λ first few log grew.
         let g = fresh_grown fresh lists.traces honest first log grew tt in (
@@ -217,7 +217,7 @@ module _ (entries : Entries) {limits : RequestLimits} {from : Option ℕ}
 
   -- there are fewer entries than were counted
   pub after_fewer : (count : ℕ) → (count ≡ passed → ⊥) → IsHonest s
-      → ListsHonestly Form.Passed tries (Some passed) begun mid (change s s' old text) (Ok count)
+      → ListsHonestly Form.Skipped tries (Some passed) begun mid (change s s' old text) (Ok count)
       → ListsAfter entries (start_of from) passed tries (change s s' old text) (Ok tt)
   after_fewer count fewer honest lists = record {
     ends = fresh_ends fresh lists;
@@ -236,7 +236,7 @@ module _ (entries : Entries) {limits : RequestLimits} {from : Option ℕ}
 
   -- of a log that only grew, all after the first ones
   after_grown : (now : CursorState) (s'' : Seen) (new : Output) (result : Result ℕ Failure) → IsHonest s
-      → ListsHonestly Form.Passed tries (Some passed) begun mid (change s s' old text) (Ok passed)
+      → ListsHonestly Form.Skipped tries (Some passed) begun mid (change s s' old text) (Ok passed)
       → ListsHonestly (Form.EntryLine entries) tries None mid now (change s' s'' text new) result
       → (first : List Row) → IsLog Sel (start_of from) s.store first → OnlyGrew Sel (start_of from) s s''
       → (log : List Row) × WasLog Sel (start_of from) s s'' first log
@@ -267,7 +267,7 @@ module _ (entries : Entries) {limits : RequestLimits} {from : Option ℕ}
 
   -- the entries after them were listed
   pub after_passed : (now : CursorState) (s'' : Seen) (new : Output) (result : Result ℕ Failure)
-      → 0 < mid.part → IsHonest s → ListsHonestly Form.Passed tries (Some passed) begun mid
+      → 0 < mid.part → IsHonest s → ListsHonestly Form.Skipped tries (Some passed) begun mid
       (change s s' old text) (Ok passed)
       → ListsHonestly (Form.EntryLine entries) tries None mid now (change s' s'' text new) result
       → ListsAfter entries (start_of from) passed tries (change s s'' old new) (ending_of result)
@@ -282,7 +282,7 @@ module _ (entries : Entries) {limits : RequestLimits} {from : Option ℕ}
         let later = (rw stays at (lists.along since.1 (start_of from) walk end passed)) (record { walks = w; ends = ends; stands = stands }) in
         let none = nothing (IsPieceOver s.store) (none_over s.store) (Some passed) (start_of from) walk _ [] old text (sym (append-nil _)) first.leaves.0 in (
           rw done (last_leaves (IsPieceOver s.store) entries n passed (start_of from) walk old new (ending_of result) is (rw (done, none) at later.leaves)),
-          omega (arith, rw (calls_for-named entries s.store tries (drop passed walk)) at (later.calls some), first.all.calls refl, fresh.falls, calls_split Form.Passed s.store tries passed walk),
+          omega (arith, rw (calls_for-named entries s.store tries (drop passed walk)) at (later.calls some), first.all.calls refl, fresh.falls, calls_split Form.Skipped s.store tries passed walk),
         );
     grows = λ first few log grew. after_grown now s'' new result honest passes lists first log grew;
   }
@@ -291,7 +291,7 @@ module _ (entries : Entries) {limits : RequestLimits} {from : Option ℕ}
 
 -- a possible end of a walk is a possible end of a listing
 pub passed_ends : (entries : Entries) (seen : Seen) (ending : Ending)
-    → EndsListing Form.Passed seen ending → EndsListing (Form.EntryLine entries) seen ending
+    → EndsListing Form.Skipped seen ending → EndsListing (Form.EntryLine entries) seen ending
 passed_ends entries seen ending ends = grind arith
 
 second_walk_bound-some : (bound : ℕ) (rows : List Row) → 0 < length rows
@@ -321,7 +321,7 @@ module _ (entries : Entries) (n : ℕ) (from : Option ℕ) (tries : ℕ) (some :
   last_prints s'' new count ending more stays same same' counts lists = λ walk end w ends.
       let along = counts.along same walk end w ends in
       let later = (rw (stays.store.stays same) at (lists.along same' walk end)) w ends n along.0.1 (rw along.0.0 refl) in
-      let twice = second_walk_bound-some (walk_call_bound Form.Passed s.store tries walk) (drop (length walk - n) walk) (omega (arith, length-drop (length walk - n) walk, along.0.0, some, more)) in
+      let twice = second_walk_bound-some (walk_call_bound Form.Skipped s.store tries walk) (drop (length walk - n) walk) (omega (arith, length-drop (length walk - n) walk, along.0.0, some, more)) in
       (rw along.0.2 at later.0, rw along.0.1 (omega (arith, along.1, later.1, twice)))
 
   -- ---- a log that only grew

@@ -17,6 +17,6 @@ mod PagesLaw
 mod PerformLemmas
 mod RunLemmas
 mod SensorLemmas
-mod SpotLemmas
+mod PointLemmas
 mod TraceLemmas
 mod UniqueLemmas

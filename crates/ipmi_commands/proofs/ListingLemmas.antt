@@ -6,7 +6,7 @@ use Rattle.std.specs.FinSet.{len-empty}
 use Rattle.std.specs.Ordering.{nat_cmp}
 use Rattle.ipmi_commands.specs.Below.{step_call_bound, digits, End, First, first_row, KeepsReservations, len_of, look, Shelf, current, Place, Ended, Row, Store, rows_of, MayFail, WalkEnd, WalkStep, Done, CycleAt, MissingAt, place_after, place_after_rows, Seen, IsHonest, AsksNothing, CursorState, CursorHoldsCurrent, StandsAt, FailsAt, IsStep, NotGivenUpOrRefused, StepAnswers, StepIsHonest, StepLeaves, asked_at, Ending, Failure, start_of}
 use Rattle.ipmi_commands.specs.declared.limits.RequestLimits.{RequestLimits}
-use Rattle.ipmi_commands.specs.Prelude.{AsksAt, AtEnd, AtRecord, CallsAlong, calls_for, Cause, cause_of, cause_of_unread, Change, change, CountsSo, end_of, spots_at_walk_end, ending_of, EndsFor, failure_of, FindsIt, FindsNone, first_end, first_rows, Form, HasFirstItems, IsAllowed, IsAmong, IsFine, IsFresh, IsOnWalk, is_reached, OnWalk, walk_call_bound, IsPieceOver, listing, listing_plan, Lists, ListsAlong, ListsHonestly, Item, IsStopAmong, most_after, most_for_one, IsWithin, OnEachWalk, Plan, Printed, row_items, rows_end, OfRow, shelf_of, Spot, spots_because_of, StopsAt, TracesListing, Unread}
+use Rattle.ipmi_commands.specs.Prelude.{AsksAt, AtEnd, AtRecord, CallsAlong, calls_for, Cause, cause_of, cause_of_unread, Change, change, CountsSo, end_of, points_at_walk_end, ending_of, EndsFor, failure_of, FindsIt, FindsNone, first_end, first_rows, Form, HasFirstItems, IsAllowed, IsAmong, IsFine, IsFresh, IsOnWalk, is_reached, OnWalk, walk_call_bound, IsPieceOver, listing, listing_plan, Lists, ListsAlong, ListsHonestly, Item, IsStopAmong, most_after, most_for_one, IsWithin, OnEachWalk, Plan, Printed, row_items, rows_end, OfRow, shelf_of, ReadPoint, points_because_of, StopsAt, TracesListing, ReadError}
 use Rattle.ipmi_commands.specs.Output.{and_then, IsCut, Output, piece_of}
 use Rattle.ipmi_commands.proofs.AskLemmas.{asks_as}
 use Rattle.ipmi_commands.proofs.CallLemmas.{HasCalled, at_limit, called_ended, called_more, called_stopped, calls_ended, digits_some, first_end-all, first_end-none, first_row-first_rows, first_rows-all, next_calls, next_one, none_left, not_at_limit, place_after_rows-append, within_more}
@@ -15,7 +15,7 @@ use Rattle.ipmi_commands.proofs.ItemLemmas.{cut_after, one_printed, printed_join
 use Rattle.ipmi_commands.proofs.MeanwhileLemmas.{keeps_at_same}
 use Rattle.ipmi_commands.proofs.TraceLemmas.{traced_cut, traced_done, traced_ended, traced_full, traced_lost, traced_more, Tracing}
 use Rattle.ipmi_commands.proofs.NameLemmas.{end_of-wrote, Wrote, wrote_more}
-use Rattle.ipmi_commands.proofs.SpotLemmas.{asked_first, end_spot, spots_at_walk_end-joined}
+use Rattle.ipmi_commands.proofs.PointLemmas.{asked_first, end_point, points_at_walk_end-joined}
 
 -- ---- the listed rows, if the cursor was after k rows of a walk
 
@@ -116,10 +116,10 @@ pub current-kept : (shelf : Shelf) (s s' : Seen) → KeepsReservations s s'
     → current shelf s' ≡ current shelf s
 current-kept shelf s s' keeps = grind arith
 
--- a stop at a later spot is a stop at one of all spots
-pub may_later : (first : Spot) (spots : List Spot) (cause : Cause) → IsStopAmong spots cause
-    → IsStopAmong (first ∷ spots) cause
-may_later first spots cause may = grind arith
+-- a stop at a later point is a stop at one of all points
+pub may_later : (first : ReadPoint) (points : List ReadPoint) (cause : Cause) → IsStopAmong points cause
+    → IsStopAmong (first ∷ points) cause
+may_later first points cause may = grind arith
 
 -- ---- the end of a listing
 
@@ -287,17 +287,17 @@ module _ {form : Form} {tries : ℕ} {most : Option ℕ} {count : ℕ} {wrote : 
           let rest = drop k walk in
           let now_is = on_walk rows start now.place (place_after_rows start (take (k + count) walk)) there.stands.place fails.not_at_end in
           let place = place_here most count start walk k kept.within in
-          let past : left_rows most count walk k ≡ [] → IsAmong (spots_at_walk_end at rest (first_end most rest end)) (AtRecord (asked_at (place_after_rows at (take count (used most walk k))))) = λ none.
+          let past : left_rows most count walk k ≡ [] → IsAmong (points_at_walk_end at rest (first_end most rest end)) (AtRecord (asked_at (place_after_rows at (take count (used most walk k))))) = λ none.
           let least = none_left most count rest below none in
           let all : k + count ≡ length walk = omega (arith, least, there.stands.within, length-drop k walk) in
           let beyond : IsWithin most (length rest + 1) = let size : length rest ≡ count = omega (arith, all, length-drop k walk) in rw size below in
           let whole = take_all (k + count) walk (omega (arith, all)) in
-          let joined : spots_at_walk_end at rest end ≡ spots_at_walk_end start walk end = spots_at_walk_end-joined start (take k walk) rest end ∙ ap (λ (l : List Row). spots_at_walk_end start l end) (take-append-drop k walk) in
-          rw (first_end-all most rest end beyond, joined, place, whole) (end_spot rows start walk end on.ends (rw (now_is, whole) at (may all))) in
+          let joined : points_at_walk_end at rest end ≡ points_at_walk_end start walk end = points_at_walk_end-joined start (take k walk) rest end ∙ ap (λ (l : List Row). points_at_walk_end start l end) (take-append-drop k walk) in
+          rw (first_end-all most rest end beyond, joined, place, whole) (end_point rows start walk end on.ends (rw (now_is, whole) at (may all))) in
           let asked : AtRecord n ≡ AtRecord (asked_at (place_after_rows at (take count (used most walk k)))) = ap AtRecord (fails.asked ∙ ap asked_at (now_is ∙ sym place)) in
           record {
             first = first_items form s.store most count start walk end k old new there.are_printed;
-            there = rw asked (asked_first form (place_after_rows at (take count (used most walk k))) (left_rows most count walk k) (spots_at_walk_end at rest (first_end most rest end)) past);
+            there = rw asked (asked_first form (place_after_rows at (take count (used most walk k))) (left_rows most count walk k) (points_at_walk_end at rest (first_end most rest end)) past);
           }
 
   module _ {next : CursorState} {s'' : Seen} (wanted : is_reached most count ≡ false) where
@@ -353,8 +353,8 @@ module _ {form : Form} {tries : ℕ} {most : Option ℕ} {count : ℕ} {wrote : 
       more_called = called_more (most_after form tries) refl kept.shelf kept.tries_are kept.called step last refl asked
 
       module _ {cause : Cause} (asks : IsHonest s''
-          → AsksAt (spots_because_of form row) tries s'' last cause) (h : IsHonest s) where
-        piece_asked : AsksAt (spots_because_of form row) tries s'' last cause
+          → AsksAt (points_because_of form row) tries s'' last cause) (h : IsHonest s) where
+        piece_asked : AsksAt (points_because_of form row) tries s'' last cause
         piece_asked = asks (honest_step wanted step h).stays.honest
 
         piece_ends : EndsFor tries (IsTrue s.plain × CursorHoldsCurrent begun s) s last cause
@@ -378,7 +378,7 @@ module _ {form : Form} {tries : ℕ} {most : Option ℕ} {count : ℕ} {wrote : 
               ≤ s.calls + calls_for form s.store tries (used most walk k) + digits begun.part
           calls_on =
               let first = (apart same).0 in
-              let piece = rw (store_is same) at (piece_asked.calls (keeps_at_same (spots_because_of form row) s'' last piece_asked.ends.stays.store (apart same).1)) in
+              let piece = rw (store_is same) at (piece_asked.calls (keeps_at_same (points_because_of form row) s'' last piece_asked.ends.stays.store (apart same).1)) in
               elim (asks_next wanted step h first on) [
                 | inl nothing ↦ absurd (asks_something now next row step.leaves nothing)
                 | inr is ↦ omega (arith, piece, rw row_is at (there wanted step h first on).calls, rw (stepped wanted step h first on).0 at (for_next wanted step h first on is))
@@ -396,7 +396,7 @@ module _ {form : Form} {tries : ℕ} {most : Option ℕ} {count : ℕ} {wrote : 
 
       -- the listing stops at it
       stopped : (failure : Failure) (text : Output) → (IsHonest s''
-          → AsksAt (spots_because_of form row) tries s'' last (cause_of (Err failure)))
+          → AsksAt (points_because_of form row) tries s'' last (cause_of (Err failure)))
           → (IsHonest s → last.stores_added ≡ s.stores_added → (p : Plan)
           (first : HasFirstItems (IsPieceOver s.store) p old new) (place : Place) (later : List Item)
           → first.rest ≡ row_item form place row ∷ later
@@ -420,19 +420,19 @@ module _ {form : Form} {tries : ℕ} {most : Option ℕ} {count : ℕ} {wrote : 
       }
 
       -- the piece was not found
-      pub listing_none : (unread : Unread) → (IsHonest s''
-          → FindsNone (spots_because_of form row) tries s'' last (cause_of_unread unread))
+      pub listing_none : (unread : ReadError) → (IsHonest s''
+          → FindsNone (points_because_of form row) tries s'' last (cause_of_unread unread))
           → Lists form tries most begun next (change s last old new) (Err (failure_of unread))
       listing_none unread none = stopped (failure_of unread) new (λ h. (none h).asks) (λ h same p first place later at.
           stops_after (IsPieceOver s.store) p old new (Err (failure_of unread)) (cause_of_unread unread) first
-          (rw at (may_later (AtRecord (asked_at place)) (spots_because_of form row) (cause_of_unread unread) (none (honest_step wanted step h).stays.honest).there)))
+          (rw at (may_later (AtRecord (asked_at place)) (points_because_of form row) (cause_of_unread unread) (none (honest_step wanted step h).stays.honest).there)))
           (λ h.
           let lost = none (honest_step wanted step h).stays.honest in
           traced_lost most (kept.went h).tracing step last lost.asks.ends.stays (below wanted step) unread lost.there)
 
       module _ (bytes : List ℕ) (has_fault : Bool) (finds : IsHonest s''
           → FindsIt (λ store. IsPieceOver store (OfRow form row) (piece_of bytes has_fault))
-          (spots_because_of form row) tries s'' last) where
+          (points_because_of form row) tries s'' last) where
         abbrev piece_text : Output
         piece_text = piece_of bytes has_fault
 
@@ -442,7 +442,7 @@ module _ {form : Form} {tries : ℕ} {most : Option ℕ} {count : ℕ} {wrote : 
             let found = finds (honest_step wanted step h).stays.honest in
             let none = (apart (λ h. (finds h).asks) h same).1 in
             let stays = found.asks.ends.stays.store in
-            rw (stays.stays none ∙ store_is (λ h. (finds h).asks) h same) at (found.is (keeps_at_same (spots_because_of form row) s'' last stays none))
+            rw (stays.stays none ∙ store_is (λ h. (finds h).asks) h same) at (found.is (keeps_at_same (points_because_of form row) s'' last stays none))
 
         -- a part of the piece was written
         pub listing_cut : (text : Output) → 0 < length piece_text.bytes → IsCut new text piece_text

@@ -7,7 +7,7 @@ use Rattle.ipmi_commands.specs.Below.{AreSteps, BeginsWith, Count, CursorState, 
 use Rattle.ipmi_records.specs.Sdr as sdr
 use Rattle.ipmi_commands.specs.Meanwhile.{IsTextWhile, KeepsAt, KeepsFor, OnGrowingListing}
 use Rattle.ipmi_commands.specs.Traced.{AreTextsOfSteps, IsTextAfter, IsTextOfResult, PrintsSteps, seen_next}
-use Rattle.ipmi_commands.specs.Prelude.{AreTexts, AtInventory, AtRecord, device_spots, Entries, Form, inventories_plan, IsPieceOver, entries_in, job_with, Listing, listing, listing_plan, locator_spots, Named, named_spots, OfRow, OnGrowingInventories, OnGrowingLast, OnGrowingNamed, OnGrowingPlan, Plan, Printed, reading_spots, row_items, shelf_of, spots_because_of, Spot, Subject, Wording}
+use Rattle.ipmi_commands.specs.Prelude.{AreTexts, AtInventory, AtRecord, device_points, Entries, Form, inventories_plan, IsPieceOver, entries_in, job_with, Listing, listing, listing_plan, locator_points, NameLookup, named_points, OfRow, OnGrowingInventories, OnGrowingLast, OnGrowingNamed, OnGrowingPlan, Plan, Printed, reading_points, row_items, shelf_of, points_because_of, ReadPoint, Subject, Wording}
 use Rattle.ipmi_commands.specs.Output.{and_then, Output}
 use Rattle.ipmi_commands.proofs.OutputLemmas.{nothing_then}
 
@@ -89,48 +89,48 @@ module _ (a b c : Seen) (first : StaysHonest a b) (then_ : StaysHonest b c) wher
         growing_second Sdr First (λ log. Holds (inventories_plan wording name log Done)) (λ log. More (inventories_plan wording name log Done))
         (λ log. keep (inventories_plan wording name log Done)) (on (keeps_second (λ (store : Store). store.inventories) a b c first.store then_.store keeps))
 
-    pub named_second : (wording : Wording) (records : List (List ℕ)) (named : Named)
+    pub named_second : (wording : Wording) (records : List (List ℕ)) (named : NameLookup)
         → OnGrowingPlan (job_with wording records named) b c Holds → OnGrowingNamed wording records named a c More
-    named_second wording records (Named.Events Count.All from) on =
+    named_second wording records (NameLookup.Events Count.All from) on =
         listing_second (listing (Form.EntryLine (entries_in wording records)) (start_of from) None) on
-    named_second wording records (Named.Events (Count.First n) from) on =
+    named_second wording records (NameLookup.Events (Count.First n) from) on =
         listing_second (listing (Form.EntryLine (entries_in wording records)) (start_of from) (Some n)) on
-    named_second wording records (Named.Events (Count.Last n) from) on = last_second (entries_in wording records) n from on
-    named_second wording records Named.Devices on = inventories_second wording (device_name 0 records) on
+    named_second wording records (NameLookup.Events (Count.Last n) from) on = last_second (entries_in wording records) n from on
+    named_second wording records NameLookup.Devices on = inventories_second wording (device_name 0 records) on
 
 -- a fact about every plan
 module _ (s s' : Seen) (honest : IsHonest s) (stays : KeepsStore s s') (Holds : Plan → Type 0) (holds : (plan : Plan) → Holds plan) where
-  pub named_growing : (wording : Wording) (records : List (List ℕ)) (named : Named) → OnGrowingNamed wording records named s s' Holds
-  named_growing wording records (Named.Events Count.All from) = λ keeps first log grew. (first, log_now s s' stays honest first log, holds _)
-  named_growing wording records (Named.Events (Count.First n) from) = λ keeps first log grew. (first, log_now s s' stays honest first log, holds _)
-  named_growing wording records (Named.Events (Count.Last n) from) = λ first log grew.
+  pub named_growing : (wording : Wording) (records : List (List ℕ)) (named : NameLookup) → OnGrowingNamed wording records named s s' Holds
+  named_growing wording records (NameLookup.Events Count.All from) = λ keeps first log grew. (first, log_now s s' stays honest first log, holds _)
+  named_growing wording records (NameLookup.Events (Count.First n) from) = λ keeps first log grew. (first, log_now s s' stays honest first log, holds _)
+  named_growing wording records (NameLookup.Events (Count.Last n) from) = λ first log grew.
       (first, log_now s s' stays honest first log, (first, log_now s s' stays honest first log, holds _))
-  named_growing wording records Named.Devices = λ keeps first log grew. (first, log_now s s' stays honest first log, holds _)
+  named_growing wording records NameLookup.Devices = λ keeps first log grew. (first, log_now s s' stays honest first log, holds _)
 
-  pub with_growing : (wording : Wording) (records : List (List ℕ)) (named : Named) → OnGrowingPlan (job_with wording records named) s s' Holds
-  with_growing wording records (Named.Events Count.All from) = named_growing wording records (Named.Events Count.All from)
-  with_growing wording records (Named.Events (Count.First n) from) = named_growing wording records (Named.Events (Count.First n) from)
-  with_growing wording records (Named.Events (Count.Last n) from) = named_growing wording records (Named.Events (Count.Last n) from)
-  with_growing wording records Named.Devices = named_growing wording records Named.Devices
+  pub with_growing : (wording : Wording) (records : List (List ℕ)) (named : NameLookup) → OnGrowingPlan (job_with wording records named) s s' Holds
+  with_growing wording records (NameLookup.Events Count.All from) = named_growing wording records (NameLookup.Events Count.All from)
+  with_growing wording records (NameLookup.Events (Count.First n) from) = named_growing wording records (NameLookup.Events (Count.First n) from)
+  with_growing wording records (NameLookup.Events (Count.Last n) from) = named_growing wording records (NameLookup.Events (Count.Last n) from)
+  with_growing wording records NameLookup.Devices = named_growing wording records NameLookup.Devices
 
 -- ---- inventories that did not change
 
 pub keeps_inventory : (id : ℕ) (s s' : Seen) → Keeps (λ store. store.inventories) s s' → Keeps (inventory_of id) s s'
 keeps_inventory id s s' keeps = keeps_through (λ (store : Store). store.inventories) (λ (l : List Inventory). inventory_in l id) s s' keeps
 
-pub if_keeps : (b : Bool) (spots : List Spot) (s s' : Seen) → KeepsAt spots s s' → KeepsAt (cond b spots []) s s'
-if_keeps true spots s s' keeps = keeps
-if_keeps false spots s s' keeps = tt
+pub if_keeps : (b : Bool) (points : List ReadPoint) (s s' : Seen) → KeepsAt points s s' → KeepsAt (cond b points []) s s'
+if_keeps true points s s' keeps = keeps
+if_keeps false points s s' keeps = tt
 
-pub reading_keeps : (id : ℕ) (view : Result SdrView SdrFault) (s s' : Seen) → KeepsAt (reading_spots id view) s s'
+pub reading_keeps : (id : ℕ) (view : Result SdrView SdrFault) (s s' : Seen) → KeepsAt (reading_points id view) s s'
 reading_keeps id (Ok view) s s' = if_keeps (is_some (sdr.reading_of view)) (AtRecord id ∷ []) s s' tt
 reading_keeps id (Err fault) s s' = tt
 
-named_keeps : (name : List ℕ) (id : ℕ) (view : Result SdrView SdrFault) (s s' : Seen) → KeepsAt (named_spots name id view) s s'
-named_keeps name id (Ok view) s s' = if_keeps _ (reading_spots id (Ok view)) s s' (reading_keeps id (Ok view) s s')
+named_keeps : (name : List ℕ) (id : ℕ) (view : Result SdrView SdrFault) (s s' : Seen) → KeepsAt (named_points name id view) s s'
+named_keeps name id (Ok view) s s' = if_keeps _ (reading_points id (Ok view)) s s' (reading_keeps id (Ok view) s s')
 named_keeps name id (Err fault) s s' = tt
 
-device_keeps : (device : Option ℕ) (s s' : Seen) → Keeps (λ store. store.inventories) s s' → KeepsAt (device_spots device) s s'
+device_keeps : (device : Option ℕ) (s s' : Seen) → Keeps (λ store. store.inventories) s s' → KeepsAt (device_points device) s s'
 device_keeps None s s' keeps = tt
 device_keeps (Some id) s s' keeps = by (id == 0)
   where
@@ -138,21 +138,21 @@ device_keeps (Some id) s s' keeps = by (id == 0)
     by true = tt
     by false = (keeps_inventory id s s' keeps, tt)
 
-locator_keeps : (view : Result SdrView SdrFault) (s s' : Seen) → Keeps (λ store. store.inventories) s s' → KeepsAt (locator_spots view) s s'
+locator_keeps : (view : Result SdrView SdrFault) (s s' : Seen) → Keeps (λ store. store.inventories) s s' → KeepsAt (locator_points view) s s'
 locator_keeps (Ok view) s s' keeps = device_keeps (sdr.fru_of view) s s' keeps
 locator_keeps (Err fault) s s' keeps = tt
 
-row_keeps : (form : Form) (row : Row) (s s' : Seen) → KeepsFor form s s' → KeepsAt (spots_because_of form row) s s'
-row_keeps (Form.Line detail kind) row s s' keeps = if_keeps _ (reading_spots row.id (sdr_view_of row.bytes)) s s' (reading_keeps row.id (sdr_view_of row.bytes) s s')
+row_keeps : (form : Form) (row : Row) (s s' : Seen) → KeepsFor form s s' → KeepsAt (points_because_of form row) s s'
+row_keeps (Form.Line detail kind) row s s' keeps = if_keeps _ (reading_points row.id (sdr_view_of row.bytes)) s s' (reading_keeps row.id (sdr_view_of row.bytes) s s')
 row_keeps (Form.Block wording name) row s s' keeps = named_keeps name row.id (sdr_view_of row.bytes) s s'
 row_keeps (Form.Device wording) row s s' keeps = locator_keeps (sdr_view_of row.bytes) s s' keeps
 row_keeps _ row s s' keeps = tt
 
 -- no store was added
-pub keeps_at_same : (spots : List Spot) (s s' : Seen) → KeepsStore s s' → s'.stores_added ≡ s.stores_added → KeepsAt spots s s'
+pub keeps_at_same : (points : List ReadPoint) (s s' : Seen) → KeepsStore s s' → s'.stores_added ≡ s.stores_added → KeepsAt points s s'
 keeps_at_same [] s s' keeps same = tt
-keeps_at_same (AtRecord n ∷ spots) s s' keeps same = keeps_at_same spots s s' keeps same
-keeps_at_same (AtInventory id ∷ spots) s s' keeps same = (keeps_same (inventory_of id) s s' keeps same, keeps_at_same spots s s' keeps same)
+keeps_at_same (AtRecord n ∷ points) s s' keeps same = keeps_at_same points s s' keeps same
+keeps_at_same (AtInventory id ∷ points) s s' keeps same = (keeps_same (inventory_of id) s s' keeps same, keeps_at_same points s s' keeps same)
 
 -- ---- the texts of steps
 

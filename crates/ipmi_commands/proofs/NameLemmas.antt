@@ -32,8 +32,8 @@ HasText false text = text ≡ []
 -- a block is not empty, as it begins with the word Record; an object is not empty, as it ends with a line feed
 block_some : (wording : Wording) (id : ℕ) (view : SdrView) (reading : Option Reading) (text : List ℕ)
     → IsBlockIn wording id view reading text → HasText true text
-block_some Wording.Codes id view reading text is = grind (arith, length-append, is)
-block_some Wording.Words id view reading text is = grind (arith, length-append, is)
+block_some Wording.Plain id view reading text is = grind (arith, length-append, is)
+block_some Wording.Descriptive id view reading text is = grind (arith, length-append, is)
 block_some (Wording.Json labels) id view reading text is = grind (arith, length-append, is.is_line.line_is)
 
 wrote_both : (a b : Bool) (first rest : List ℕ) → HasText a first → HasText b rest

@@ -6,15 +6,15 @@ use Rattle.ipmi_text.specs.SdrHeader.{sdr_len}
 use Rattle.std.proofs.lemmas.List.Elements.{All-cons, All-nil}
 use Rattle.ipmi_commands.specs.Below.{AllOf, Count, CycleAt, Done, Ending, Failure, First, FoundIsRow, IsHonest, IsShelf, IsStore, is_whole_record, MissingAt, Place, place_after, records_in, Row, Sdr, Seen, stays_refl, Store, WalkEnd}
 use Rattle.ipmi_commands.specs.Named.{end_after, ending_then, walk_of}
-use Rattle.ipmi_commands.specs.declared.named.Walked.{Walked}
-use Rattle.ipmi_commands.specs.Prelude.{after_names, AreTexts, AtEnd, bytes_of_rows, Cause, cause_of, Change, change, Dishonest, end_after_names, ending_of, end_spots_of_last, EndsNamed, EndsFor, EndsListing, Entries, entries_in, Form, GaveUp, HasFirstItems, IsAllowed, IsAmong, IsPage, IsPieceOver, IsTextWhile, Item, Job, job_with, Leaves, listing, listing_plan, MayEnd, most_calls, most_named, most_on_walk, Named, next_spots, NoMemory, NoOutput, OfRow, OnNamed, OnPlan, Plan, Printed, Refused, row_items, rows_end, Runs, Spot, spots_at_walk_end, spots_before, spots_of_walk, Subject, TracesJob, with_first_spots, Wording}
+use Rattle.ipmi_commands.specs.declared.named.RecordsEnd.{RecordsEnd}
+use Rattle.ipmi_commands.specs.Prelude.{after_names, AreTexts, AtEnd, bytes_of_rows, Cause, cause_of, Change, change, Dishonest, end_after_names, ending_of, end_points_of_last, EndsNamed, EndsFor, EndsListing, Entries, entries_in, Form, GaveUp, HasFirstItems, IsAllowed, IsAmong, IsPage, IsPieceOver, IsTextWhile, Item, Job, job_with, Leaves, listing, listing_plan, MayEnd, most_calls, most_named, most_on_walk, NameLookup, next_points, NoMemory, NoOutput, OfRow, OnNamed, FollowsPlan, Plan, Printed, Refused, row_items, rows_end, Runs, ReadPoint, points_at_walk_end, points_before, points_of_walk, Subject, TracesJob, with_first_points, Wording}
 use Rattle.ipmi_commands.specs.Output.{no_output, Output}
 use Rattle.ipmi_commands.proofs.CountLemmas.{between, ends_here, ends_since}
 use Rattle.ipmi_bus.proofs.HeldLemmas.{grew_first}
 use Rattle.ipmi_commands.proofs.ItemLemmas.{leaves_map, no_items}
 use Rattle.ipmi_commands.proofs.MeanwhileLemmas.{log_first, named_growing, named_second, while_second, with_growing}
 use Rattle.ipmi_commands.proofs.LastLemmas.{leaves_wide}
-use Rattle.ipmi_commands.proofs.SpotLemmas.{among_after, quiet_there}
+use Rattle.ipmi_commands.proofs.PointLemmas.{among_after, quiet_there}
 
 -- ---- the bytes of the records
 
@@ -55,84 +55,84 @@ read_records look_row split IsText bytes store walk text ok all printed =
 pub some_is : (a b : List ℕ) → Some a ≡ Some b → a ≡ b
 some_is a b is = cc is
 
--- ---- spots
+-- ---- points
 
-among_before : (spots more : List Spot) (spot : Spot) → IsAmong spots spot
-    → IsAmong (spots ++ more) spot
-among_before (first ∷ spots) more spot among = elim among [ inl at ↦ inl at | inr later ↦ inr (among_before spots more spot later) ]
-among_before [] more spot among = absurd among
+among_before : (points more : List ReadPoint) (point : ReadPoint) → IsAmong points point
+    → IsAmong (points ++ more) point
+among_before (first ∷ points) more point among = elim among [ inl at ↦ inl at | inr later ↦ inr (among_before points more point later) ]
+among_before [] more point among = absurd among
 
--- these are the spots of the first item, or of the end
-next_spots-first : (spots : List Spot) (items : List Item) (at_end : List Spot)
-    → next_spots (with_first_spots spots items) (end_spots_of_last spots items at_end) ≡ spots
-next_spots-first spots [] at_end = refl
-next_spots-first spots (item ∷ items) at_end = refl
+-- these are the points of the first item, or of the end
+next_points-first : (points : List ReadPoint) (items : List Item) (at_end : List ReadPoint)
+    → next_points (with_first_points points items) (end_points_of_last points items at_end) ≡ points
+next_points-first points [] at_end = refl
+next_points-first points (item ∷ items) at_end = refl
 
 -- ---- the listing with the names
 
 -- each kind of listing follows its plan
 module _ (wording : Wording) (records : List (List ℕ)) (tries : ℕ) (store : Store)
     (Holds : Plan → ℕ → Type 0) where
-  named_map : (More : Plan → ℕ → Type 0) (named : Named)
+  named_map : (More : Plan → ℕ → Type 0) (named : NameLookup)
       → ((plan : Plan) (calls : ℕ) → Holds plan calls → More plan calls)
-      → OnPlan (job_with wording records named) tries store Holds → OnNamed wording records named tries store More
-  named_map More (Named.Events Count.All from) keep on = λ walk end w ends. keep _ _ (on walk end w ends)
-  named_map More (Named.Events (Count.First n) from) keep on = λ walk end w ends. keep _ _ (on walk end w ends)
-  named_map More (Named.Events (Count.Last n) from) keep on = λ walk end w ends. keep _ _ (on walk end w ends)
-  named_map More Named.Devices keep on = λ walk end w ends. keep _ _ (on walk end w ends)
+      → FollowsPlan (job_with wording records named) tries store Holds → OnNamed wording records named tries store More
+  named_map More (NameLookup.Events Count.All from) keep on = λ walk end w ends. keep _ _ (on walk end w ends)
+  named_map More (NameLookup.Events (Count.First n) from) keep on = λ walk end w ends. keep _ _ (on walk end w ends)
+  named_map More (NameLookup.Events (Count.Last n) from) keep on = λ walk end w ends. keep _ _ (on walk end w ends)
+  named_map More NameLookup.Devices keep on = λ walk end w ends. keep _ _ (on walk end w ends)
 
-  pub named_all : (named : Named) → ((plan : Plan) (calls : ℕ) → Holds plan calls)
+  pub named_all : (named : NameLookup) → ((plan : Plan) (calls : ℕ) → Holds plan calls)
       → OnNamed wording records named tries store Holds
-  named_all (Named.Events Count.All from) holds = λ walk end w ends. holds _ _
-  named_all (Named.Events (Count.First n) from) holds = λ walk end w ends. holds _ _
-  named_all (Named.Events (Count.Last n) from) holds = λ walk end w ends. holds _ _
-  named_all Named.Devices holds = λ walk end w ends. holds _ _
+  named_all (NameLookup.Events Count.All from) holds = λ walk end w ends. holds _ _
+  named_all (NameLookup.Events (Count.First n) from) holds = λ walk end w ends. holds _ _
+  named_all (NameLookup.Events (Count.Last n) from) holds = λ walk end w ends. holds _ _
+  named_all NameLookup.Devices holds = λ walk end w ends. holds _ _
 
-  with_all : (named : Named) → ((plan : Plan) (calls : ℕ) → Holds plan calls)
-      → OnPlan (job_with wording records named) tries store Holds
-  with_all (Named.Events Count.All from) holds = λ walk end w ends. holds _ _
-  with_all (Named.Events (Count.First n) from) holds = λ walk end w ends. holds _ _
-  with_all (Named.Events (Count.Last n) from) holds = λ walk end w ends. holds _ _
-  with_all Named.Devices holds = λ walk end w ends. holds _ _
+  with_all : (named : NameLookup) → ((plan : Plan) (calls : ℕ) → Holds plan calls)
+      → FollowsPlan (job_with wording records named) tries store Holds
+  with_all (NameLookup.Events Count.All from) holds = λ walk end w ends. holds _ _
+  with_all (NameLookup.Events (Count.First n) from) holds = λ walk end w ends. holds _ _
+  with_all (NameLookup.Events (Count.Last n) from) holds = λ walk end w ends. holds _ _
+  with_all NameLookup.Devices holds = λ walk end w ends. holds _ _
 
-named_calls : (wording : Wording) (records : List (List ℕ)) (named : Named) (tries : ℕ)
+named_calls : (wording : Wording) (records : List (List ℕ)) (named : NameLookup) (tries : ℕ)
     → most_calls (job_with wording records named) tries ≤ most_named wording named tries
-named_calls wording records (Named.Events Count.All from) tries = omega arith
-named_calls wording records (Named.Events (Count.First n) from) tries = omega arith
-named_calls wording records (Named.Events (Count.Last n) from) tries = omega arith
-named_calls wording records Named.Devices tries = omega arith
+named_calls wording records (NameLookup.Events Count.All from) tries = omega arith
+named_calls wording records (NameLookup.Events (Count.First n) from) tries = omega arith
+named_calls wording records (NameLookup.Events (Count.Last n) from) tries = omega arith
+named_calls wording records NameLookup.Devices tries = omega arith
 
 pub entries_end : (wording : Wording) (entries : Entries) (count : Count) (from : Option ℕ) (seen : Seen) (ending : Ending)
-    → EndsListing (Form.EntryLine entries) seen ending → EndsNamed wording (Named.Events count from) seen ending
+    → EndsListing (Form.EntryLine entries) seen ending → EndsNamed wording (NameLookup.Events count from) seen ending
 entries_end wording entries count from seen ending ends = grind arith
 
 devices_end : (wording : Wording) (seen : Seen) (ending : Ending) → EndsListing (Form.Device wording) seen ending
-    → EndsNamed wording Named.Devices seen ending
+    → EndsNamed wording NameLookup.Devices seen ending
 devices_end wording seen ending ends = grind arith
 
-named_ends : (wording : Wording) (records : List (List ℕ)) (named : Named) (c : Change) (ending : Ending)
+named_ends : (wording : Wording) (records : List (List ℕ)) (named : NameLookup) (c : Change) (ending : Ending)
     → MayEnd (job_with wording records named) c ending → EndsNamed wording named c.seen' ending
-named_ends wording records (Named.Events Count.All from) c ending ends = entries_end wording (entries_in wording records) Count.All from c.seen' ending ends
-named_ends wording records (Named.Events (Count.First n) from) c ending ends = entries_end wording (entries_in wording records) (Count.First n) from c.seen' ending ends
-named_ends wording records (Named.Events (Count.Last n) from) c ending ends = entries_end wording (entries_in wording records) (Count.Last n) from c.seen' ending ends
-named_ends wording records Named.Devices c ending ends = devices_end wording c.seen' ending ends
+named_ends wording records (NameLookup.Events Count.All from) c ending ends = entries_end wording (entries_in wording records) Count.All from c.seen' ending ends
+named_ends wording records (NameLookup.Events (Count.First n) from) c ending ends = entries_end wording (entries_in wording records) (Count.First n) from c.seen' ending ends
+named_ends wording records (NameLookup.Events (Count.Last n) from) c ending ends = entries_end wording (entries_in wording records) (Count.Last n) from c.seen' ending ends
+named_ends wording records NameLookup.Devices c ending ends = devices_end wording c.seen' ending ends
 
 -- out of memory for the table of sensors, or for the name
-with_end : (wording : Wording) (records : List (List ℕ)) (named : Named) (c : Change)
+with_end : (wording : Wording) (records : List (List ℕ)) (named : NameLookup) (c : Change)
     → MayEnd (job_with wording records named) c (Err Failure.OutOfMemory)
-with_end wording records (Named.Events Count.All from) c = tt
-with_end wording records (Named.Events (Count.First n) from) c = tt
-with_end wording records (Named.Events (Count.Last n) from) c = tt
-with_end wording records Named.Devices c = tt
+with_end wording records (NameLookup.Events Count.All from) c = tt
+with_end wording records (NameLookup.Events (Count.First n) from) c = tt
+with_end wording records (NameLookup.Events (Count.Last n) from) c = tt
+with_end wording records NameLookup.Devices c = tt
 
-with_traces : (wording : Wording) (records : List (List ℕ)) (named : Named) (s : Seen) (text : Output)
+with_traces : (wording : Wording) (records : List (List ℕ)) (named : NameLookup) (s : Seen) (text : Output)
     → TracesJob (job_with wording records named) (change s s text text) (Err Failure.OutOfMemory)
-with_traces wording records (Named.Events Count.All from) s text = (Err Failure.OutOfMemory, refl, inl (inl refl, refl, refl))
-with_traces wording records (Named.Events (Count.First n) from) s text = (Err Failure.OutOfMemory, refl, inl (inl refl, refl, refl))
-with_traces wording records (Named.Events (Count.Last n) from) s text = tt
-with_traces wording records Named.Devices s text = tt
+with_traces wording records (NameLookup.Events Count.All from) s text = (Err Failure.OutOfMemory, refl, inl (inl refl, refl, refl))
+with_traces wording records (NameLookup.Events (Count.First n) from) s text = (Err Failure.OutOfMemory, refl, inl (inl refl, refl, refl))
+with_traces wording records (NameLookup.Events (Count.Last n) from) s text = tt
+with_traces wording records NameLookup.Devices s text = tt
 
-pub with_without_memory : (wording : Wording) (records : List (List ℕ)) (named : Named) (tries : ℕ) (s : Seen) (text : Output)
+pub with_without_memory : (wording : Wording) (records : List (List ℕ)) (named : NameLookup) (tries : ℕ) (s : Seen) (text : Output)
     → Runs (job_with wording records named) tries (change s s text text) (Err Failure.OutOfMemory)
 with_without_memory wording records named tries s text = record {
   calls = omega arith;
@@ -159,14 +159,14 @@ module _ (IsText : Subject → Output → Type 0) (records : List Row) (end : Wa
   abbrev q : Plan
   q = after_names records end plan
 
-  -- the run stops at a spot of that walk
-  stop_there : (first : HasFirstItems IsText (records_plan records end) no_output kept) (spot : Spot)
-      → IsAmong (next_spots first.rest (spots_at_walk_end First records end)) spot
-      → IsAmong (next_spots q.items q.end_spots) spot
-  stop_there first spot there =
-      rw (next_spots-first (spots_before records end plan) plan.items plan.end_spots)
-      (among_before (spots_of_walk First records end) (next_spots plan.items plan.end_spots) spot
-      (quiet_there Form.Bytes (λ row. refl) None First records first.done first.rest (spots_at_walk_end First records end) spot first.items_are there))
+  -- the run stops at a point of that walk
+  stop_there : (first : HasFirstItems IsText (records_plan records end) no_output kept) (point : ReadPoint)
+      → IsAmong (next_points first.rest (points_at_walk_end First records end)) point
+      → IsAmong (next_points q.items q.end_points) point
+  stop_there first point there =
+      rw (next_points-first (points_before records end plan) plan.items plan.end_points)
+      (among_before (points_of_walk First records end) (next_points plan.items plan.end_points) point
+      (quiet_there Form.Bytes (λ row. refl) None First records first.done first.rest (points_at_walk_end First records end) point first.items_are there))
 
   -- the run ends early for the same cause as the walk, but a write fault of the list of records means out of memory
   cause_kept : (result : Result Place Failure) (failure : Failure) → walk_of result ≡ Err failure
@@ -183,12 +183,12 @@ module _ (IsText : Subject → Output → Type 0) (records : List Row) (end : Wa
       → Leaves IsText (records_plan records end) no_output kept (ending_of result) cause
       → IsAllowed IsText q text text (Err failure)
   stop_by result failure is AtEnd at leaves = absurd (not_at_end records end result failure is leaves.1)
-  stop_by result failure is (GaveUp spot) at leaves =
+  stop_by result failure is (GaveUp point) at leaves =
       rw (cause_kept result failure is (λ e. cc (sym at ∙ e)) ∙ at)
-      (record { first = no_items IsText q text text refl; there = stop_there leaves.first spot leaves.there })
-  stop_by result failure is (Refused spot code) at leaves =
+      (record { first = no_items IsText q text text refl; there = stop_there leaves.first point leaves.there })
+  stop_by result failure is (Refused point code) at leaves =
       rw (cause_kept result failure is (λ e. cc (sym at ∙ e)) ∙ at)
-      (record { first = no_items IsText q text text refl; there = stop_there leaves.first spot leaves.there })
+      (record { first = no_items IsText q text text refl; there = stop_there leaves.first point leaves.there })
   stop_by result failure is NoMemory at leaves =
       rw (cause_kept result failure is (λ e. cc (sym at ∙ e)) ∙ at) (no_items IsText q text text refl)
   stop_by result failure is NoOutput at leaves =
@@ -196,12 +196,12 @@ module _ (IsText : Subject → Output → Type 0) (records : List Row) (end : Wa
   stop_by result failure is Dishonest at leaves = absurd leaves
 
 -- a walk with a known end was at the end of its plan
-pub walked_at_end : (result : Result Place Failure) (walked : Walked) → walk_of result ≡ Ok walked
+pub walked_at_end : (result : Result Place Failure) (walked : RecordsEnd) → walk_of result ≡ Ok walked
     → cause_of (ending_of result) ≡ AtEnd
 walked_at_end result walked is = grind arith
 
 -- and its end is that of the rows
-pub walked_end : (records : List Row) (end : WalkEnd) (result : Result Place Failure) (walked : Walked)
+pub walked_end : (records : List Row) (end : WalkEnd) (result : Result Place Failure) (walked : RecordsEnd)
     → walk_of result ≡ Ok walked → ending_of result ≡ rows_end Form.Bytes records end
     → end_after walked ≡ end_after_names end (Ok tt)
 walked_end records Done result walked is at = grind arith
@@ -209,13 +209,13 @@ walked_end records (CycleAt n) result walked is at = grind arith
 walked_end records (MissingAt n) result walked is at = grind arith
 
 -- the run ends with this failure before anything is printed
-module _ (tries : ℕ) (s s' : Seen) (kept : Output) (wording : Wording) (named : Named)
+module _ (tries : ℕ) (s s' : Seen) (kept : Output) (wording : Wording) (named : NameLookup)
     (calls : s'.calls ≤ s.calls + most_on_walk Form.Bytes tries) where
-  pub failed_ends : (named : Named) (result : Result Place Failure) (failure : Failure)
+  pub failed_ends : (named : NameLookup) (result : Result Place Failure) (failure : Failure)
       → walk_of result ≡ Err failure → EndsListing Form.Bytes s' (ending_of result)
       → EndsNamed wording named s' (Err failure)
-  failed_ends (Named.Events count from) result failure is ends = grind arith
-  failed_ends Named.Devices result failure is ends = grind arith
+  failed_ends (NameLookup.Events count from) result failure is ends = grind arith
+  failed_ends NameLookup.Devices result failure is ends = grind arith
 
   pub failed_for : (IsPlain : Type 0) (result : Result Place Failure) (failure : Failure)
       → walk_of result ≡ Err failure → EndsFor tries IsPlain s s' (cause_of (ending_of result))
@@ -225,7 +225,7 @@ module _ (tries : ℕ) (s s' : Seen) (kept : Output) (wording : Wording) (named 
   pub names_failed : (text : Output) (result : Result Place Failure) (failure : Failure)
       → walk_of result ≡ Err failure → EndsListing Form.Bytes s' (ending_of result)
       → (IsHonest s → IsPage Form.Bytes First tries None (change s s' no_output kept) result)
-      → Runs (Job.Named wording named) tries (change s s' text text) (Err failure)
+      → Runs (Job.NameLookup wording named) tries (change s s' text text) (Err failure)
   names_failed text result failure is ends page_of = record {
     calls = omega (arith, calls);
     ends = failed_ends named result failure is ends;
@@ -248,33 +248,33 @@ module _ (tries : ℕ) (s s' : Seen) (kept : Output) (wording : Wording) (named 
 
 -- ---- after the walk
 
-pub then_ends : (wording : Wording) (named : Named) (seen : Seen) (ending : Ending) (walked : Walked)
+pub then_ends : (wording : Wording) (named : NameLookup) (seen : Seen) (ending : Ending) (walked : RecordsEnd)
     → EndsNamed wording named seen ending → EndsNamed wording named seen (ending_then ending walked)
-then_ends wording (Named.Events count from) seen ending walked ends = grind arith
-then_ends wording Named.Devices seen ending walked ends = grind arith
+then_ends wording (NameLookup.Events count from) seen ending walked ends = grind arith
+then_ends wording NameLookup.Devices seen ending walked ends = grind arith
 
-pub then_for : (ending : Ending) (walked : Walked) → cause_of (ending_then ending walked) ≡ cause_of ending
+pub then_for : (ending : Ending) (walked : RecordsEnd) → cause_of (ending_then ending walked) ≡ cause_of ending
 then_for ending walked = grind arith
 
 pub then_allowed : (IsText : Subject → Output → Type 0) (records : List Row) (end : WalkEnd) (plan : Plan) (old new : Output)
-    (ending : Ending) (walked : Walked) → end_after walked ≡ end_after_names end (Ok tt)
+    (ending : Ending) (walked : RecordsEnd) → end_after walked ≡ end_after_names end (Ok tt)
     → IsAllowed IsText plan old new ending
     → IsAllowed IsText (after_names records end plan) old new (ending_then ending walked)
 then_allowed IsText records end plan old new ending walked end_is allowed =
-    rw (then_for ending walked) (leaves_wide IsText (spots_before records end plan) plan plan.end_spots (end_after_names end plan.end) refl
-    (λ spot among. among_after (spots_of_walk First records end) (next_spots plan.items plan.end_spots) spot among)
+    rw (then_for ending walked) (leaves_wide IsText (points_before records end plan) plan plan.end_points (end_after_names end plan.end) refl
+    (λ point among. among_after (points_of_walk First records end) (next_points plan.items plan.end_points) point among)
     old new ending (ending_then ending walked) (cause_of ending) (λ is. then_end ending plan.end is) allowed)
   where
     then_end : (e p : Ending) → e ≡ p → ending_then e walked ≡ end_after_names end p
     then_end e p is = grind arith
 
 pub named_run : FoundIsRow → RecordsAreFound → (tries : ℕ) (s s' s'' : Seen)
-    (kept old new : Output) (wording : Wording) (named : Named) (result : Result Place Failure)
-    (walked : Walked) (ending : Ending)
+    (kept old new : Output) (wording : Wording) (named : NameLookup) (result : Result Place Failure)
+    (walked : RecordsEnd) (ending : Ending)
     → s'.calls ≤ s.calls + most_on_walk Form.Bytes tries → walk_of result ≡ Ok walked
     → (IsHonest s → IsPage Form.Bytes First tries None (change s s' no_output kept) result)
     → Runs (job_with wording (records_in kept.bytes) named) tries (change s' s'' old new) ending
-    → Runs (Job.Named wording named) tries (change s s'' old new) (ending_then ending walked)
+    → Runs (Job.NameLookup wording named) tries (change s s'' old new) (ending_then ending walked)
 named_run look_row split tries s s' s'' kept old new wording named result walked ending calls is page_of runs = record {
   calls = omega (arith, calls, runs.calls, named_calls wording (records_in kept.bytes) named tries);
   ends = then_ends wording named s'' ending walked (named_ends wording (records_in kept.bytes) named (change s' s'' old new) ending runs.ends);

@@ -2,8 +2,8 @@
 use Rattle.std.proofs.Common.{inl, ℕ, ◌+◌, ◌*◌, ◌≤◌, IsTrue, Option, None, Some, Ok, Err, List, [], ◌∷◌, refl, sym, arith}
 use Rattle.ipmi_commands.specs.Below.{Count, Ending, Failure, FoundIsRow, IsHonest, Place, records_in, Seen, start_of, TailIsWalk}
 use Rattle.ipmi_commands.specs.Named.{ending_then, ReadsRecords}
-use Rattle.ipmi_commands.specs.declared.named.Walked.{Walked}
-use Rattle.ipmi_commands.specs.Prelude.{IsPieceOver, ArePages, bytes_of_rows, cause_of, change, ending_of, EndsListing, entries_in, entries_with, Form, listing, listing_plan, most_on_walk, Named, pages_made, RunsNamedInPages, Wording}
+use Rattle.ipmi_commands.specs.declared.named.RecordsEnd.{RecordsEnd}
+use Rattle.ipmi_commands.specs.Prelude.{IsPieceOver, ArePages, bytes_of_rows, cause_of, change, ending_of, EndsListing, entries_in, entries_with, Form, listing, listing_plan, most_on_walk, NameLookup, pages_made, RunsNamedInPages, Wording}
 use Rattle.ipmi_commands.specs.Output.{no_output, Output}
 use Rattle.ipmi_commands.proofs.CountLemmas.{between, ends_since}
 use Rattle.ipmi_commands.proofs.NamedLemmas.{entries_end, failed_ends, failed_for, read_records, RecordsAreFound, stop_by, then_allowed, then_ends, then_for, walked_at_end, walked_end}
@@ -26,8 +26,8 @@ module _ (tries : ℕ) (s s' : Seen) (kept : Output) (wording : Wording) (from :
       → RunsNamedInPages wording from tries sizes (change s s' text text) (Err failure)
   pages_failed text failure reads = record {
     calls = omega (arith, reads.calls);
-    ends = failed_ends tries s s' kept wording (Named.Events Count.All from) reads.calls (Named.Events Count.All from) reads.listed failure (sym reads.is) reads.ends;
-    why = λ h. failed_for tries s s' kept wording (Named.Events Count.All from) reads.calls (IsTrue s.plain) reads.listed failure (sym reads.is) (reads.page h).ends;
+    ends = failed_ends tries s s' kept wording (NameLookup.Events Count.All from) reads.calls (NameLookup.Events Count.All from) reads.listed failure (sym reads.is) reads.ends;
+    why = λ h. failed_for tries s s' kept wording (NameLookup.Events Count.All from) reads.calls (IsTrue s.plain) reads.listed failure (sym reads.is) (reads.page h).ends;
     pages = λ h. record { now = s'; kept = kept; walked = Err failure; reads = reads; pages = (refl, refl, refl) };
     prints = λ h same records end w ends_ walk end' w' ends' open_.
         let along = (reads.page h).along same records end w ends_ in
@@ -38,7 +38,7 @@ module _ (tries : ℕ) (s s' : Seen) (kept : Output) (wording : Wording) (from :
   }
 
   -- the pages came after the walk of the records
-  pub named_pages : FoundIsRow → RecordsAreFound → TailIsWalk → (walked : Walked)
+  pub named_pages : FoundIsRow → RecordsAreFound → TailIsWalk → (walked : RecordsEnd)
       → ReadsRecords tries (change s s' no_output kept) (Ok walked)
       → (s'' : Seen) (old new : Output) (ending : Ending)
       → s''.calls ≤ s'.calls + pages_made sizes * most_on_walk (entries_with wording (records_in kept.bytes)) tries
@@ -51,7 +51,7 @@ module _ (tries : ℕ) (s s' : Seen) (kept : Output) (wording : Wording) (from :
       let one : IsHonest s' → OneListing form (start_of from) tries sizes (change s' s'' old new) ending = λ h. pages_are_one tail form tries (start_of from) sizes s' s'' old new ending tt h (pages h) in
       record {
         calls = omega (arith, reads.calls, calls);
-        ends = then_ends wording (Named.Events Count.All from) s'' ending walked (entries_end wording (entries_in wording (records_in kept.bytes)) Count.All from s'' ending ends);
+        ends = then_ends wording (NameLookup.Events Count.All from) s'' ending walked (entries_end wording (entries_in wording (records_in kept.bytes)) Count.All from s'' ending ends);
         why = λ h.
             let ends_ = rw at_end at (reads.page h).ends in
             rw (then_for ending walked) (ends_since ends_ ends_.stays.plain (one ends_.stays.honest).ends);

@@ -10,7 +10,7 @@ use Rattle.ipmi_commands.specs.Output.{Output}
 use Rattle.ipmi_commands.proofs.CallLemmas.{calls_split}
 use Rattle.ipmi_commands.proofs.ItemLemmas.{after_items, leaves_joined, leaves_longer, row_items-split}
 use Rattle.ipmi_commands.proofs.PageLemmas.{calls_of_page, no_walk}
-use Rattle.ipmi_commands.proofs.SpotLemmas.{spots_at_walk_end-joined}
+use Rattle.ipmi_commands.proofs.PointLemmas.{points_at_walk_end-joined}
 use Rattle.ipmi_commands.proofs.CountLemmas.{between, ends_since}
 
 -- a listing in this form does not search for a name, so it ends as its walk does
@@ -60,7 +60,7 @@ module _ (walk_tail : TailIsWalk) where
     leaves_wide failure allowed =
         leaves_longer (IsPieceOver store) (plan_from form start (Some size) walk end) (plan_from form start None walk end)
         (row_items form (place_after_rows start (take size walk)) (drop size walk)) (row_items-split form start walk size)
-        (λ spot rest among. grind (arith, nat_tests, drop-nil, drop_all)) old new (Err failure) (cause_of (Err failure)) (λ at_end all. grind (arith, nat_tests, take_all, same_end)) allowed
+        (λ point rest among. grind (arith, nat_tests, drop-nil, drop_all)) old new (Err failure) (cause_of (Err failure)) (λ at_end all. grind (arith, nat_tests, take_all, same_end)) allowed
 
   -- ---- the rest of the listing, from where the next page begins
 
@@ -77,7 +77,7 @@ module _ (walk_tail : TailIsWalk) where
         let gone = no_walk rows start walk (rw empty.1 empty.2) w in
         rw (empty.0, gone, drop-nil size) (record { of_shelf = tt; distinct = tt; first = tt; links = tt }, grind (arith, rw (gone, empty.1) at ends))
 
-    -- its output is that of a listing from after the page; an empty shelf has one more spot, at its start
+    -- its output is that of a listing from after the page; an empty shelf has one more point, at its start
     from_next : (text new : Output) (ending : Ending) → GoesOn rows start (take size walk) next
         → IsAllowed (IsPieceOver store) (plan_from form next None (drop size walk) end) text new ending
         → IsAllowed (IsPieceOver store) (plan_from form (place_after_rows start (take size walk)) None
@@ -86,7 +86,7 @@ module _ (walk_tail : TailIsWalk) where
     from_next text new ending (inr empty) allowed =
         let gone = no_walk rows start walk (rw empty.1 empty.2) w in
         rw (gone, take-nil size, drop-nil size, empty.1)
-        (leaves_longer (IsPieceOver store) (plan_from form End None [] end) (plan_from form First None [] end) [] refl (λ spot rest among. grind arith) text new ending (cause_of ending) (λ at_end all. all) (rw (empty.0, gone, drop-nil size) at allowed))
+        (leaves_longer (IsPieceOver store) (plan_from form End None [] end) (plan_from form First None [] end) [] refl (λ point rest among. grind arith) text new ending (cause_of ending) (λ at_end all. all) (rw (empty.0, gone, drop-nil size) at allowed))
 
     -- so together with the page it is the whole listing
     leaves_of_rest : (old text new : Output) (ending : Ending) → NamesNone form
@@ -98,7 +98,7 @@ module _ (walk_tail : TailIsWalk) where
         let done = take size walk in
         let left = drop size walk in
         let whole : after_items (row_items form start done) (plan_from form (place_after_rows start done) None left end) ≡ plan_from form start None walk end =
-        cc (row_items-split form start walk size, same_end form left end none, same_end form walk end none, spots_at_walk_end-joined start done left end, take-append-drop size walk) in
+        cc (row_items-split form start walk size, same_end form left end none, same_end form walk end none, points_at_walk_end-joined start done left end, take-append-drop size walk) in
         subst (λ (q : Plan). IsAllowed (IsPieceOver store) q old new ending) whole
         (leaves_joined (IsPieceOver store) (row_items form start done) (plan_from form (place_after_rows start done) None left end) old text new ending (cause_of ending) printed (from_next text new ending goes allowed))
 

@@ -2,7 +2,7 @@
 use Rattle.std.proofs.Common.{◌≡◌, false, ℕ, ◌+◌, ◌≤◌, IsTrue, Option, None, Some, Result, Ok, Err, Vec, Global, List, [], ◌∷◌, ◌++◌, option_map, refl, arith}
 use Rattle.ipmi_commands.specs.Below.{Done, fru_call_bound, LastFailed, NotPresent, Sdr, Shelf, Place, First, Seen, IsHonest, Row, Store, info_of, WalkEnd, Ending, Failure}
 use Rattle.ipmi_commands.specs.Run.{EndsInfo, EndsInventory}
-use Rattle.ipmi_commands.specs.Prelude.{LacksInventory, LacksValue, AtEnd, AtRecord, cause_of, Change, change, ending_of, spots_at_walk_end, EndsFor, EndsListing, failure_of, Finds, Form, info_plan, inventories_plan, AtInventory, inventory_item, inventory_plan, most_on_walk, IsAllowed, IsAmong, IsInfoText, IsPage, IsPieceOver, IsTextWhile, Item, Job, Listing, listing, listing_plan, IsStopAmong, OfInfo, OfInventory, Plan, row_items, Runs, Spot, next_spots, Subject, text_plan, Unread, Wording, WritesPiece, shown}
+use Rattle.ipmi_commands.specs.Prelude.{LacksInventory, LacksValue, AtEnd, AtRecord, cause_of, Change, change, ending_of, points_at_walk_end, EndsFor, EndsListing, failure_of, Finds, Form, info_plan, inventories_plan, AtInventory, inventory_item, inventory_plan, most_on_walk, IsAllowed, IsAmong, IsInfoText, IsPage, IsPieceOver, IsTextWhile, Item, Job, Listing, listing, listing_plan, IsStopAmong, OfInfo, OfInventory, Plan, row_items, Runs, ReadPoint, next_points, Subject, text_plan, ReadError, Wording, WritesPiece, shown}
 use Rattle.ipmi_commands.specs.Output.{Output, piece_of}
 use Rattle.ipmi_commands.specs.declared.piece.Piece.{Piece}
 use Rattle.ipmi_commands.proofs.CountLemmas.{between, ends_as, ends_since}
@@ -30,13 +30,13 @@ page_runs l tries c result ends calls page = record {
 -- ---- writing a text
 
 -- the output, by the result of writing
-pub text_leaves : (IsText : Subject → Output → Type 0) (subject : Subject) (spots : List Spot)
+pub text_leaves : (IsText : Subject → Output → Type 0) (subject : Subject) (points : List ReadPoint)
     (old new text : Output) (ending : Ending) → IsText subject text
-    → WritesPiece text old new ending → IsAllowed IsText (text_plan subject spots) old new ending
-text_leaves IsText subject spots old new text (Ok done) is writes = (one_printed IsText (record { subject = subject; spots = spots }) text old new is writes, refl)
-text_leaves IsText subject spots old new text (Err Failure.WriteFault) is writes =
-    let p = text_plan subject spots in cut_after IsText p old old new (Err Failure.WriteFault) (no_items IsText p old old refl) _ [] text refl is writes.0 writes.1
-text_leaves IsText subject spots old new text (Err _) is writes = absurd writes
+    → WritesPiece text old new ending → IsAllowed IsText (text_plan subject points) old new ending
+text_leaves IsText subject points old new text (Ok done) is writes = (one_printed IsText (record { subject = subject; points = points }) text old new is writes, refl)
+text_leaves IsText subject points old new text (Err Failure.WriteFault) is writes =
+    let p = text_plan subject points in cut_after IsText p old old new (Err Failure.WriteFault) (no_items IsText p old old refl) _ [] text refl is writes.0 writes.1
+text_leaves IsText subject points old new text (Err _) is writes = absurd writes
 
 -- the reason for the ending is the result of writing
 text_ends : (tries : ℕ) (IsPlain : Type 0) (s s' : Seen) (text old new : Output) (ending : Ending)
@@ -46,7 +46,7 @@ text_ends tries IsPlain s s' text old new ending ends writes = grind (arith, end
 
 -- if the text was not found: given up or refused before anything is printed, or out of memory
 none_leaves : (IsText : Subject → Output → Type 0) (p : Plan) (text : Output) (ending : Ending)
-    → IsStopAmong (next_spots p.items p.end_spots) (cause_of ending) → IsAllowed IsText p text text ending
+    → IsStopAmong (next_points p.items p.end_points) (cause_of ending) → IsAllowed IsText p text text ending
 none_leaves IsText p text ending may = stops_after IsText p text text ending (cause_of ending) (no_items IsText p text text refl) may
 
 -- ---- the info of a shelf
@@ -59,17 +59,17 @@ info_leaves wording shelf store None text old new ending is writes = absurd is
 info_leaves wording shelf store (Some info) text old new ending is writes =
     text_leaves (IsPieceOver store) (OfInfo wording shelf info) (AtRecord 0 ∷ []) old new (piece_of text false) ending (record { is_text = is; counted = refl }) writes
 
-info_spots : (wording : Wording) (shelf : Shelf) (o : Option (List ℕ))
-    → next_spots (info_plan wording shelf o).items (info_plan wording shelf o).end_spots ≡ AtRecord 0 ∷ []
-info_spots wording shelf o = grind arith
+info_points : (wording : Wording) (shelf : Shelf) (o : Option (List ℕ))
+    → next_points (info_plan wording shelf o).items (info_plan wording shelf o).end_points ≡ AtRecord 0 ∷ []
+info_points wording shelf o = grind arith
 
-value_ends : (seen : Seen) (unread : Unread) → LacksValue unread seen
+value_ends : (seen : Seen) (unread : ReadError) → LacksValue unread seen
     → EndsInfo seen (Err (failure_of unread))
 value_ends seen unread says = grind arith
 
 -- the contract for each result of an info
 module _ (wording : Wording) (shelf : Shelf) (tries : ℕ) (s s' : Seen) (calls : s'.calls ≤ s.calls + (tries + 1)) where
-  abbrev FoundInfo : Result (Option (Vec ℕ Global)) Unread → Type 0
+  abbrev FoundInfo : Result (Option (Vec ℕ Global)) ReadError → Type 0
   FoundInfo result = IsHonest s → Finds (λ store found. IsInfoText wording shelf (info_of shelf store) (option_map (λ text. text.items) found)) (AtRecord 0 ∷ []) tries s s' result
 
   pub info_found : (old new : Output) (text : Vec ℕ Global) (ending : Ending)
@@ -108,22 +108,22 @@ module _ (wording : Wording) (shelf : Shelf) (tries : ℕ) (s s' : Seen) (calls 
       none_of store None is = (none_printed (IsPieceOver store) text text refl, refl)
       none_of store (Some info) is = absurd is
 
-  pub info_unread : (text : Output) (unread : Unread) → LacksValue unread s'
+  pub info_unread : (text : Output) (unread : ReadError) → LacksValue unread s'
       → FoundInfo (Err unread)
       → Runs (Job.Info wording shelf) tries (change s s' text text) (Err (failure_of unread))
   info_unread text unread says none = record {
     calls = calls;
     ends = value_ends s' unread says;
     why = λ h. (none h).asks.ends;
-    prints = λ h same. (none_leaves (IsPieceOver s.store) (info_plan wording shelf (info_of shelf s.store)) text (Err (failure_of unread)) (rw info_spots (none h).there), calls);
-    grows = λ h. none_leaves (IsTextWhile s s') (info_plan wording shelf (info_of shelf s'.store)) text (Err (failure_of unread)) (rw info_spots (none h).there);
+    prints = λ h same. (none_leaves (IsPieceOver s.store) (info_plan wording shelf (info_of shelf s.store)) text (Err (failure_of unread)) (rw info_points (none h).there), calls);
+    grows = λ h. none_leaves (IsTextWhile s s') (info_plan wording shelf (info_of shelf s'.store)) text (Err (failure_of unread)) (rw info_points (none h).there);
     traces = λ h. tt;
   }
 
 -- ---- one inventory
 
 module _ (wording : Wording) (id : ℕ) (name : Option (List ℕ)) (tries : ℕ) (s s' : Seen) (calls : s'.calls ≤ s.calls + fru_call_bound tries 65535) where
-  abbrev FoundInventory : Result Piece Unread → Type 0
+  abbrev FoundInventory : Result Piece ReadError → Type 0
   FoundInventory result = IsHonest s → Finds (λ store piece. IsPieceOver store (OfInventory wording id name) (shown piece)) (AtInventory id ∷ []) tries s s' result
 
   pub inventory_found : (old new : Output) (piece : Piece) (ending : Ending)
@@ -145,7 +145,7 @@ module _ (wording : Wording) (id : ℕ) (name : Option (List ℕ)) (tries : ℕ)
     traces = λ h. tt;
   }
 
-  pub inventory_unread : (text : Output) (unread : Unread) → LacksInventory unread s'
+  pub inventory_unread : (text : Output) (unread : ReadError) → LacksInventory unread s'
       → FoundInventory (Err unread)
       → Runs (Job.Inventory wording id name) tries (change s s' text text) (Err (failure_of unread))
   inventory_unread text unread says none = record {
@@ -170,9 +170,9 @@ first_leaves IsText wording name walk end old new failure allowed =
     leaves_longer IsText (inventory_plan wording 0 name) (inventories_plan wording name walk end) (row_items (Form.Device wording) First walk) refl there old new (Err failure) (cause_of (Err failure))
     (λ is all. cc all.1) allowed
   where
-    there : (spot : Spot) (rest : List Item) → IsAmong (next_spots rest []) spot
-        → IsAmong (next_spots (rest ++ row_items (Form.Device wording) First walk) (spots_at_walk_end First walk end)) spot
-    there spot rest among = grind arith
+    there : (point : ReadPoint) (rest : List Item) → IsAmong (next_points rest []) point
+        → IsAmong (next_points (rest ++ row_items (Form.Device wording) First walk) (points_at_walk_end First walk end)) point
+    there point rest among = grind arith
 
 pub first_run : (wording : Wording) (name : Option (List ℕ)) (tries : ℕ) (s s' : Seen) (old new : Output) (failure : Failure)
     → Runs (Job.Inventory wording 0 name) tries (change s s' old new) (Err failure)

@@ -1,7 +1,7 @@
 -- A run over an image, and rewriting an image.
 use Rattle.std.proofs.Common.{◌≡◌, ◌⊎◌, inl, inr, ℕ, ◌+◌, arith, false, IsTrue, Option, None, Some, Result, Ok, Err, List, [], refl, subst, sym, ap₂, ◌∙◌}
 use Rattle.ipmi_commands.specs.Below.{CommandState, Count, Failure, failure_of_image, ImageFault, Store, Seen, IsHonest, image_text_of, Ending, Task}
-use Rattle.ipmi_commands.specs.Prelude.{after_names, AnswersJob, bytes_of_rows, change, Form, IsAllowed, IsRewriting, IsPieceOver, Job, job_in, job_of, job_of_command, Named, no_output, OnBytes, OfImage, OnNamed, OnPlan, pieces_of, faults_of, Plan, printed, rewrite_plan, Runs, RunsCommand, RunsOver, walk_call_bound, Wording, WritesPiece}
+use Rattle.ipmi_commands.specs.Prelude.{after_names, AnswersJob, bytes_of_rows, change, Form, IsAllowed, IsRewriting, IsPieceOver, Job, job_in, job_of, job_of_command, NameLookup, no_output, OnBytes, OfImage, OnNamed, FollowsPlan, pieces_of, faults_of, Plan, printed, rewrite_plan, Runs, RunsCommand, RunsOver, walk_call_bound, Wording, WritesPiece}
 use Rattle.ipmi_commands.specs.Output.{Output, piece_of}
 use Rattle.ipmi_commands.specs.declared.summary.Summary.{Summary}
 use Rattle.ipmi_commands.proofs.NamedLemmas.{named_all}
@@ -12,7 +12,7 @@ use Rattle.ipmi_commands.proofs.PerformLemmas.{text_leaves}
 
 -- the job that was made of the command's task
 pub of_command : (command : CommandState) {task : Task} {from : Option ℕ} {found : Option Job}
-    → task ≡ command.task → from ≡ command.from → found ≡ job_in Wording.Codes task from
+    → task ≡ command.task → from ≡ command.from → found ≡ job_in Wording.Plain task from
     → job_of_command command ≡ found
 of_command command task_is from_is found_is = sym (found_is ∙ ap₂ job_of task_is from_is)
 
@@ -39,22 +39,22 @@ module _ (command : CommandState) (found : Option Job) (is : job_of_command comm
 -- ---- a run over an image
 
 -- a fact about the plan that does not depend on the tries
-named_kept : (Holds : Plan → Type 0) (wording : Wording) (records : List (List ℕ)) (named : Named) (tries : ℕ)
+named_kept : (Holds : Plan → Type 0) (wording : Wording) (records : List (List ℕ)) (named : NameLookup) (tries : ℕ)
     (store : Store) (More : Plan → ℕ → Type 0)
     → ((plan : Plan) (calls : ℕ) → More plan calls → Holds plan)
     → OnNamed wording records named tries store More
     → OnNamed wording records named 0 store (λ plan calls. Holds plan)
-named_kept Holds wording records (Named.Events Count.All from) tries store More keep on = λ walk end w ends. keep _ _ (on walk end w ends)
-named_kept Holds wording records (Named.Events (Count.First n) from) tries store More keep on = λ walk end w ends. keep _ _ (on walk end w ends)
-named_kept Holds wording records (Named.Events (Count.Last n) from) tries store More keep on = λ walk end w ends. keep _ _ (on walk end w ends)
-named_kept Holds wording records Named.Devices tries store More keep on = λ walk end w ends. keep _ _ (on walk end w ends)
+named_kept Holds wording records (NameLookup.Events Count.All from) tries store More keep on = λ walk end w ends. keep _ _ (on walk end w ends)
+named_kept Holds wording records (NameLookup.Events (Count.First n) from) tries store More keep on = λ walk end w ends. keep _ _ (on walk end w ends)
+named_kept Holds wording records (NameLookup.Events (Count.Last n) from) tries store More keep on = λ walk end w ends. keep _ _ (on walk end w ends)
+named_kept Holds wording records NameLookup.Devices tries store More keep on = λ walk end w ends. keep _ _ (on walk end w ends)
 
 plan_kept : (Holds : Plan → Type 0) (job : Job) (tries : ℕ) (store : Store) (More : Plan → ℕ → Type 0)
     → ((plan : Plan) (calls : ℕ) → More plan calls → Holds plan)
-    → OnPlan job tries store More → OnPlan job 0 store (λ plan calls. Holds plan)
+    → FollowsPlan job tries store More → FollowsPlan job 0 store (λ plan calls. Holds plan)
 plan_kept Holds (Job.Records l) tries store More keep on = λ walk end w ends. keep _ _ (on walk end w ends)
 plan_kept Holds (Job.Last entries n from) tries store More keep on = λ walk end w ends. keep _ _ (on walk end w ends)
-plan_kept Holds (Job.Named wording named) tries store More keep on = λ records end w ends.
+plan_kept Holds (Job.NameLookup wording named) tries store More keep on = λ records end w ends.
     named_kept (λ plan. Holds (after_names records end plan)) wording (bytes_of_rows records) named tries store
     (λ plan calls. More (after_names records end plan) (walk_call_bound Form.Bytes store tries records + calls))
     (λ plan calls more. keep _ _ more) (on records end w ends)
@@ -81,10 +81,10 @@ rewritten store old new ending writes = record { allowed = text_leaves (IsPieceO
 -- ---- an image that was not read
 
 plan_all : (Holds : Plan → Type 0) (job : Job) (store : Store) → ((plan : Plan) → Holds plan)
-    → OnPlan job 0 store (λ plan calls. Holds plan)
+    → FollowsPlan job 0 store (λ plan calls. Holds plan)
 plan_all Holds (Job.Records l) store holds = λ walk end w ends. holds _
 plan_all Holds (Job.Last entries n from) store holds = λ walk end w ends. holds _
-plan_all Holds (Job.Named wording named) store holds = λ records end w ends.
+plan_all Holds (Job.NameLookup wording named) store holds = λ records end w ends.
     named_all wording (bytes_of_rows records) 0 store (λ plan calls. Holds (after_names records end plan)) named (λ plan calls. holds _)
 plan_all Holds (Job.AllInventories wording name) store holds = λ walk end w ends. holds _
 plan_all Holds _ store holds = holds _

@@ -10,9 +10,9 @@ use Rattle.ipmi_bus.proofs.HeldLemmas.{held_at_last, held_in_first}
 use Rattle.ipmi_bus.proofs.StepsLaws.{steps_follow}
 use Rattle.ipmi_bus.proofs.WalkLemmas.{all_at_end}
 use Rattle.ipmi_commands.specs.Below.{AreSteps, cursor_after, CursorHoldsCurrent, CursorState, Done, CycleAt, MissingAt, End, Ended, EndsBy, Ending, Failure, First, first_row, handed_out, Id, IsHonest, IsLog, IsStep, IsWalk, last_next, OnGrowing, OnlyGrew, Place, place_after, place_after_rows, Reading, Row, rows_of, Sdr, SdrView, sdr_view_of, Seen, seen_after, Shelf, StandsAt, start_of, StaysHonest, StepIsHonest, Stepped, stays_refl, stays_trans, store_shelf, Store, WalkEnd, WalkStep, WasHeld, WasLog, with_handed}
-use Rattle.ipmi_commands.specs.Prelude.{AsksAt, AtEnd, Cause, cause_of, cause_of_unread, EndsFor, failure_of, FindsIt, FindsNone, Form, IsFresh, is_name, most_after, most_for_one, NoMemory, OnWalk, reading_for, reading_spots, shelf_of, Spot, Unread}
+use Rattle.ipmi_commands.specs.Prelude.{AsksAt, AtEnd, Cause, cause_of, cause_of_unread, EndsFor, failure_of, FindsIt, FindsNone, Form, IsFresh, is_name, most_after, most_for_one, NoMemory, OnWalk, reading_for, reading_points, shelf_of, ReadPoint, ReadError}
 use Rattle.ipmi_records.specs.Sdr.{name_of}
-use Rattle.ipmi_commands.specs.Sensors.{AddsNamed, AreFoundWhile, AreNamed, FindsAlong, FindsBy, FindsWhile, Found, found_among, found_by, found_of, found_of_result, found_spots, has_one_of, SearchCalls, Searches, SearchesBy, StopsAtResult, with_readings}
+use Rattle.ipmi_commands.specs.Sensors.{AddsNamed, AreFoundWhile, AreNamed, FindsAlong, FindsBy, FindsWhile, Found, found_among, found_by, found_of, found_of_result, found_points, has_one_of, SearchCalls, Searches, SearchesBy, StopsAtResult, with_readings}
 use Rattle.ipmi_commands.specs.Traced.{IsStopAmong, IsTraced, seen_next}
 use Rattle.ipmi_commands.specs.declared.limits.RequestLimits.{RequestLimits}
 use Rattle.ipmi_commands.proofs.AskLemmas.{asks_nothing, then_no_memory}
@@ -33,26 +33,26 @@ module _ (names : List (List ℕ)) (tries : ℕ) (row : Row) {view : SdrView} (i
 
   -- nothing, as it has none of the names
   pub none_named : (s : Seen) (found : List Found) → one ≡ false → IsHonest s
-      → FindsIt (λ store. found ≡ found ++ found_of names store row) (found_spots names row) tries s s
+      → FindsIt (λ store. found ≡ found ++ found_of names store row) (found_points names row) tries s s
   none_named s found none honest = record {
-    asks = asks_nothing (found_spots names row) tries s honest;
+    asks = asks_nothing (found_points names row) tries s honest;
     is = λ keeps. rw (whether ∙ none) (sym (append-nil found));
   }
 
   module _ (named : one ≡ true) where
-    spots_are : found_spots names row ≡ reading_spots row.id (Ok view)
-    spots_are = rw (whether ∙ named, is) refl
+    points_are : found_points names row ≡ reading_points row.id (Ok view)
+    points_are = rw (whether ∙ named, is) refl
 
     -- its reading was not found
-    pub named_lost : {s s' : Seen} {cause : Cause} → FindsNone (reading_spots row.id (Ok view)) tries s s' cause
-        → FindsNone (found_spots names row) tries s s' cause
-    named_lost none = rw spots_are none
+    pub named_lost : {s s' : Seen} {cause : Cause} → FindsNone (reading_points row.id (Ok view)) tries s s' cause
+        → FindsNone (found_points names row) tries s s' cause
+    named_lost none = rw points_are none
 
     -- its reading was found, but there is no memory for it
     pub named_unkept : {reading : Option Reading} {s s' : Seen}
-        → FindsIt (λ store. reading ≡ reading_for store view) (reading_spots row.id (Ok view)) tries s s'
-        → FindsNone (found_spots names row) tries s s' NoMemory
-    named_unkept found = rw spots_are (then_no_memory found.asks)
+        → FindsIt (λ store. reading ≡ reading_for store view) (reading_points row.id (Ok view)) tries s s'
+        → FindsNone (found_points names row) tries s s' NoMemory
+    named_unkept found = rw points_are (then_no_memory found.asks)
 
     pub named_added : (reading : Option Reading) (old new : List Found)
         → new ≡ old ++ record { id = row.id; bytes = row.bytes; reading = reading } ∷ [] → AddsNamed names old new
@@ -60,12 +60,12 @@ module _ (names : List (List ℕ)) (tries : ℕ) (row : Row) {view : SdrView} (i
 
     -- the row with its reading
     pub named_found : {reading : Option Reading} {s s' : Seen} (old new : List Found)
-        → FindsIt (λ store. reading ≡ reading_for store view) (reading_spots row.id (Ok view)) tries s s'
+        → FindsIt (λ store. reading ≡ reading_for store view) (reading_points row.id (Ok view)) tries s s'
         → new ≡ old ++ record { id = row.id; bytes = row.bytes; reading = reading } ∷ []
-        → FindsIt (λ store. new ≡ old ++ found_of names store row) (found_spots names row) tries s s'
+        → FindsIt (λ store. new ≡ old ++ found_of names store row) (found_points names row) tries s s'
     named_found old new found kept = record {
-      asks = rw spots_are found.asks;
-      is = λ keeps. rw (whether ∙ named, is) (kept ∙ ap (λ (r : Option Reading). old ++ record { id = row.id; bytes = row.bytes; reading = r } ∷ []) (found.is (rw spots_are at keeps)));
+      asks = rw points_are found.asks;
+      is = λ keeps. rw (whether ∙ named, is) (kept ∙ ap (λ (r : Option Reading). old ++ record { id = row.id; bytes = row.bytes; reading = r } ∷ []) (found.is (rw points_are at keeps)));
     }
 
 -- ---- over any controller
@@ -215,13 +215,13 @@ module _ {names : List (List ℕ)} {tries : ℕ} {begun now : CursorState} {s s'
     pub lost_calls : SearchCalls tries begun s last
     lost_calls = λ some. (called_stopped (most_for_one with_readings tries) (kept.count + 1) None begun next s last (Err Failure.OutOfMemory) more_called).all some
 
-    row_ends : {cause : Cause} → (h : IsHonest s) → AsksAt (found_spots names row) tries s'' last cause
+    row_ends : {cause : Cause} → (h : IsHonest s) → AsksAt (found_points names row) tries s'' last cause
         → EndsFor tries (IsTrue s.plain × CursorHoldsCurrent begun s) s last cause
     row_ends h asks = ends_since (all_ends step h) (λ p. (all_ends step h).stays.plain p.0) asks.ends
 
     -- its reading was not found
-    pub search_lost : (unread : Unread)
-        → (IsHonest s'' → FindsNone (found_spots names row) tries s'' last (cause_of_unread unread))
+    pub search_lost : (unread : ReadError)
+        → (IsHonest s'' → FindsNone (found_points names row) tries s'' last (cause_of_unread unread))
         → IsHonest s → SearchesBy names tries begun next s last old new (Err (failure_of unread))
     search_lost unread none h =
         let lost = none (honest_step step h).stays.honest in record {
@@ -235,7 +235,7 @@ module _ {names : List (List ℕ)} {tries : ℕ} {begun now : CursorState} {s s'
 
     -- it was searched
     pub search_more : (more : List Found)
-        → (IsHonest s'' → FindsIt (λ store. more ≡ new ++ found_of names store row) (found_spots names row) tries s'' last)
+        → (IsHonest s'' → FindsIt (λ store. more ≡ new ++ found_of names store row) (found_points names row) tries s'' last)
         → Searching names tries begun next s last old more
     search_more more finds = record {
       shelf = step.same.shelf ∙ kept.shelf;
@@ -251,7 +251,7 @@ module _ {names : List (List ℕ)} {tries : ℕ} {begun now : CursorState} {s s'
                 record { held = λ n is. current-kept next.shelf s'' last (found.asks.keeps (ends.stays.plain p)) ∙ on.held n is };
             steps = all_steps step h;
             traced = all_traced step h last found.asks.ends.stays;
-            found = all_found step h last more (found.is (if_keeps (has_one_of names (sdr_view_of row.bytes)) (reading_spots row.id (sdr_view_of row.bytes)) s'' last (reading_keeps row.id (sdr_view_of row.bytes) s'' last)));
+            found = all_found step h last more (found.is (if_keeps (has_one_of names (sdr_view_of row.bytes)) (reading_points row.id (sdr_view_of row.bytes)) s'' last (reading_keeps row.id (sdr_view_of row.bytes) s'' last)));
           };
     }
 
@@ -353,16 +353,16 @@ module _ (names : List (List ℕ)) (begun now : CursorState) (s s' : Seen) (old 
   along_ended k c next (Ended.Malformed n) at found = (k, found)
 
   -- a reading that was not found
-  along_lost : (k : ℕ) (spots : List Spot) (failure : Failure) → IsStopAmong spots (cause_of (Err failure))
+  along_lost : (k : ℕ) (points : List ReadPoint) (failure : Failure) → IsStopAmong points (cause_of (Err failure))
       → new ≡ old ++ found_among names s.store (take k walk) → Along (Err failure)
-  along_lost k spots (Failure.Ended (Ended.Cycle n)) there found = absurd there
-  along_lost k spots (Failure.Ended (Ended.Missing n)) there found = absurd there
-  along_lost k spots _ there found = (k, found)
+  along_lost k points (Failure.Ended (Ended.Cycle n)) there found = absurd there
+  along_lost k points (Failure.Ended (Ended.Missing n)) there found = absurd there
+  along_lost k points _ there found = (k, found)
 
   along_stopped : (k : ℕ) (c next : CursorState) (result : Result (Option Row) Ended) (failure : Failure)
       → WalkStep (rows_of begun.shelf s.store) start walk end k c next result → StopsAtResult names result failure
       → new ≡ old ++ found_among names s.store (take k walk) → Along (Err failure)
-  along_stopped k c next (Ok (Some row)) failure at stops found = along_lost k (found_spots names row) failure stops found
+  along_stopped k c next (Ok (Some row)) failure at stops found = along_lost k (found_points names row) failure stops found
   along_stopped k c next (Ok None) failure at stops found = absurd stops
   along_stopped k c next (Err ended) failure at stops found =
       subst (λ (f : Failure). Along (Err f)) (sym stops) (along_ended k c next ended at found)

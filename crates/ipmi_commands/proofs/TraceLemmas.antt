@@ -2,7 +2,7 @@
 use Rattle.std.proofs.Common.{◌≡◌, ℕ, ◌+◌, ◌<◌, Bool, true, false, Option, None, Some, Result, Ok, Err, List, [], ◌∷◌, ◌++◌, inl, inr, length, refl, sym, ap, subst, ◌∙◌, arith, append-nil, length-append}
 use Rattle.ipmi_commands.specs.Below.{AreSteps, cursor_after, CursorState, Ended, Failure, handed_out, IsHonest, IsStep, Row, Seen, seen_after, StaysHonest, Stepped, stays_refl, with_handed}
 use Rattle.ipmi_commands.specs.Traced.{AreTextsOfSteps, IsListed, IsStopAmong, IsTextAfter, IsTextOfResult, IsTraced, IsWithin, PrintsSteps, ReturnsLast, seen_next, TracesListing}
-use Rattle.ipmi_commands.specs.Prelude.{cause_of_unread, Change, change, end_of, failure_of, Form, spots_because_of, Unread}
+use Rattle.ipmi_commands.specs.Prelude.{cause_of_unread, Change, change, end_of, failure_of, Form, points_because_of, ReadError}
 use Rattle.ipmi_commands.specs.Output.{and_then, IsCut, no_output, Output}
 use Rattle.ipmi_commands.proofs.NameLemmas.{Wrote}
 use Rattle.ipmi_commands.proofs.OutputLemmas.{nothing_then, then_assoc, then_nothing}
@@ -175,8 +175,8 @@ module _ {form : Form} {count : ℕ} {begun now : CursorState} {s s' : Seen} {ol
   returns_last within = record { are = refl; returned = refl; within = subst (IsWithin most) count_more within }
 
   -- its text was not found
-  pub traced_lost : IsWithin most (count + 1) → (unread : Unread)
-      → IsStopAmong (spots_because_of form row) (cause_of_unread unread)
+  pub traced_lost : IsWithin most (count + 1) → (unread : ReadError)
+      → IsStopAmong (points_because_of form row) (cause_of_unread unread)
       → TracesListing form most begun next (change s last old new) (Err (failure_of unread))
   traced_lost within unread there = record {
     steps = all_steps t step;

@@ -3,7 +3,7 @@ use Rattle.std.proofs.Common.{◌≡◌, ℕ, zero, suc, ◌-◌, Bool, Option, 
 use Rattle.ipmi_commands.specs.Below.{Count, IsStore, WalkEnd, Shelf, Sdr, Sel, Place, First, start_of, Row, IsShelf, FoundIsRow, AreBytes, Reading, Store, info_of, rows_of, store_shelf, AllOf, WalkExists, place_after, place_after_rows, IsFruLine, IsFruText, SdrFault, SdrView, IsInfoBlock, IsSdrBlock, entry_bytes, sdr_view_of, SelView, sel_view_of, SdrLineIsUnique, ExtendedLineIsUnique, SelLineIsUnique, SelBlockIsUnique, EventInWordsIsUnique, SensorBlockIsUnique, SensorLineIsUnique, Ending}
 use Rattle.ipmi_json.specs.Sdr.{bytes_members, fault_members}
 use Rattle.ipmi_json.specs.Laws.{DeviceLineIsUnique, EntryLineIsUnique, InfoLineIsUnique, ObjectLineIsUnique, RecordLineIsUnique}
-use Rattle.ipmi_commands.specs.Prelude.{after_names, bytes_of_rows, Named, OnNamed, PrintsAll, AreOfBytes, Detail, Entries, entries_in, first_rows, FinishedRunsAreOne, Form, IfChosen, info_plan, Printed, IsBlockIn, IsBlockOfName, IsEntryLine, IsInfoIn, IsInventoryIn, IsInventoryText, IsLocatorPiece, IsOfBytes, IsRecordLine, IsRowText, IsTextOver, IsPieceOver, is_faulty, Item, ItemsHaveOneText, Job, last_items, last_rows, reading_for, row_items, shelf_of, Spot, spots_of_walk, Subject, with_first_spots, Wording}
+use Rattle.ipmi_commands.specs.Prelude.{after_names, bytes_of_rows, NameLookup, OnNamed, PrintsAll, AreOfBytes, Detail, Entries, entries_in, first_rows, FinishedRunsAreOne, Form, IfChosen, info_plan, Printed, IsBlockIn, IsBlockOfName, IsEntryLine, IsInfoIn, IsInventoryIn, IsInventoryText, IsLocatorPiece, IsOfBytes, IsRecordLine, IsRowText, IsTextOver, IsPieceOver, is_faulty, Item, ItemsHaveOneText, Job, last_items, last_rows, reading_for, row_items, shelf_of, ReadPoint, points_of_walk, Subject, with_first_points, Wording}
 use Rattle.ipmi_commands.specs.Output.{Output, piece_of}
 
 -- there is at most one such text
@@ -38,9 +38,9 @@ module _ (one_sdr_line : SdrLineIsUnique) (one_extended_line : ExtendedLineIsUni
 
   one_inventory : (wording : Wording) (id : ℕ) (name inventory : Option (List ℕ))
       → IsOne (IsInventoryIn wording id name inventory)
-  one_inventory Wording.Codes id name inventory a b x y =
+  one_inventory Wording.Plain id name inventory a b x y =
       x.text_is ∙ rw (one_inventory_text inventory x.part y.part x.is_part y.is_part) (sym y.text_is)
-  one_inventory Wording.Words id name inventory a b x y = one_fru_line id name inventory a b x y
+  one_inventory Wording.Descriptive id name inventory a b x y = one_fru_line id name inventory a b x y
   one_inventory (Wording.Json labels) id name inventory a b x y = one_device id name inventory labels.now a b x y
 
   one_locator : (wording : Wording) (store : Store) (view : Result SdrView SdrFault)
@@ -51,17 +51,17 @@ module _ (one_sdr_line : SdrLineIsUnique) (one_extended_line : ExtendedLineIsUni
       → IsOne (IsRecordLine detail store row view)
   one_line Detail.Short store row (Ok view) a b x y = one_sdr_line view (reading_for store view) a b x y
   one_line Detail.Extended store row (Ok view) a b x y = one_extended_line view (reading_for store view) a b x y
-  one_line Detail.Words store row (Ok view) a b x y = one_sensor_line view (reading_for store view) a b x y
+  one_line Detail.Descriptive store row (Ok view) a b x y = one_sensor_line view (reading_for store view) a b x y
   one_line (Detail.Json labels) store row (Ok view) a b x y = one_record row.id view (reading_for store view) labels.now a b x y
   one_line Detail.Short store row (Err fault) a b x y = x ∙ sym y
   one_line Detail.Extended store row (Err fault) a b x y = x ∙ sym y
-  one_line Detail.Words store row (Err fault) a b x y = x ∙ sym y
+  one_line Detail.Descriptive store row (Err fault) a b x y = x ∙ sym y
   one_line (Detail.Json labels) store row (Err fault) a b x y = one_object (fault_members row.id fault row.bytes) labels.now a b x y
 
   one_block : (wording : Wording) (id : ℕ) (view : SdrView) (reading : Option Reading)
       → IsOne (IsBlockIn wording id view reading)
-  one_block Wording.Codes id view reading a b x y = one_sdr_block id view reading a b x y
-  one_block Wording.Words id view reading a b x y = one_sensor_block id view reading a b x y
+  one_block Wording.Plain id view reading a b x y = one_sdr_block id view reading a b x y
+  one_block Wording.Descriptive id view reading a b x y = one_sensor_block id view reading a b x y
   one_block (Wording.Json labels) id view reading a b x y = one_record id view reading labels.now a b x y
 
   one_block_of_name : (wording : Wording) (name : List ℕ) (store : Store) (id : ℕ) (view : Result SdrView SdrFault)
@@ -72,8 +72,8 @@ module _ (one_sdr_line : SdrLineIsUnique) (one_extended_line : ExtendedLineIsUni
 
   one_entry_line : (entries : Entries) (id : ℕ) (view : SelView) → AreBytes (entry_bytes view)
       → IsOne (IsEntryLine entries id view)
-  one_entry_line Entries.Codes id view are a b x y = one_sel_line id view a b are x y
-  one_entry_line (Entries.Words sensors) id view are a b x y = one_event_in_words id view sensors a b are x y
+  one_entry_line Entries.Plain id view are a b x y = one_sel_line id view a b are x y
+  one_entry_line (Entries.Descriptive sensors) id view are a b x y = one_event_in_words id view sensors a b are x y
   one_entry_line (Entries.Json sensors labels) id view are a b x y = one_entry id view (Some sensors) labels.now a b are x y
 
   one_row : (form : Form) (store : Store) (row : Row) → AreBytes row.bytes
@@ -88,7 +88,7 @@ module _ (one_sdr_line : SdrLineIsUnique) (one_extended_line : ExtendedLineIsUni
   one_row (Form.EntryLine entries) store row are a b x y =
       one_entry_line entries row.id (sel_view_of row.bytes) (entry_are_bytes row.bytes are) a b x y
   one_row Form.EntryBlock store row are a b x y = one_sel_block row.id (sel_view_of row.bytes) a b (entry_are_bytes row.bytes are) x y
-  one_row Form.Passed store row are a b x y = x ∙ sym y
+  one_row Form.Skipped store row are a b x y = x ∙ sym y
 
   one_info_text : (wording : Wording) (shelf : Shelf) (info : List ℕ) → AreBytes info
       → IsOne (IsInfoIn wording shelf info)
@@ -123,9 +123,9 @@ parts_of_shelf zero rows walk all = (tt, all)
 parts_of_shelf (suc n) rows [] all = (tt, tt)
 parts_of_shelf (suc n) rows (row ∷ walk) all = let parts = parts_of_shelf n rows walk all.1 in ((all.0, parts.0), parts.1)
 
-first_kept : (spots : List Spot) (items : List Item) → AreOfBytes items
-    → AreOfBytes (with_first_spots spots items)
-first_kept spots items are = grind arith
+first_kept : (points : List ReadPoint) (items : List Item) → AreOfBytes items
+    → AreOfBytes (with_first_points points items)
+first_kept points items are = grind arith
 
 -- ---- at most one output
 
@@ -137,26 +137,26 @@ module _ (one : ItemsHaveOneText) (exists : WalkExists) (look_row : FoundIsRow) 
       (x.0.new_is ∙ rw (one store items x.0.text y.0.text bytes x.0.are y.0.are) (sym y.0.new_is), x.1 ∙ sym y.1)
 
   -- after reading the names
-  one_named : (store : Store) (old a b : Output) (e f : Ending) (wording : Wording) (records : List (List ℕ)) (named : Named)
+  one_named : (store : Store) (old a b : Output) (e f : Ending) (wording : Wording) (records : List (List ℕ)) (named : NameLookup)
       (tries tries' : ℕ) (rows : List Row) (end : WalkEnd) → IsStore store
       → OnNamed wording records named tries store (λ plan calls. PrintsAll (IsPieceOver store) (after_names rows end plan) old a e)
       → OnNamed wording records named tries' store (λ plan calls. PrintsAll (IsPieceOver store) (after_names rows end plan) old b f)
       → (a ≡ b) × (e ≡ f)
-  one_named store old a b e f wording records (Named.Events Count.All from) tries tries' rows end ok x y =
+  one_named store old a b e f wording records (NameLookup.Events Count.All from) tries tries' rows end ok x y =
       let there = exists Sel store.sel (start_of from) ok.sel in
       one_plan store (first_kept _ _ (rows_are_bytes look_row (Form.EntryLine (entries_in wording records)) Sel store.sel (start_of from) there.0 ok.sel there.2.of_shelf))
       (x there.0 there.1 there.2 there.3) (y there.0 there.1 there.2 there.3)
-  one_named store old a b e f wording records (Named.Events (Count.First n) from) tries tries' rows end ok x y =
+  one_named store old a b e f wording records (NameLookup.Events (Count.First n) from) tries tries' rows end ok x y =
       let there = exists Sel store.sel (start_of from) ok.sel in
       one_plan store (first_kept _ _ (rows_are_bytes look_row (Form.EntryLine (entries_in wording records)) Sel store.sel (start_of from) (take n there.0) ok.sel (parts_of_shelf n store.sel there.0 there.2.of_shelf).0))
       (x there.0 there.1 there.2 there.3) (y there.0 there.1 there.2 there.3)
-  one_named store old a b e f wording records (Named.Events (Count.Last n) from) tries tries' rows end ok x y =
+  one_named store old a b e f wording records (NameLookup.Events (Count.Last n) from) tries tries' rows end ok x y =
       let start = start_of from in
       let there = exists Sel store.sel start ok.sel in
-      one_plan store (first_kept _ _ (first_kept (spots_of_walk start there.0 there.1) (last_items (entries_in wording records) n start there.0 there.1)
+      one_plan store (first_kept _ _ (first_kept (points_of_walk start there.0 there.1) (last_items (entries_in wording records) n start there.0 there.1)
       (rows_are_bytes look_row (Form.EntryLine (entries_in wording records)) Sel store.sel (place_after_rows start (take (length there.0 - n) there.0)) (last_rows n there.0 there.1) ok.sel (grind (arith, parts_of_shelf (length there.0 - n) store.sel there.0 there.2.of_shelf)))))
       (x there.0 there.1 there.2 there.3) (y there.0 there.1 there.2 there.3)
-  one_named store old a b e f wording records Named.Devices tries tries' rows end ok x y =
+  one_named store old a b e f wording records NameLookup.Devices tries tries' rows end ok x y =
       let there = exists Sdr store.sdr First ok.sdr in
       one_plan store (tt, rows_are_bytes look_row (Form.Device wording) Sdr store.sdr First there.0 ok.sdr there.2.of_shelf)
       (x there.0 there.1 there.2 there.3) (y there.0 there.1 there.2 there.3)
@@ -171,10 +171,10 @@ module _ (one : ItemsHaveOneText) (exists : WalkExists) (look_row : FoundIsRow) 
   one_output (Job.Last entries n from) tries tries' store old a b e f ok x y =
       let start = start_of from in
       let there = exists Sel store.sel start ok.sel in
-      one_plan store (first_kept (spots_of_walk start there.0 there.1) (last_items entries n start there.0 there.1)
+      one_plan store (first_kept (points_of_walk start there.0 there.1) (last_items entries n start there.0 there.1)
       (rows_are_bytes look_row (Form.EntryLine entries) Sel store.sel (place_after_rows start (take (length there.0 - n) there.0)) (last_rows n there.0 there.1) ok.sel (grind (arith, parts_of_shelf (length there.0 - n) store.sel there.0 there.2.of_shelf))))
       (x there.0 there.1 there.2 there.3) (y there.0 there.1 there.2 there.3)
-  one_output (Job.Named wording named) tries tries' store old a b e f ok x y =
+  one_output (Job.NameLookup wording named) tries tries' store old a b e f ok x y =
       let there = exists Sdr store.sdr First ok.sdr in
       one_named store old a b e f wording (bytes_of_rows there.0) named tries tries' there.0 there.1 ok
       (x there.0 there.1 there.2 there.3) (y there.0 there.1 there.2 there.3)

@@ -5,7 +5,7 @@ use Rattle.std.specs.Prelude.{◌≡◌, ℕ, ◌+◌, ◌<◌, ◌≤◌, Resul
 use Rattle.ipmi_commands.specs.Below.{Ended, FruEnded, ImageFault, inventory_of, Keeps, Seen, StaysHonest, Ending, Failure}
 use Rattle.ipmi_commands.specs.Output.{and_then, IsCut, no_output, Output}
 use Rattle.ipmi_commands.specs.Texts.{Subject}
-use Rattle.ipmi_commands.specs.Plan.{Spot, AtRecord, AtInventory, Item, Plan, next_spots}
+use Rattle.ipmi_commands.specs.Plan.{ReadPoint, AtRecord, AtInventory, Item, Plan, next_points}
 
 -- ---- texts, given a relation between a subject and its texts
 
@@ -38,13 +38,13 @@ ending_of (Ok value) = Ok tt
 ending_of (Err failure) = Err failure
 
 -- `AtEnd`: the end of the plan, which is a success, or a failure due to the store or the command.
--- `GaveUp` and `Refused`: at this spot, and with this code. `NoMemory`: out of memory. `NoOutput`:
+-- `GaveUp` and `Refused`: at this point, and with this code. `NoMemory`: out of memory. `NoOutput`:
 -- the output accepted no more bytes. `Dishonest`: the controller gave an answer that no honest one
 -- gives.
 pub data Cause : Type 0 where
   AtEnd : Cause
-  GaveUp : Spot → Cause
-  Refused : Spot → ℕ → Cause
+  GaveUp : ReadPoint → Cause
+  Refused : ReadPoint → ℕ → Cause
   NoMemory : Cause
   NoOutput : Cause
   Dishonest : Cause
@@ -66,9 +66,9 @@ cause_of _ = AtEnd
 
 -- ---- what is in the output
 
-abbrev pub IsAmong : List Spot → Spot → Type 0
-IsAmong [] spot = ⊥
-IsAmong (first ∷ spots) spot = (spot ≡ first) ⊎ IsAmong spots spot
+abbrev pub IsAmong : List ReadPoint → ReadPoint → Type 0
+IsAmong [] point = ⊥
+IsAmong (first ∷ points) point = (point ≡ first) ⊎ IsAmong points point
 
 -- texts of the first items were printed, and nothing else
 pub record HasFirstItems (IsText : Subject → Output → Type 0) (plan : Plan)
@@ -78,12 +78,12 @@ pub record HasFirstItems (IsText : Subject → Output → Type 0) (plan : Plan)
   pub items_are : plan.items ≡ done ++ rest
   pub printed : Printed IsText done old new
 
--- texts of the first items were printed, and the run stopped at a spot of the next item, or of the
+-- texts of the first items were printed, and the run stopped at a point of the next item, or of the
 -- end
-pub record StopsAt (spot : Spot) (IsText : Subject → Output → Type 0) (plan : Plan)
+pub record StopsAt (point : ReadPoint) (IsText : Subject → Output → Type 0) (plan : Plan)
     (old new : Output) : Type 0 where
   pub first : HasFirstItems IsText plan old new
-  pub there : IsAmong (next_spots first.rest plan.end_spots) spot
+  pub there : IsAmong (next_points first.rest plan.end_points) point
 
 -- texts of the first items were printed, then a prefix of a nonempty text of the next item; the
 -- prefix may be empty or the whole text
@@ -106,8 +106,8 @@ PrintsAll IsText plan old new ending = Printed IsText plan.items old new × (end
 -- the possible outputs for each cause
 abbrev pub Leaves : (Subject → Output → Type 0) → Plan → Output → Output → Ending → Cause → Type 0
 Leaves IsText plan old new ending AtEnd = PrintsAll IsText plan old new ending
-Leaves IsText plan old new ending (GaveUp spot) = StopsAt spot IsText plan old new
-Leaves IsText plan old new ending (Refused spot code) = StopsAt spot IsText plan old new
+Leaves IsText plan old new ending (GaveUp point) = StopsAt point IsText plan old new
+Leaves IsText plan old new ending (Refused point code) = StopsAt point IsText plan old new
 Leaves IsText plan old new ending NoMemory = HasFirstItems IsText plan old new
 Leaves IsText plan old new ending NoOutput = HasCutItem IsText plan old new
 Leaves IsText plan old new ending Dishonest = ⊥
@@ -119,7 +119,7 @@ IsAllowed IsText plan old new ending = Leaves IsText plan old new ending (cause_
 
 -- giving up takes more than `tries` troubles since something was last finished; at an inventory that
 -- changed, at least one: a shorter inventory may have been finished in between
-abbrev pub HasFreshTroubles : ℕ → Seen → Seen → Spot → Type 0
+abbrev pub HasFreshTroubles : ℕ → Seen → Seen → ReadPoint → Type 0
 HasFreshTroubles tries s s' (AtRecord n) = tries < s'.fresh_troubles
 HasFreshTroubles tries s s' (AtInventory id) =
     (0 < s'.fresh_troubles) × (Keeps (inventory_of id) s s' → tries < s'.fresh_troubles)
@@ -128,18 +128,18 @@ HasFreshTroubles tries s s' (AtInventory id) =
 -- last finished. `Refused`: one refusal, with this code. `Dishonest`: impossible. Otherwise no
 -- refusal.
 abbrev pub CountsSo : ℕ → Seen → Seen → Cause → Type 0
-CountsSo tries s s' (GaveUp spot) =
+CountsSo tries s s' (GaveUp point) =
     (s'.refusals ≡ s.refusals) × (s.troubles + tries < s'.troubles)
-    × HasFreshTroubles tries s s' spot
-CountsSo tries s s' (Refused spot code) = (s'.refusals ≡ s.refusals + 1) × (s'.last_code ≡ code)
+    × HasFreshTroubles tries s s' point
+CountsSo tries s s' (Refused point code) = (s'.refusals ≡ s.refusals + 1) × (s'.last_code ≡ code)
 CountsSo tries s s' Dishonest = ⊥
 CountsSo tries s s' _ = s'.refusals ≡ s.refusals
 
 -- the run neither gave up nor was refused; a plain controller, which cancels nothing and is never
 -- busy, causes neither
 abbrev pub IsFine : Cause → Type 0
-IsFine (GaveUp spot) = ⊥
-IsFine (Refused spot code) = ⊥
+IsFine (GaveUp point) = ⊥
+IsFine (Refused point code) = ⊥
 IsFine _ = Unit {0}
 
 -- why a run over an honest controller ended: the controller stays honest, and its counts agree with

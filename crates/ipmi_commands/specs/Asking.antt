@@ -6,11 +6,11 @@ use Rattle.ipmi_commands.specs.declared.job.Form.{Form}
 use Rattle.ipmi_commands.specs.declared.job.Wording.{Wording}
 use Rattle.ipmi_commands.specs.declared.piece.Piece.{Piece}
 use Rattle.ipmi_commands.specs.declared.piece.RowText.{RowText}
-use Rattle.ipmi_commands.specs.declared.unread.Unread.{Unread}
+use Rattle.ipmi_commands.specs.declared.read_error.ReadError.{ReadError}
 use Rattle.ipmi_commands.specs.Allowed.{AtEnd, Cause, cause_of, EndsFor}
-use Rattle.ipmi_commands.specs.Calls.{calls_for_spots}
+use Rattle.ipmi_commands.specs.Calls.{calls_for_points}
 use Rattle.ipmi_commands.specs.Meanwhile.{KeepsAt}
-use Rattle.ipmi_commands.specs.Plan.{Spot}
+use Rattle.ipmi_commands.specs.Plan.{ReadPoint}
 use Rattle.ipmi_commands.specs.Run.{LacksValue}
 use Rattle.ipmi_commands.specs.Output.{Output, piece_of}
 use Rattle.ipmi_commands.specs.Texts.{IsDevicePiece, IsInfoIn, is_faulty_there}
@@ -18,38 +18,38 @@ use Rattle.ipmi_commands.specs.Traced.{IsStopAmong}
 
 -- ---- found, or not
 
--- what holds over an honest controller after requests at these spots that end with this cause
-pub record AsksAt (spots : List Spot) (tries : ℕ) (s s' : Seen) (cause : Cause) : Type 0 where
+-- what holds over an honest controller after requests at these points that end with this cause
+pub record AsksAt (points : List ReadPoint) (tries : ℕ) (s s' : Seen) (cause : Cause) : Type 0 where
   pub ends : EndsFor tries (IsTrue s.plain) s s' cause
-  pub calls : KeepsAt spots s s' → s'.calls ≤ s.calls + calls_for_spots tries s.store spots
+  pub calls : KeepsAt points s s' → s'.calls ≤ s.calls + calls_for_points tries s.store points
   pub keeps : IsTrue s.plain → KeepsReservations s s'
 
 -- the value is found, as the store has it now, and the run continues; if an inventory changed while it
 -- was read, any value
-pub record FindsIt (Is : Store → Type 0) (spots : List Spot) (tries : ℕ)
+pub record FindsIt (Is : Store → Type 0) (points : List ReadPoint) (tries : ℕ)
     (s s' : Seen) : Type 0 where
-  pub asks : AsksAt spots tries s s' AtEnd
-  pub is : KeepsAt spots s s' → Is s'.store
+  pub asks : AsksAt points tries s s' AtEnd
+  pub is : KeepsAt points s s' → Is s'.store
 
 -- the failure of a run that ends for this reason
-abbrev pub failure_of : Unread → Failure
-failure_of (Unread.Ended ended) = Failure.Ended ended
-failure_of (Unread.Inventory id ended) = Failure.Inventory id ended
-failure_of Unread.Memory = Failure.OutOfMemory
+abbrev pub failure_of : ReadError → Failure
+failure_of (ReadError.Ended ended) = Failure.Ended ended
+failure_of (ReadError.Inventory id ended) = Failure.Inventory id ended
+failure_of ReadError.Memory = Failure.OutOfMemory
 
-abbrev pub cause_of_unread : Unread → Cause
+abbrev pub cause_of_unread : ReadError → Cause
 cause_of_unread unread = cause_of (Err (failure_of unread))
 
 -- the value is not found; the run ends with this cause
-pub record FindsNone (spots : List Spot) (tries : ℕ) (s s' : Seen) (cause : Cause) : Type 0 where
-  pub asks : AsksAt spots tries s s' cause
-  pub there : IsStopAmong spots cause
+pub record FindsNone (points : List ReadPoint) (tries : ℕ) (s s' : Seen) (cause : Cause) : Type 0 where
+  pub asks : AsksAt points tries s s' cause
+  pub there : IsStopAmong points cause
 
--- the result of requests at these spots: the value is found, or not
-abbrev pub Finds : {T : Type 0} → (Store → T → Type 0) → List Spot → ℕ → Seen → Seen
-    → Result T Unread → Type 0
-Finds Is spots tries s s' (Ok found) = FindsIt (λ store. Is store found) spots tries s s'
-Finds Is spots tries s s' (Err unread) = FindsNone spots tries s s' (cause_of_unread unread)
+-- the result of requests at these points: the value is found, or not
+abbrev pub Finds : {T : Type 0} → (Store → T → Type 0) → List ReadPoint → ℕ → Seen → Seen
+    → Result T ReadError → Type 0
+Finds Is points tries s s' (Ok found) = FindsIt (λ store. Is store found) points tries s s'
+Finds Is points tries s s' (Err unread) = FindsNone points tries s s' (cause_of_unread unread)
 
 abbrev pub shown : Piece → Output
 shown piece = piece_of piece.text.items piece.has_fault
@@ -85,20 +85,20 @@ IsInfoText wording shelf _ _ = ⊥
 -- ---- over any controller: the last call agrees with why nothing was found
 
 -- an inventory was not read, or out of memory
-abbrev pub LacksInventory : Unread → Seen → Type 0
-LacksInventory (Unread.Inventory id ended) seen = LastFruCallSays ended seen
-LacksInventory Unread.Memory seen = Unit {0}
+abbrev pub LacksInventory : ReadError → Seen → Type 0
+LacksInventory (ReadError.Inventory id ended) seen = LastFruCallSays ended seen
+LacksInventory ReadError.Memory seen = Unit {0}
 LacksInventory _ seen = ⊥
 
 -- the text of a record in this form is missing
-abbrev pub LacksPiece : Form → Unread → Seen → Type 0
-LacksPiece (Form.Line detail kind) unread seen = LacksValue unread seen
-LacksPiece (Form.Block wording name) unread seen = LacksValue unread seen
-LacksPiece (Form.Device wording) unread seen = LacksInventory unread seen
-LacksPiece _ unread seen = unread ≡ Unread.Memory
+abbrev pub PieceErrorIsTrue : Form → ReadError → Seen → Type 0
+PieceErrorIsTrue (Form.Line detail kind) unread seen = LacksValue unread seen
+PieceErrorIsTrue (Form.Block wording name) unread seen = LacksValue unread seen
+PieceErrorIsTrue (Form.Device wording) unread seen = LacksInventory unread seen
+PieceErrorIsTrue _ unread seen = unread ≡ ReadError.Memory
 
 -- an info was read, or the last call says that there is none or why it was not read
-abbrev pub InfoSays : {T : Type 0} → Result (Option T) Unread → Seen → Type 0
+abbrev pub InfoSays : {T : Type 0} → Result (Option T) ReadError → Seen → Type 0
 InfoSays (Ok (Some found)) seen = Unit {0}
 InfoSays (Ok None) seen = LastFailed (λ class. class ≡ NotPresent) seen
 InfoSays (Err unread) seen = LacksValue unread seen

@@ -4,25 +4,25 @@ use Rattle.std.specs.Prelude.{ℕ, ◌+◌, ◌*◌, List, [], ◌∷◌, length
 use Rattle.ipmi_commands.specs.Below.{step_call_bound, fru_call_bound, inventory_len, Row, largest_len, Store}
 use Rattle.ipmi_commands.specs.declared.job.Form.{Form}
 use Rattle.ipmi_commands.specs.Job.{shelf_of}
-use Rattle.ipmi_commands.specs.Plan.{Spot, AtRecord, AtInventory, spots_because_of}
+use Rattle.ipmi_commands.specs.Plan.{ReadPoint, AtRecord, AtInventory, points_because_of}
 
--- the largest number of calls at a spot of a reading, which is that of its record, or of an
+-- the largest number of calls at a point of a reading, which is that of its record, or of an
 -- inventory
-abbrev pub calls_for_spot : ℕ → Store → Spot → ℕ
-calls_for_spot tries store (AtRecord n) = tries + 1
-calls_for_spot tries store (AtInventory id) = fru_call_bound tries (inventory_len id store)
+abbrev pub calls_for_point : ℕ → Store → ReadPoint → ℕ
+calls_for_point tries store (AtRecord n) = tries + 1
+calls_for_point tries store (AtInventory id) = fru_call_bound tries (inventory_len id store)
 
-abbrev pub calls_for_spots : ℕ → Store → List Spot → ℕ
-calls_for_spots tries store [] = 0
-calls_for_spots tries store (spot ∷ spots) =
-    calls_for_spot tries store spot + calls_for_spots tries store spots
+abbrev pub calls_for_points : ℕ → Store → List ReadPoint → ℕ
+calls_for_points tries store [] = 0
+calls_for_points tries store (point ∷ points) =
+    calls_for_point tries store point + calls_for_points tries store points
 
 -- for each row: the bound of a step, plus the largest number of calls for the reading or inventory
 -- that the row requires
 abbrev pub calls_for : Form → Store → ℕ → List Row → ℕ
 calls_for form store tries [] = 0
 calls_for form store tries (row ∷ rows) =
-    step_call_bound tries (length row.bytes) + calls_for_spots tries store (spots_because_of form row)
+    step_call_bound tries (length row.bytes) + calls_for_points tries store (points_because_of form row)
     + calls_for form store tries rows
 
 -- for a cursor along these rows: also the calls of a step that finds no row, and one for each

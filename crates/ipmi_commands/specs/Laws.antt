@@ -9,7 +9,7 @@ use Rattle.ipmi_commands.specs.declared.job.Wording.{Wording}
 use Rattle.ipmi_commands.specs.Allowed.{AreTexts, PrintsAll}
 use Rattle.ipmi_commands.specs.Output.{Output}
 use Rattle.ipmi_commands.specs.Plan.{Item}
-use Rattle.ipmi_commands.specs.Run.{OnPlan}
+use Rattle.ipmi_commands.specs.Run.{FollowsPlan}
 use Rattle.ipmi_commands.specs.Texts.{Subject, OfRow, OfInfo, OfInventory, OfImage, IsPieceOver}
 
 -- the numbers in a subject are bytes, as in a well-formed store
@@ -60,6 +60,6 @@ ItemsHaveOneText = (store : Store) (items : List Item) (a b : Output) → AreOfB
 -- whatever its tries
 abbrev pub FinishedRunsAreOne : Type 0
 FinishedRunsAreOne = (job : Job) (tries tries' : ℕ) (store : Store) (old a b : Output) (e f : Ending) → IsStore store
-    → OnPlan job tries store (λ plan calls. PrintsAll (IsPieceOver store) plan old a e)
-    → OnPlan job tries' store (λ plan calls. PrintsAll (IsPieceOver store) plan old b f)
+    → FollowsPlan job tries store (λ plan calls. PrintsAll (IsPieceOver store) plan old a e)
+    → FollowsPlan job tries' store (λ plan calls. PrintsAll (IsPieceOver store) plan old b f)
     → (a ≡ b) × (e ≡ f)

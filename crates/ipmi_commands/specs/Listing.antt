@@ -127,7 +127,7 @@ pub record CountsEntries (start : Place) (tries : ℕ) (c : Change)
   pub along : c.seen'.stores_added ≡ c.seen.stores_added
       → OnWalk Sel start c.seen.store (λ walk end.
       Counted (IsPieceOver c.seen.store) start walk end c.old c.new result
-      × (c.seen'.calls ≤ c.seen.calls + walk_call_bound Form.Passed c.seen.store tries walk))
+      × (c.seen'.calls ≤ c.seen.calls + walk_call_bound Form.Skipped c.seen.store tries walk))
   pub grows : OnGrowing Sel start c.seen c.seen' (λ log.
       Counted (IsTextWhile c.seen c.seen') start log Done c.old c.new result)
 
@@ -139,7 +139,7 @@ pub record ListsAfter (entries : Entries) (start : Place) (passed tries : ℕ)
   pub along : c.seen'.stores_added ≡ c.seen.stores_added
       → OnWalk Sel start c.seen.store (λ walk end. (n : ℕ) → end ≡ Done → passed ≡ length walk - n
       → IsAllowed (IsPieceOver c.seen.store) (last_plan entries n start walk end) c.old c.new ending
-      × (c.seen'.calls ≤ c.seen.calls + walk_call_bound Form.Passed c.seen.store tries walk))
+      × (c.seen'.calls ≤ c.seen.calls + walk_call_bound Form.Skipped c.seen.store tries walk))
   pub grows : (first : List Row) → passed ≤ length first → IsLog Sel start c.seen.store first
       → OnlyGrew Sel start c.seen c.seen' → (log : List Row) × WasLog Sel start c.seen c.seen' first log
       × IsAllowed (IsTextWhile c.seen c.seen') (last_plan entries (length log - passed) start log Done) c.old c.new ending

@@ -5,7 +5,7 @@ use Rattle.ipmi_commands.specs.Below.{Done, inventory_of, Keeps, OnGrowing, Seen
 use Rattle.ipmi_commands.specs.declared.job.Form.{Form}
 use Rattle.ipmi_commands.specs.declared.job.Listing.{Listing}
 use Rattle.ipmi_commands.specs.Job.{shelf_of}
-use Rattle.ipmi_commands.specs.Plan.{listing_plan, Plan, Spot, AtRecord, AtInventory}
+use Rattle.ipmi_commands.specs.Plan.{listing_plan, Plan, ReadPoint, AtRecord, AtInventory}
 use Rattle.ipmi_commands.specs.Output.{Output}
 use Rattle.ipmi_commands.specs.Texts.{IsPieceOver, Subject}
 
@@ -16,11 +16,11 @@ pub record IsTextWhile (s s' : Seen) (subject : Subject) (text : Output) : Type 
   pub held : WasHeld s s' store
   pub is : IsPieceOver store subject text
 
--- the inventories at these spots did not change from the first state to the second
-abbrev pub KeepsAt : List Spot → Seen → Seen → Type 0
+-- the inventories at these points did not change from the first state to the second
+abbrev pub KeepsAt : List ReadPoint → Seen → Seen → Type 0
 KeepsAt [] s s' = Unit {0}
-KeepsAt (AtRecord n ∷ spots) s s' = KeepsAt spots s s'
-KeepsAt (AtInventory id ∷ spots) s s' = Keeps (inventory_of id) s s' × KeepsAt spots s s'
+KeepsAt (AtRecord n ∷ points) s s' = KeepsAt points s s'
+KeepsAt (AtInventory id ∷ points) s s' = Keeps (inventory_of id) s s' × KeepsAt points s s'
 
 -- if inventories are printed in this form, none changed
 abbrev pub KeepsFor : Form → Seen → Seen → Type 0

@@ -3,7 +3,7 @@ use Rattle.std.specs.Prelude.{◌≡◌, ℕ, ◌+◌, ◌≤◌, None, Result, 
 use Rattle.ipmi_commands.specs.Below.{Ending, Failure, First, IsHonest, Place}
 use Rattle.ipmi_bus.specs.declared.step.Ended.{Ended}
 use Rattle.ipmi_commands.specs.declared.job.Form.{Form}
-use Rattle.ipmi_commands.specs.declared.named.Walked.{Walked}
+use Rattle.ipmi_commands.specs.declared.named.RecordsEnd.{RecordsEnd}
 use Rattle.ipmi_commands.specs.Allowed.{Change, ending_of}
 use Rattle.ipmi_commands.specs.Calls.{most_on_walk}
 use Rattle.ipmi_commands.specs.Pages.{IsPage}
@@ -11,21 +11,21 @@ use Rattle.ipmi_commands.specs.Run.{EndsListing}
 
 -- how the walk ended, from the result of listing the records into memory; a write fault means out
 -- of memory
-abbrev pub walk_of : Result Place Failure → Result Walked Failure
-walk_of (Ok place) = Ok Walked.Whole
-walk_of (Err (Failure.Ended (Ended.Cycle n))) = Ok (Walked.Cycle n)
-walk_of (Err (Failure.Ended (Ended.Missing n))) = Ok (Walked.Missing n)
+abbrev pub walk_of : Result Place Failure → Result RecordsEnd Failure
+walk_of (Ok place) = Ok RecordsEnd.Whole
+walk_of (Err (Failure.Ended (Ended.Cycle n))) = Ok (RecordsEnd.Cycle n)
+walk_of (Err (Failure.Ended (Ended.Missing n))) = Ok (RecordsEnd.Missing n)
 walk_of (Err Failure.WriteFault) = Err Failure.OutOfMemory
 walk_of (Err failure) = Err failure
 
 -- the end of a finished listing after this walk
-abbrev pub end_after : Walked → Ending
-end_after Walked.Whole = Ok tt
-end_after (Walked.Cycle n) = Err (Failure.NamesCycle n)
-end_after (Walked.Missing n) = Err (Failure.NamesMissing n)
+abbrev pub end_after : RecordsEnd → Ending
+end_after RecordsEnd.Whole = Ok tt
+end_after (RecordsEnd.Cycle n) = Err (Failure.NamesCycle n)
+end_after (RecordsEnd.Missing n) = Err (Failure.NamesMissing n)
 
 -- the sensor data records were listed into memory: how their walk ended, or why it failed
-pub record ReadsRecords (tries : ℕ) (c : Change) (result : Result Walked Failure) : Type 0 where
+pub record ReadsRecords (tries : ℕ) (c : Change) (result : Result RecordsEnd Failure) : Type 0 where
   pub listed : Result Place Failure
   pub is : result ≡ walk_of listed
   pub calls : c.seen'.calls ≤ c.seen.calls + most_on_walk Form.Bytes tries
@@ -33,6 +33,6 @@ pub record ReadsRecords (tries : ℕ) (c : Change) (result : Result Walked Failu
   pub page : IsHonest c.seen → IsPage Form.Bytes First tries None c listed
 
 -- the end of a listing with names, by the end of the listing itself and of the walk before it
-abbrev pub ending_then : Ending → Walked → Ending
+abbrev pub ending_then : Ending → RecordsEnd → Ending
 ending_then (Ok done) walked = end_after walked
 ending_then (Err failure) walked = Err failure

@@ -3,9 +3,9 @@ use Rattle.std.specs.Prelude.{◌≡◌, ℕ, ◌+◌, ◌*◌, ◌≤◌, IsTru
 use Rattle.ipmi_commands.specs.Below.{Count, Ending, Failure, First, IsHonest, records_in, Sdr, Seen, start_of}
 use Rattle.ipmi_commands.specs.declared.job.Form.{Form}
 use Rattle.ipmi_commands.specs.declared.job.Job.{Job}
-use Rattle.ipmi_commands.specs.declared.job.Named.{Named}
+use Rattle.ipmi_commands.specs.declared.job.NameLookup.{NameLookup}
 use Rattle.ipmi_commands.specs.declared.job.Wording.{Wording}
-use Rattle.ipmi_commands.specs.declared.named.Walked.{Walked}
+use Rattle.ipmi_commands.specs.declared.named.RecordsEnd.{RecordsEnd}
 use Rattle.ipmi_commands.specs.Allowed.{cause_of, Change, change, EndsFor}
 use Rattle.ipmi_commands.specs.Calls.{most_on_walk, walk_call_bound}
 use Rattle.ipmi_commands.specs.Job.{entries_in}
@@ -20,7 +20,7 @@ abbrev pub entries_with : Wording → List (List ℕ) → Form
 entries_with wording records = Form.EntryLine (entries_in wording records)
 
 -- after the walk that reads names: the pages, or nothing if that walk failed
-abbrev pub PagesAfter : Result Walked Failure → Seen → Form → Option ℕ → ℕ → List ℕ → Change → Ending
+abbrev pub PagesAfter : Result RecordsEnd Failure → Seen → Form → Option ℕ → ℕ → List ℕ → Change → Ending
     → Type 0
 PagesAfter (Ok walked) now form from tries sizes c ending =
     (listed : Ending) × (ending ≡ ending_then listed walked)
@@ -33,7 +33,7 @@ pub record ReadsThenPages (wording : Wording) (from : Option ℕ) (tries : ℕ) 
     (c : Change) (ending : Ending) : Type 0 where
   pub now : Seen
   pub kept : Output
-  pub walked : Result Walked Failure
+  pub walked : Result RecordsEnd Failure
   pub reads : ReadsRecords tries (change c.seen now no_output kept) walked
   pub pages : PagesAfter walked now (entries_with wording (records_in kept.bytes)) from tries sizes c ending
 
@@ -42,8 +42,8 @@ pub record ReadsThenPages (wording : Wording) (from : Option ℕ) (tries : ℕ) 
 pub record RunsNamedInPages (wording : Wording) (from : Option ℕ) (tries : ℕ) (sizes : List ℕ)
     (c : Change) (ending : Ending) : Type 0 where
   pub calls : c.seen'.calls ≤ c.seen.calls
-      + (most_on_walk Form.Bytes tries + pages_made sizes * most_on_walk Form.Passed tries)
-  pub ends : EndsNamed wording (Named.Events Count.All from) c.seen' ending
+      + (most_on_walk Form.Bytes tries + pages_made sizes * most_on_walk Form.Skipped tries)
+  pub ends : EndsNamed wording (NameLookup.Events Count.All from) c.seen' ending
   pub why : IsHonest c.seen → EndsFor tries (IsTrue c.seen.plain) c.seen c.seen' (cause_of ending)
   pub pages : IsHonest c.seen → ReadsThenPages wording from tries sizes c ending
   pub prints : IsHonest c.seen → c.seen'.stores_added ≡ c.seen.stores_added
@@ -55,7 +55,7 @@ pub record RunsNamedInPages (wording : Wording) (from : Option ℕ) (tries : ℕ
 abbrev pub RunsPaged : Job → ℕ → List ℕ → Change → Ending → Type 0
 RunsPaged (Job.Records l) tries sizes c ending =
     (l.most ≡ None) × RunsInPages l.form l.start tries sizes c ending
-RunsPaged (Job.Named wording (Named.Events Count.All from)) tries sizes c ending =
+RunsPaged (Job.NameLookup wording (NameLookup.Events Count.All from)) tries sizes c ending =
     RunsNamedInPages wording from tries sizes c ending
 RunsPaged _ tries sizes c ending = ⊥
 

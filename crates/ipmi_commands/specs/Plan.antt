@@ -1,4 +1,4 @@
--- Plans of what a run prints over a store. A plan has items in order, an end, and the spots at
+-- Plans of what a run prints over a store. A plan has items in order, an end, and the points at
 -- which the run may give up or be refused.
 use Rattle.std.specs.Prelude.{ℕ, ◌-◌, ◌==◌, nat_le, ◌||◌, Bool, false, if◌then◌else◌, Option, Some, None, is_some, Result, Ok, Err, List, [], ◌∷◌, ◌++◌, length, map, take, drop}
 use Rattle.ipmi_commands.specs.Below.{Place, First, Shelf, Row, Store, rows_of, IsWalk, EndsBy, asked_at, WalkEnd, Done, CycleAt, MissingAt, place_after, place_after_rows, SdrFault, SdrView, Kind, Cycle, Missing, Ending, Failure}
@@ -33,81 +33,81 @@ abbrev pub last_rows : ℕ → List Row → WalkEnd → List Row
 last_rows n walk Done = drop (length walk - n) walk
 last_rows n walk _ = []
 
--- ---- spots at which a run may give up or be refused
+-- ---- points at which a run may give up or be refused
 
 -- `AtRecord`: the requested id, 0000h for the first record and for an info; for a reading, the id
 -- of its record. `AtInventory`: the id of the device.
-pub data Spot : Type 0 where
-  AtRecord : ℕ → Spot
-  AtInventory : ℕ → Spot
+pub data ReadPoint : Type 0 where
+  AtRecord : ℕ → ReadPoint
+  AtInventory : ℕ → ReadPoint
 
--- the spot of a record's reading has the id of the record
-abbrev pub reading_spots : ℕ → Result SdrView SdrFault → List Spot
-reading_spots id (Ok view) = if is_some (sdr.reading_of view) then AtRecord id ∷ [] else []
-reading_spots id (Err fault) = []
+-- the point of a record's reading has the id of the record
+abbrev pub reading_points : ℕ → Result SdrView SdrFault → List ReadPoint
+reading_points id (Ok view) = if is_some (sdr.reading_of view) then AtRecord id ∷ [] else []
+reading_points id (Err fault) = []
 
--- the reading's spot, for a record of this kind; for any other record no reading is requested
-abbrev pub listed_spots : Kind → Row → List Spot
-listed_spots kind row =
-    if row_is_of_kind kind row then reading_spots row.id (sdr.sdr_view_of row.bytes) else []
+-- the reading's point, for a record of this kind; for any other record no reading is requested
+abbrev pub listed_points : Kind → Row → List ReadPoint
+listed_points kind row =
+    if row_is_of_kind kind row then reading_points row.id (sdr.sdr_view_of row.bytes) else []
 
--- the reading's spot, for a record with this name
-abbrev pub named_spots : List ℕ → ℕ → Result SdrView SdrFault → List Spot
-named_spots name id (Ok view) =
-    if is_name name (sdr.name_of view) then reading_spots id (Ok view) else []
-named_spots name id (Err fault) = []
+-- the reading's point, for a record with this name
+abbrev pub named_points : List ℕ → ℕ → Result SdrView SdrFault → List ReadPoint
+named_points name id (Ok view) =
+    if is_name name (sdr.name_of view) then reading_points id (Ok view) else []
+named_points name id (Err fault) = []
 
--- the spot of the inventory of a locator's device; none for device 0, which was already read
-abbrev pub device_spots : Option ℕ → List Spot
-device_spots None = []
-device_spots (Some id) = if id == 0 then [] else AtInventory id ∷ []
+-- the point of the inventory of a locator's device; none for device 0, which was already read
+abbrev pub device_points : Option ℕ → List ReadPoint
+device_points None = []
+device_points (Some id) = if id == 0 then [] else AtInventory id ∷ []
 
-abbrev pub locator_spots : Result SdrView SdrFault → List Spot
-locator_spots (Ok view) = device_spots (sdr.fru_of view)
-locator_spots (Err fault) = []
+abbrev pub locator_points : Result SdrView SdrFault → List ReadPoint
+locator_points (Ok view) = device_points (sdr.fru_of view)
+locator_points (Err fault) = []
 
--- the spots of the reading or inventory that a row requires
-abbrev pub spots_because_of : Form → Row → List Spot
-spots_because_of (Form.Line detail kind) row = listed_spots kind row
-spots_because_of (Form.Block wording name) row = named_spots name row.id (sdr.sdr_view_of row.bytes)
-spots_because_of (Form.Device wording) row = locator_spots (sdr.sdr_view_of row.bytes)
-spots_because_of _ row = []
+-- the points of the reading or inventory that a row requires
+abbrev pub points_because_of : Form → Row → List ReadPoint
+points_because_of (Form.Line detail kind) row = listed_points kind row
+points_because_of (Form.Block wording name) row = named_points name row.id (sdr.sdr_view_of row.bytes)
+points_because_of (Form.Device wording) row = locator_points (sdr.sdr_view_of row.bytes)
+points_because_of _ row = []
 
 -- the ids requested along the rows
-abbrev pub spots_of_rows : Place → List Row → List Spot
-spots_of_rows start [] = []
-spots_of_rows start (row ∷ rows) = AtRecord (asked_at start) ∷ spots_of_rows (place_after row.next) rows
+abbrev pub points_of_rows : Place → List Row → List ReadPoint
+points_of_rows start [] = []
+points_of_rows start (row ∷ rows) = AtRecord (asked_at start) ∷ points_of_rows (place_after row.next) rows
 
 -- at the end of a walk: the id that no row has, or 0000h at the start of an empty shelf
-abbrev pub spots_at_walk_end : Place → List Row → WalkEnd → List Spot
-spots_at_walk_end start walk (MissingAt n) = AtRecord n ∷ []
-spots_at_walk_end start walk (CycleAt n) = []
-spots_at_walk_end First [] Done = AtRecord 0 ∷ []
-spots_at_walk_end start walk Done = []
+abbrev pub points_at_walk_end : Place → List Row → WalkEnd → List ReadPoint
+points_at_walk_end start walk (MissingAt n) = AtRecord n ∷ []
+points_at_walk_end start walk (CycleAt n) = []
+points_at_walk_end First [] Done = AtRecord 0 ∷ []
+points_at_walk_end start walk Done = []
 
 -- the ids requested along a whole walk and at its end
-abbrev pub spots_of_walk : Place → List Row → WalkEnd → List Spot
-spots_of_walk start walk end = spots_of_rows start walk ++ spots_at_walk_end start walk end
+abbrev pub points_of_walk : Place → List Row → WalkEnd → List ReadPoint
+points_of_walk start walk end = points_of_rows start walk ++ points_at_walk_end start walk end
 
 -- ---- plans
 
--- what is printed as one text, and the spots at which a run may stop before it prints this text
+-- what is printed as one text, and the points at which a run may stop before it prints this text
 pub record Item : Type 0 where
   pub subject : Subject
-  pub spots : List Spot
+  pub points : List ReadPoint
 
 -- What a run prints. An item names the subject of its text, not the text: texts are defined by
 -- relations, and plans by functions.
 pub record Plan : Type 0 where
   pub items : List Item
   pub end : Ending
-  pub end_spots : List Spot
+  pub end_points : List ReadPoint
 
 -- one item for each row; `start` is the place where the first row is requested
 abbrev pub row_items : Form → Place → List Row → List Item
 row_items form start [] = []
 row_items form start (row ∷ rows) =
-    record { subject = OfRow form row; spots = AtRecord (asked_at start) ∷ spots_because_of form row }
+    record { subject = OfRow form row; points = AtRecord (asked_at start) ∷ points_because_of form row }
     ∷ row_items form (place_after row.next) rows
 
 abbrev pub view_has_name : List ℕ → Result SdrView SdrFault → Bool
@@ -134,20 +134,20 @@ abbrev pub listing_plan : Listing → List Row → WalkEnd → Plan
 listing_plan l walk end = record {
   items = row_items l.form l.start (first_rows l.most walk);
   end = rows_end l.form (first_rows l.most walk) (first_end l.most walk end);
-  end_spots = spots_at_walk_end l.start walk (first_end l.most walk end);
+  end_points = points_at_walk_end l.start walk (first_end l.most walk end);
 }
 
 -- The last entries are listed after a walk that counts all entries, and the entries before them are
--- skipped on a second walk. So before the first item the run may stop at any spot of the walk; the
--- item's own spot is one of them.
-abbrev pub with_first_spots : List Spot → List Item → List Item
-with_first_spots spots [] = []
-with_first_spots spots (item ∷ items) = record { subject = item.subject; spots = spots } ∷ items
+-- skipped on a second walk. So before the first item the run may stop at any point of the walk; the
+-- item's own point is one of them.
+abbrev pub with_first_points : List ReadPoint → List Item → List Item
+with_first_points points [] = []
+with_first_points points (item ∷ items) = record { subject = item.subject; points = points } ∷ items
 
--- if there are no items, the run may stop at any spot of the walk
-abbrev pub end_spots_of_last : List Spot → List Item → List Spot → List Spot
-end_spots_of_last spots [] at_end = spots
-end_spots_of_last spots (item ∷ items) at_end = at_end
+-- if there are no items, the run may stop at any point of the walk
+abbrev pub end_points_of_last : List ReadPoint → List Item → List ReadPoint → List ReadPoint
+end_points_of_last points [] at_end = points
+end_points_of_last points (item ∷ items) at_end = at_end
 
 abbrev pub last_items : Entries → ℕ → Place → List Row → WalkEnd → List Item
 last_items entries n start walk end = row_items (Form.EntryLine entries)
@@ -156,10 +156,10 @@ last_items entries n start walk end = row_items (Form.EntryLine entries)
 -- the plan of a listing of the last n entries
 abbrev pub last_plan : Entries → ℕ → Place → List Row → WalkEnd → Plan
 last_plan entries n start walk end = record {
-  items = with_first_spots (spots_of_walk start walk end) (last_items entries n start walk end);
+  items = with_first_points (points_of_walk start walk end) (last_items entries n start walk end);
   end = rows_end (Form.EntryLine entries) walk end;
-  end_spots = end_spots_of_last (spots_of_walk start walk end) (last_items entries n start walk end)
-      (spots_at_walk_end start walk end);
+  end_points = end_points_of_last (points_of_walk start walk end) (last_items entries n start walk end)
+      (points_at_walk_end start walk end);
 }
 
 -- ---- listings after the walk of the sensor data records that reads names
@@ -167,16 +167,16 @@ last_plan entries n start walk end = record {
 abbrev pub bytes_of_rows : List Row → List (List ℕ)
 bytes_of_rows rows = map (λ row. row.bytes) rows
 
--- the spots of the first item, or of the end if there are no items
-abbrev pub next_spots : List Item → List Spot → List Spot
-next_spots [] at_end = at_end
-next_spots (item ∷ items) at_end = item.spots
+-- the points of the first item, or of the end if there are no items
+abbrev pub next_points : List Item → List ReadPoint → List ReadPoint
+next_points [] at_end = at_end
+next_points (item ∷ items) at_end = item.points
 
--- before the first item, or before the end if there are no items, the run may also stop at a spot
+-- before the first item, or before the end if there are no items, the run may also stop at a point
 -- of that walk
-abbrev pub spots_before : List Row → WalkEnd → Plan → List Spot
-spots_before records records_end plan =
-    spots_of_walk First records records_end ++ next_spots plan.items plan.end_spots
+abbrev pub points_before : List Row → WalkEnd → Plan → List ReadPoint
+points_before records records_end plan =
+    points_of_walk First records records_end ++ next_points plan.items plan.end_points
 
 -- if that walk did not end with `Done`, a run that would succeed fails: names may be missing
 abbrev pub end_after_names : WalkEnd → Ending → Ending
@@ -187,22 +187,22 @@ end_after_names _ ending = ending
 -- the plan of a listing after that walk
 abbrev pub after_names : List Row → WalkEnd → Plan → Plan
 after_names records records_end plan = record {
-  items = with_first_spots (spots_before records records_end plan) plan.items;
+  items = with_first_points (points_before records records_end plan) plan.items;
   end = end_after_names records_end plan.end;
-  end_spots = end_spots_of_last (spots_before records records_end plan) plan.items plan.end_spots;
+  end_points = end_points_of_last (points_before records records_end plan) plan.items plan.end_points;
 }
 
 -- the plan of one text, after which the run is finished
-abbrev pub text_plan : Subject → List Spot → Plan
-text_plan subject spots = record {
-  items = record { subject = subject; spots = spots } ∷ [];
+abbrev pub text_plan : Subject → List ReadPoint → Plan
+text_plan subject points = record {
+  items = record { subject = subject; points = points } ∷ [];
   end = Ok tt;
-  end_spots = [];
+  end_points = [];
 }
 
 abbrev pub inventory_item : Wording → ℕ → Option (List ℕ) → Item
 inventory_item wording id name =
-    record { subject = OfInventory wording id name; spots = AtInventory id ∷ [] }
+    record { subject = OfInventory wording id name; points = AtInventory id ∷ [] }
 
 -- the plan of one inventory, in this wording
 abbrev pub inventory_plan : Wording → ℕ → Option (List ℕ) → Plan
@@ -213,13 +213,13 @@ abbrev pub inventories_plan : Wording → Option (List ℕ) → List Row → Wal
 inventories_plan wording name walk end = record {
   items = inventory_item wording 0 name ∷ row_items (Form.Device wording) First walk;
   end = rows_end (Form.Device wording) walk end;
-  end_spots = spots_at_walk_end First walk end;
+  end_points = points_at_walk_end First walk end;
 }
 
 -- the plan of a shelf's info, in this wording: its text, or a failure if there is none
 abbrev pub info_plan : Wording → Shelf → Option (List ℕ) → Plan
 info_plan wording shelf None =
-    record { items = []; end = Err Failure.NoInfo; end_spots = AtRecord 0 ∷ [] }
+    record { items = []; end = Err Failure.NoInfo; end_points = AtRecord 0 ∷ [] }
 info_plan wording shelf (Some info) = text_plan (OfInfo wording shelf info) (AtRecord 0 ∷ [])
 
 -- the plan of `image rewrite`

@@ -5,11 +5,11 @@ use Rattle.ipmi_commands.specs.declared.job.Entries.{Entries}
 use Rattle.ipmi_commands.specs.declared.job.Form.{Form}
 use Rattle.ipmi_commands.specs.declared.job.Job.{Job}
 use Rattle.ipmi_commands.specs.declared.job.Listing.{Listing}
-use Rattle.ipmi_commands.specs.declared.job.Named.{Named}
+use Rattle.ipmi_commands.specs.declared.job.NameLookup.{NameLookup}
 use Rattle.ipmi_commands.specs.declared.job.Wording.{Wording}
-use Rattle.ipmi_commands.specs.declared.unread.Unread.{Unread}
+use Rattle.ipmi_commands.specs.declared.read_error.ReadError.{ReadError}
 use Rattle.ipmi_commands.specs.Allowed.{NoMemory, cause_of, ending_of, EndsFor, IsAllowed, IsFine, Change}
-use Rattle.ipmi_commands.specs.Calls.{calls_for_spot, walk_call_bound, most_on_walk}
+use Rattle.ipmi_commands.specs.Calls.{calls_for_point, walk_call_bound, most_on_walk}
 use Rattle.ipmi_commands.specs.Job.{entries_in, shelf_of, job_in, job_of, listing}
 use Rattle.ipmi_commands.specs.Meanwhile.{IsTextWhile, OnGrowingListing}
 use Rattle.ipmi_commands.specs.Output.{and_then, IsCut, Output}
@@ -26,17 +26,17 @@ most_for_all wording tries =
     fru_call_bound tries 65535 + most_on_walk (Form.Device wording) tries
 
 -- for what is listed with names, after the walk that reads them
-abbrev pub most_named : Wording → Named → ℕ → ℕ
-most_named wording (Named.Events count from) tries =
-    most_on_walk Form.Passed tries + most_on_walk Form.Passed tries
-most_named wording Named.Devices tries = most_for_all wording tries
+abbrev pub most_named : Wording → NameLookup → ℕ → ℕ
+most_named wording (NameLookup.Events count from) tries =
+    most_on_walk Form.Skipped tries + most_on_walk Form.Skipped tries
+most_named wording NameLookup.Devices tries = most_for_all wording tries
 
 -- the largest number of calls of a job
 abbrev pub most_calls : Job → ℕ → ℕ
 most_calls (Job.Records l) tries = most_on_walk l.form tries
 most_calls (Job.Last entries n from) tries =
-    most_on_walk Form.Passed tries + most_on_walk Form.Passed tries
-most_calls (Job.Named wording named) tries =
+    most_on_walk Form.Skipped tries + most_on_walk Form.Skipped tries
+most_calls (Job.NameLookup wording named) tries =
     most_on_walk Form.Bytes tries + most_named wording named tries
 most_calls (Job.Info wording shelf) tries = tries + 1
 most_calls (Job.Inventory wording id name) tries = fru_call_bound tries 65535
@@ -64,26 +64,26 @@ EndsListing form seen _ = ⊥
 
 -- the possible ends of a listing after the walk that reads names; names may be missing if that walk
 -- did not end with `Done`
-abbrev pub EndsNamed : Wording → Named → Seen → Ending → Type 0
+abbrev pub EndsNamed : Wording → NameLookup → Seen → Ending → Type 0
 EndsNamed wording named seen (Err (Failure.NamesCycle n)) = Unit {0}
 EndsNamed wording named seen (Err (Failure.NamesMissing n)) = Unit {0}
-EndsNamed wording (Named.Events count from) seen ending = EndsListing Form.Bytes seen ending
-EndsNamed wording Named.Devices seen ending = EndsListing (Form.Device wording) seen ending
+EndsNamed wording (NameLookup.Events count from) seen ending = EndsListing Form.Bytes seen ending
+EndsNamed wording NameLookup.Devices seen ending = EndsListing (Form.Device wording) seen ending
 
 -- a reading or an info was given up or refused, or out of memory
-abbrev pub LacksValue : Unread → Seen → Type 0
-LacksValue (Unread.Ended (Ended.GaveUp n)) seen =
+abbrev pub LacksValue : ReadError → Seen → Type 0
+LacksValue (ReadError.Ended (Ended.GaveUp n)) seen =
     LastCallSays RefusesValue (Ended.GaveUp n) seen
-LacksValue (Unread.Ended (Ended.Refused n code)) seen =
+LacksValue (ReadError.Ended (Ended.Refused n code)) seen =
     LastCallSays RefusesValue (Ended.Refused n code) seen
-LacksValue Unread.Memory seen = Unit {0}
+LacksValue ReadError.Memory seen = Unit {0}
 LacksValue _ seen = ⊥
 
 -- the possible ends for an info: the last call says that there is none, or why it was not read
 abbrev pub EndsInfo : Seen → Ending → Type 0
 EndsInfo seen (Ok done) = Unit {0}
 EndsInfo seen (Err Failure.NoInfo) = LastFailed (λ class. class ≡ NotPresent) seen
-EndsInfo seen (Err (Failure.Ended ended)) = LacksValue (Unread.Ended ended) seen
+EndsInfo seen (Err (Failure.Ended ended)) = LacksValue (ReadError.Ended ended) seen
 EndsInfo seen (Err Failure.WriteFault) = Unit {0}
 EndsInfo seen (Err Failure.OutOfMemory) = Unit {0}
 EndsInfo seen _ = ⊥
@@ -99,7 +99,7 @@ EndsInventory seen _ = ⊥
 abbrev pub MayEnd : Job → Change → Ending → Type 0
 MayEnd (Job.Records l) c ending = EndsListing l.form c.seen' ending
 MayEnd (Job.Last entries n from) c ending = EndsListing (Form.EntryLine entries) c.seen' ending
-MayEnd (Job.Named wording named) c ending = EndsNamed wording named c.seen' ending
+MayEnd (Job.NameLookup wording named) c ending = EndsNamed wording named c.seen' ending
 MayEnd (Job.Info wording shelf) c ending = EndsInfo c.seen' ending
 MayEnd (Job.Inventory wording id name) c ending = EndsInventory c.seen' ending
 MayEnd (Job.AllInventories wording name) c ending = EndsListing (Form.Device wording) c.seen' ending
@@ -113,8 +113,8 @@ second_walk_bound bound _ = bound
 
 abbrev pub last_call_bound : ℕ → Store → ℕ → List Row → WalkEnd → ℕ
 last_call_bound n store tries walk end =
-    walk_call_bound Form.Passed store tries walk
-    + second_walk_bound (walk_call_bound Form.Passed store tries walk) (last_rows n walk end)
+    walk_call_bound Form.Skipped store tries walk
+    + second_walk_bound (walk_call_bound Form.Skipped store tries walk) (last_rows n walk end)
 
 abbrev pub OnListing : Listing → ℕ → Store → (Plan → ℕ → Type 0) → Type 0
 OnListing l tries store Holds =
@@ -138,37 +138,37 @@ OnEntries entries (Count.Last n) from tries store Holds = OnLast entries n from 
 abbrev pub OnInventories : Wording → Option (List ℕ) → ℕ → Store → (Plan → ℕ → Type 0) → Type 0
 OnInventories wording name tries store Holds =
     OnWalk Sdr First store (λ walk end. Holds (inventories_plan wording name walk end)
-    (calls_for_spot tries store (AtInventory 0)
+    (calls_for_point tries store (AtInventory 0)
     + walk_call_bound (Form.Device wording) store tries walk))
 
 -- what is listed with the names in these sensor data records, in this wording
-abbrev pub OnNamed : Wording → List (List ℕ) → Named → ℕ → Store → (Plan → ℕ → Type 0) → Type 0
-OnNamed wording records (Named.Events count from) tries store Holds =
+abbrev pub OnNamed : Wording → List (List ℕ) → NameLookup → ℕ → Store → (Plan → ℕ → Type 0) → Type 0
+OnNamed wording records (NameLookup.Events count from) tries store Holds =
     OnEntries (entries_in wording records) count from tries store Holds
-OnNamed wording records Named.Devices tries store Holds =
+OnNamed wording records NameLookup.Devices tries store Holds =
     OnInventories wording (device_name 0 records) tries store Holds
 
 -- `Holds` for the job's plan over a store and the largest number of its calls, for each walk from
 -- the start that has an end; `tries` affects only the number of calls
-abbrev pub OnPlan : Job → ℕ → Store → (Plan → ℕ → Type 0) → Type 0
-OnPlan (Job.Records l) tries store Holds = OnListing l tries store Holds
-OnPlan (Job.Last entries n from) tries store Holds = OnLast entries n from tries store Holds
-OnPlan (Job.Named wording named) tries store Holds =
+abbrev pub FollowsPlan : Job → ℕ → Store → (Plan → ℕ → Type 0) → Type 0
+FollowsPlan (Job.Records l) tries store Holds = OnListing l tries store Holds
+FollowsPlan (Job.Last entries n from) tries store Holds = OnLast entries n from tries store Holds
+FollowsPlan (Job.NameLookup wording named) tries store Holds =
     OnWalk Sdr First store (λ records end. OnNamed wording (bytes_of_rows records) named tries store
     (λ plan calls. Holds (after_names records end plan)
     (walk_call_bound Form.Bytes store tries records + calls)))
-OnPlan (Job.Info wording shelf) tries store Holds =
+FollowsPlan (Job.Info wording shelf) tries store Holds =
     Holds (info_plan wording shelf (info_of shelf store)) (tries + 1)
-OnPlan (Job.Inventory wording id name) tries store Holds =
-    Holds (inventory_plan wording id name) (calls_for_spot tries store (AtInventory id))
-OnPlan (Job.AllInventories wording name) tries store Holds =
+FollowsPlan (Job.Inventory wording id name) tries store Holds =
+    Holds (inventory_plan wording id name) (calls_for_point tries store (AtInventory id))
+FollowsPlan (Job.AllInventories wording name) tries store Holds =
     OnInventories wording name tries store Holds
 
 -- the output agrees with the plan and with how the run ended, and the number of calls is within the
 -- bound
 abbrev pub Prints : Job → ℕ → Change → Ending → Type 0
 Prints job tries c ending =
-    OnPlan job tries c.seen.store (λ plan calls.
+    FollowsPlan job tries c.seen.store (λ plan calls.
     IsAllowed (IsPieceOver c.seen.store) plan c.old c.new ending
     × (c.seen'.calls ≤ c.seen.calls + calls))
 
@@ -192,10 +192,10 @@ abbrev pub OnGrowingInventories : Wording → Option (List ℕ) → Seen → See
 OnGrowingInventories wording name s s' Holds = Keeps (λ store. store.inventories) s s'
     → OnGrowing Sdr First s s' (λ log. Holds (inventories_plan wording name log Done))
 
-abbrev pub OnGrowingNamed : Wording → List (List ℕ) → Named → Seen → Seen → (Plan → Type 0) → Type 0
-OnGrowingNamed wording records (Named.Events count from) s s' Holds =
+abbrev pub OnGrowingNamed : Wording → List (List ℕ) → NameLookup → Seen → Seen → (Plan → Type 0) → Type 0
+OnGrowingNamed wording records (NameLookup.Events count from) s s' Holds =
     OnGrowingEntries (entries_in wording records) count from s s' Holds
-OnGrowingNamed wording records Named.Devices s s' Holds =
+OnGrowingNamed wording records NameLookup.Devices s s' Holds =
     OnGrowingInventories wording (device_name 0 records) s s' Holds
 
 -- `Holds` for the job's plan over the records as they were meanwhile: all that were there when the
@@ -204,7 +204,7 @@ OnGrowingNamed wording records Named.Devices s s' Holds =
 abbrev pub OnGrowingPlan : Job → Seen → Seen → (Plan → Type 0) → Type 0
 OnGrowingPlan (Job.Records l) s s' Holds = OnGrowingListing l s s' Holds
 OnGrowingPlan (Job.Last entries n from) s s' Holds = OnGrowingLast entries n from s s' Holds
-OnGrowingPlan (Job.Named wording named) s s' Holds = OnGrowing Sdr First s s' (λ records.
+OnGrowingPlan (Job.NameLookup wording named) s s' Holds = OnGrowing Sdr First s s' (λ records.
     OnGrowingNamed wording (bytes_of_rows records) named s s'
     (λ plan. Holds (after_names records Done plan)))
 OnGrowingPlan (Job.Info wording shelf) s s' Holds =
@@ -292,7 +292,7 @@ pub record IsRewriting (store : Store) (old new : Output) (ending : Ending) : Ty
 abbrev pub RunsOver : Option Job → Store → Output → Output → Ending → Type 0
 RunsOver None store old new ending = IsRewriting store old new ending
 RunsOver (Some job) store old new ending =
-    OnPlan job 0 store (λ plan calls. IsAllowed (IsPieceOver store) plan old new ending)
+    FollowsPlan job 0 store (λ plan calls. IsAllowed (IsPieceOver store) plan old new ending)
     × IsFine (cause_of ending)
 
 -- a job or `image rewrite` over an image, which has a store or a fault

@@ -10,7 +10,7 @@ use Rattle.ipmi_commands.specs.declared.job.Wording.{Wording}
 use Rattle.ipmi_commands.specs.Allowed.{cause_of, EndsFor, Printed, TextsJoined}
 use Rattle.ipmi_commands.specs.Calls.{most_for_one}
 use Rattle.ipmi_commands.specs.Output.{and_then, IsCut, no_output, Output, piece_of}
-use Rattle.ipmi_commands.specs.Plan.{OnWalk, reading_spots, row_items, Spot}
+use Rattle.ipmi_commands.specs.Plan.{OnWalk, reading_points, row_items, ReadPoint}
 use Rattle.ipmi_commands.specs.Texts.{IfChosen, IsBlockIn, is_name, IsPieceOver, reading_for}
 use Rattle.ipmi_commands.specs.Traced.{IsStopAmong, IsTraced, seen_next}
 
@@ -85,15 +85,15 @@ EndsSearch seen _ = ⊥
 
 -- ---- a search over an honest controller, whatever its store does
 
--- the spot of the reading of a row with one of the names
-abbrev pub found_spots : List (List ℕ) → Row → List Spot
-found_spots names row =
-    if has_one_of names (sdr_view_of row.bytes) then reading_spots row.id (sdr_view_of row.bytes) else []
+-- the point of the reading of a row with one of the names
+abbrev pub found_points : List (List ℕ) → Row → List ReadPoint
+found_points names row =
+    if has_one_of names (sdr_view_of row.bytes) then reading_points row.id (sdr_view_of row.bytes) else []
 
 -- why a search stops at the result of a step: the step failed for this reason; or the record that it returned
 -- has one of the names, and its reading was given up or refused; or memory ran out
 abbrev pub StopsAtResult : List (List ℕ) → Result (Option Row) Ended → Failure → Type 0
-StopsAtResult names (Ok (Some row)) failure = IsStopAmong (found_spots names row) (cause_of (Err failure))
+StopsAtResult names (Ok (Some row)) failure = IsStopAmong (found_points names row) (cause_of (Err failure))
 StopsAtResult names (Ok None) failure = ⊥
 StopsAtResult names (Err ended) failure = failure ≡ Failure.Ended ended
 

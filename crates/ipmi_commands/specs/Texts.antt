@@ -56,7 +56,7 @@ reading_for store view = reading_by store (sdr.reading_of view)
 abbrev pub IsLineOf : Detail → ℕ → SdrView → Option Reading → List ℕ → Type 0
 IsLineOf Detail.Short id view reading text = IsSdrLine view reading text
 IsLineOf Detail.Extended id view reading text = IsExtendedLine view reading text
-IsLineOf Detail.Words id view reading text = IsSensorLine view reading text
+IsLineOf Detail.Descriptive id view reading text = IsSensorLine view reading text
 IsLineOf (Detail.Json labels) id view reading text =
     json_sdr.IsSdrLine id view reading labels.now text
 
@@ -79,8 +79,8 @@ IsListedOfKind detail kind store row text =
 
 -- the block of a record, or its object
 abbrev pub IsBlockIn : Wording → ℕ → SdrView → Option Reading → List ℕ → Type 0
-IsBlockIn Wording.Codes id view reading text = IsSdrBlock id view reading text
-IsBlockIn Wording.Words id view reading text = IsSensorBlock id view reading text
+IsBlockIn Wording.Plain id view reading text = IsSdrBlock id view reading text
+IsBlockIn Wording.Descriptive id view reading text = IsSensorBlock id view reading text
 IsBlockIn (Wording.Json labels) id view reading text =
     json_sdr.IsSdrLine id view reading labels.now text
 
@@ -96,8 +96,8 @@ IsBlockOfName wording name store id (Err fault) text = text ≡ []
 
 -- the line of an entry: in codes, in words with the names of these sensors, or its object
 abbrev pub IsEntryLine : Entries → ℕ → SelView → List ℕ → Type 0
-IsEntryLine Entries.Codes id view text = IsSelLine id view text
-IsEntryLine (Entries.Words sensors) id view text = IsEventInWords id view sensors text
+IsEntryLine Entries.Plain id view text = IsSelLine id view text
+IsEntryLine (Entries.Descriptive sensors) id view text = IsEventInWords id view sensors text
 IsEntryLine (Entries.Json sensors labels) id view text =
     json_sel.IsSelLine id view (Some sensors) labels.now text
 
@@ -134,16 +134,16 @@ pub record IsInventoryPiece (id : ℕ) (name inventory : Option (List ℕ)) (tex
 -- the text of a device, its name and its inventory: in codes the whole inventory, in words one line,
 -- or its object
 abbrev pub IsInventoryIn : Wording → ℕ → Option (List ℕ) → Option (List ℕ) → List ℕ → Type 0
-IsInventoryIn Wording.Codes id name inventory text = IsInventoryPiece id name inventory text
-IsInventoryIn Wording.Words id name inventory text = IsFruLine id name inventory text
+IsInventoryIn Wording.Plain id name inventory text = IsInventoryPiece id name inventory text
+IsInventoryIn Wording.Descriptive id name inventory text = IsFruLine id name inventory text
 IsInventoryIn (Wording.Json labels) id name inventory text =
     json_fru.IsFruLine id name inventory labels.now text
 
 -- a device that is reached elsewhere is only named, not read
 abbrev pub IsElsewhereIn : Wording → List ℕ → List ℕ → Type 0
-IsElsewhereIn Wording.Codes name text =
+IsElsewhereIn Wording.Plain name text =
     text ≡ codes "FRU (" ++ (name ++ codes "): elsewhere, not read\n\n")
-IsElsewhereIn Wording.Words name text = text ≡ elsewhere_line name
+IsElsewhereIn Wording.Descriptive name text = text ≡ elsewhere_line name
 IsElsewhereIn (Wording.Json labels) name text =
     json.IsLineOf (json_fru.elsewhere_members (Some name)) labels.now text
 
@@ -184,7 +184,7 @@ IsRowText store (Form.Device wording) row text =
 IsRowText store (Form.EntryLine entries) row text =
     IsEntryLine entries row.id (sel_view_of row.bytes) text
 IsRowText store Form.EntryBlock row text = IsSelBlock row.id (sel_view_of row.bytes) text
-IsRowText store Form.Passed row text = text ≡ []
+IsRowText store Form.Skipped row text = text ≡ []
 
 -- the text of a subject, with the readings and inventories of the store
 abbrev pub IsTextOver : Store → Subject → List ℕ → Type 0
@@ -199,7 +199,7 @@ IsTextOver store OfImage text = text ≡ image_text_of store
 -- a device is missing, or its inventory has a fault that the form names: the line in words, only one of the header
 abbrev pub is_faulty_device : Wording → Option (List ℕ) → Bool
 is_faulty_device wording None = true
-is_faulty_device Wording.Words (Some bytes) = is_some (header_fault bytes)
+is_faulty_device Wording.Descriptive (Some bytes) = is_some (header_fault bytes)
 is_faulty_device _ (Some bytes) = has_fault bytes
 
 -- a device that is reached elsewhere has no fault

@@ -8,7 +8,7 @@ use Rattle.ipmi_commands.specs.declared.job.Wording.{Wording}
 use Rattle.ipmi_commands.specs.Allowed.{Cause, Change, cause_of, ending_of, GaveUp, IsAmong, NoMemory, Refused, TextsJoined}
 use Rattle.ipmi_commands.specs.Job.{shelf_of}
 use Rattle.ipmi_commands.specs.Meanwhile.{KeepsAt}
-use Rattle.ipmi_commands.specs.Plan.{Spot, spots_because_of}
+use Rattle.ipmi_commands.specs.Plan.{ReadPoint, points_because_of}
 use Rattle.ipmi_commands.specs.Texts.{IsPieceOver, OfRow}
 
 -- the cursor made these steps; after the last one the controller may have got other requests
@@ -22,7 +22,7 @@ pub record IsTraced (begun now : CursorState) (s s' : Seen) (steps : List Steppe
 -- The text of a record in this form, over the store that the controller held after the requests for it,
 -- `s'`; any text if an inventory changed between `s` and `s'`
 abbrev pub IsTextAfter : Form → Row → Seen → Seen → Output → Type 0
-IsTextAfter form row s s' text = KeepsAt (spots_because_of form row) s s' → IsPieceOver s'.store (OfRow form row) text
+IsTextAfter form row s s' text = KeepsAt (points_because_of form row) s s' → IsPieceOver s'.store (OfRow form row) text
 
 -- the text of what a step returned; nothing if that is no record
 abbrev pub IsTextOfResult : Form → Result (Option Row) Ended → Seen → Seen → Output → Type 0
@@ -81,12 +81,12 @@ pub record ReturnsLast (most : Option ℕ) (steps done : List Stepped) (step : S
   pub returned : step.result ≡ Ok (Some row)
   pub within : IsWithin most (length (handed_out steps))
 
--- gives up or is refused at one of the spots, or is out of memory
-abbrev pub IsStopAmong : List Spot → Cause → Type 0
-IsStopAmong spots (GaveUp spot) = IsAmong spots spot
-IsStopAmong spots (Refused spot code) = IsAmong spots spot
-IsStopAmong spots NoMemory = Unit {0}
-IsStopAmong spots _ = ⊥
+-- gives up or is refused at one of the points, or is out of memory
+abbrev pub IsStopAmong : List ReadPoint → Cause → Type 0
+IsStopAmong points (GaveUp point) = IsAmong points point
+IsStopAmong points (Refused point code) = IsAmong points point
+IsStopAmong points NoMemory = Unit {0}
+IsStopAmong points _ = ⊥
 
 -- the text of the last record is missing: its reading or inventory was given up or refused, or memory
 -- ran out; the texts before it were printed
@@ -96,7 +96,7 @@ pub record TextFails (form : Form) (most : Option ℕ) (steps : List Stepped) (c
   pub step : Stepped
   pub row : Row
   pub last : ReturnsLast most steps done step row
-  pub there : IsStopAmong (spots_because_of form row) (cause_of (Err failure))
+  pub there : IsStopAmong (points_because_of form row) (cause_of (Err failure))
   pub printed : PrintsSteps form done step.before c.old c.new
 
 -- the output failed in the text of the last record; the texts before it were printed

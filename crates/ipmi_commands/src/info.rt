@@ -5,7 +5,7 @@ ghost use Rattle.ipmi_commands.specs.Prelude.{InfoSays, AtRecord, Finds, info_ob
 ghost use Rattle.ipmi_json.specs.Info.{IsInfoLine};
 
 use crate::job::Wording;
-use crate::unread::Unread;
+use crate::read_error::ReadError;
 use ipmi_bus::{Controller, Shelf, read_info};
 use ipmi_json::{Label, sdr_info_line, sel_info_line};
 use ipmi_records::info_block;
@@ -36,7 +36,7 @@ fn text_in(
     ensures { IfOk result (λ text. IsInfoIn wording.entry shelf info.now text.items) }
 {
     match wording {
-        Wording::Codes | Wording::Words => Ok(info_block(alloc, info)?.into_bytes()),
+        Wording::Plain | Wording::Descriptive => Ok(info_block(alloc, info)?.into_bytes()),
         Wording::Json(labels) => info_object(alloc, shelf, info, labels),
     }
 }
@@ -48,7 +48,7 @@ pub(crate) fn info_text<C: Controller>(
     wording: Wording<'_>,
     shelf: Shelf,
     tries: u8,
-) -> Result<Option<Vec<u8>>, Unread>
+) -> Result<Option<Vec<u8>>, ReadError>
     ensures calls { (C.seen ctl.new).calls ≤ (C.seen ctl.old).calls + (tries + 1) }
     ensures asked { AsksAtMost 0 (C.seen ctl.old) (C.seen ctl.new) }
     ensures says { InfoSays result (C.seen ctl.new) }

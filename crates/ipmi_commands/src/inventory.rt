@@ -2,12 +2,12 @@
 ghost use Rattle.std.specs.Prelude.{◌≡◌, ℕ, ◌+◌, ◌≤◌, ◌∷◌, [], Some, Err, IfErr, IfOk, OnOk, option_map, string_bytes, ◌++◌};
 ghost use Rattle.ipmi_commands.specs.Below.{Appends, AsksAtMost, LastFruCallSays, fru_call_bound, row_of_record, ReadsInventory, Seen, IsHonest, inventory_of, fru_of, printed_name, sdr_view_of};
 ghost use Rattle.ipmi_commands.specs.declared.job.Form.{Form};
-ghost use Rattle.ipmi_commands.specs.Prelude.{LacksInventory, in_parentheses, is_absent, Finds, IsCountedDevice, IsElsewhereIn, is_faulty_device, IsInventoryIn, IsInventoryPiece, IsInventoryText, IsPieceOver, AtInventory, device_spots, locator_spots, OfInventory, OfRow, shown};
+ghost use Rattle.ipmi_commands.specs.Prelude.{LacksInventory, in_parentheses, is_absent, Finds, IsCountedDevice, IsElsewhereIn, is_faulty_device, IsInventoryIn, IsInventoryPiece, IsInventoryText, IsPieceOver, AtInventory, device_points, locator_points, OfInventory, OfRow, shown};
 
 use crate::job::Wording;
 use crate::limits::RequestLimits;
 use crate::piece::Piece;
-use crate::unread::Unread;
+use crate::read_error::ReadError;
 use ipmi_bus::{Code, Controller, FruEnded, Record, read_fru};
 use ipmi_fru::{FruView, elsewhere_line, fru_line, has_fault, push_fru};
 use ipmi_json::fru_elsewhere_line;
@@ -26,7 +26,7 @@ fn is_absent(ended: FruEnded) -> bool
 
 /// The result for an inventory that was not read: None if the controller has no such inventory, otherwise Err with
 /// the reason.
-fn unread_inventory(id: u8, ended: FruEnded) -> Result<Option<Vec<u8>>, Unread>
+fn unread_inventory(id: u8, ended: FruEnded) -> Result<Option<Vec<u8>>, ReadError>
     ensures finds { (tries : ℕ) (s s' : Seen) → ReadsInventory id tries s s' (Err ended) →
         Finds (λ store found. option_map (λ bytes. bytes.items) found ≡ inventory_of id store)
         (AtInventory id ∷ []) tries s s' result }
@@ -34,7 +34,7 @@ fn unread_inventory(id: u8, ended: FruEnded) -> Result<Option<Vec<u8>>, Unread>
         IfErr result (λ unread. LacksInventory unread seen) }
 {
     if !is_absent(ended) {
-        return Err(Unread::Inventory(id, ended));
+        return Err(ReadError::Inventory(id, ended));
     }
     Ok(None)
 }
@@ -45,7 +45,7 @@ fn read_inventory<C: Controller>(
     ctl: &mut C,
     limits: RequestLimits,
     id: u8,
-) -> Result<Option<Vec<u8>>, Unread>
+) -> Result<Option<Vec<u8>>, ReadError>
     ensures calls { (C.seen ctl.new).calls ≤ (C.seen ctl.old).calls + fru_call_bound limits.tries
         65535 }
     ensures asked { AsksAtMost limits.part (C.seen ctl.old) (C.seen ctl.new) }
@@ -117,8 +117,8 @@ fn text_in(
         (option_map (λ bytes. bytes.now) inventory.entry) text.items) }
 {
     match wording {
-        Wording::Codes => Ok(inventory_piece(alloc, id, name, inventory)?.into_bytes()),
-        Wording::Words => Ok(fru_line(alloc, id, name, inventory)?.into_bytes()),
+        Wording::Plain => Ok(inventory_piece(alloc, id, name, inventory)?.into_bytes()),
+        Wording::Descriptive => Ok(fru_line(alloc, id, name, inventory)?.into_bytes()),
         Wording::Json(labels) => ipmi_json::fru_line(alloc, id, name, inventory, labels),
     }
 }
@@ -129,8 +129,8 @@ fn is_faulty_device(wording: Wording<'_>, inventory: Option<&[u8]>) -> bool
 {
     match (inventory, wording) {
         (None, _) => true,
-        (Some(bytes), Wording::Words) => FruView::read(bytes).is_err(),
-        (Some(bytes), Wording::Codes | Wording::Json(_)) => has_fault(bytes),
+        (Some(bytes), Wording::Descriptive) => FruView::read(bytes).is_err(),
+        (Some(bytes), Wording::Plain | Wording::Json(_)) => has_fault(bytes),
     }
 }
 
@@ -142,7 +142,7 @@ pub(crate) fn inventory_in<C: Controller>(
     wording: Wording<'_>,
     id: u8,
     name: Option<&str>,
-) -> Result<Piece, Unread>
+) -> Result<Piece, ReadError>
     ensures calls { (C.seen ctl.new).calls ≤ (C.seen ctl.old).calls + fru_call_bound limits.tries
         65535 }
     ensures asked { AsksAtMost limits.part (C.seen ctl.old) (C.seen ctl.new) }
@@ -171,11 +171,11 @@ fn elsewhere_in(alloc: Global, wording: Wording<'_>, name: &str) -> Result<Vec<u
     ensures { IfOk result (λ text. IsElsewhereIn wording.entry name.now text.items) }
 {
     match wording {
-        Wording::Codes => {
+        Wording::Plain => {
             let text = format!(in alloc; "FRU ({name}): elsewhere, not read\n\n")?;
             Ok(text.into_bytes())
         }
-        Wording::Words => Ok(elsewhere_line(alloc, name)?.into_bytes()),
+        Wording::Descriptive => Ok(elsewhere_line(alloc, name)?.into_bytes()),
         Wording::Json(labels) => fru_elsewhere_line(alloc, Some(name), labels),
     }
 }
@@ -188,14 +188,14 @@ fn device_piece<C: Controller>(
     limits: RequestLimits,
     wording: Wording<'_>,
     view: &SdrView<'_>,
-) -> Result<Piece, Unread>
+) -> Result<Piece, ReadError>
     ensures calls { (C.seen ctl.new).calls ≤ (C.seen ctl.old).calls + fru_call_bound limits.tries
         65535 }
     ensures asked { AsksAtMost limits.part (C.seen ctl.old) (C.seen ctl.new) }
     ensures says { IfErr result (λ unread. LacksInventory unread (C.seen ctl.new)) }
     ensures honest { IsHonest (C.seen ctl.old) →
         Finds (λ store piece. IsCountedDevice wording.entry store (printed_name view.now) (fru_of view.now)
-        (shown piece)) (device_spots (fru_of view.now)) limits.tries (C.seen ctl.old)
+        (shown piece)) (device_points (fru_of view.now)) limits.tries (C.seen ctl.old)
         (C.seen ctl.new) result }
 {
     let name = name_of(alloc, view)?;
@@ -214,14 +214,14 @@ pub(crate) fn locator_piece<C: Controller>(
     limits: RequestLimits,
     wording: Wording<'_>,
     lent: &Record<'_>,
-) -> Result<Piece, Unread>
+) -> Result<Piece, ReadError>
     ensures calls { (C.seen ctl.new).calls ≤ (C.seen ctl.old).calls + fru_call_bound limits.tries
         65535 }
     ensures asked { AsksAtMost limits.part (C.seen ctl.old) (C.seen ctl.new) }
     ensures says { IfErr result (λ unread. LacksInventory unread (C.seen ctl.new)) }
     ensures honest { let row = row_of_record lent.now in IsHonest (C.seen ctl.old) →
         Finds (λ store piece. IsPieceOver store (OfRow (Form.Device wording.entry) row) (shown piece))
-        (locator_spots (sdr_view_of row.bytes)) limits.tries (C.seen ctl.old) (C.seen ctl.new)
+        (locator_points (sdr_view_of row.bytes)) limits.tries (C.seen ctl.old) (C.seen ctl.new)
         result }
 {
     let Ok(view) = SdrView::read(lent.bytes) else {

@@ -12,16 +12,16 @@ use ipmi_bus::{Place, Shelf};
 use ipmi_command_line::{Count, Kind, Task};
 use ipmi_events::Sensors;
 use ipmi_json::Label;
-use ipmi_output::{Failure, Name};
+use ipmi_output::{Failure, RecordName};
 
 /// The wording of a command's output.
 #[derive(Clone, Copy, Debug, PartialEq, Eq)]
 pub enum Wording<'a> {
     /// The wording of the specified texts, in which most events and states are numbers.
-    Codes,
+    Plain,
     /// The words of the standard's tables: events, states and entities in words, events with the names of their
-    /// sensors, and one line per device for all inventories. Everything else is printed as in [`Wording::Codes`].
-    Words,
+    /// sensors, and one line per device for all inventories. Everything else is printed as in [`Wording::Plain`].
+    Descriptive,
     /// JSON: an object in a line for each record, entry, device and info, with these labels as its last members. Events
     /// have the names of their sensors.
     Json(&'a [Label<'a>]),
@@ -35,7 +35,7 @@ pub enum Detail<'a> {
     /// The longer line of `sdr elist`.
     Extended,
     /// The line in words, with the thresholds.
-    Words,
+    Descriptive,
     /// The object with these labels.
     Json(&'a [Label<'a>]),
 }
@@ -44,9 +44,9 @@ pub enum Detail<'a> {
 #[derive(Drop)]
 pub enum Entries<'a> {
     /// The line in codes.
-    Codes,
+    Plain,
     /// The line in words, with the names of these sensors.
-    Words(Sensors),
+    Descriptive(Sensors),
     /// The object with the names of these sensors, and with these labels.
     Json(Sensors, &'a [Label<'a>]),
 }
@@ -63,7 +63,7 @@ pub enum Form<'a> {
     /// The line of a sensor data record, if it is of this kind.
     Line(Detail<'a>, Kind),
     /// The block of a sensor data record, or its object, if this is its printed name.
-    Block(Wording<'a>, Name<'a>),
+    Block(Wording<'a>, RecordName<'a>),
     /// The inventory of the device that a FRU device locator names, in this wording.
     Device(Wording<'a>),
     /// The line of an event log entry.
@@ -71,7 +71,7 @@ pub enum Form<'a> {
     /// The block of an event log entry.
     EntryBlock,
     /// Nothing: an event log entry is skipped.
-    Passed,
+    Skipped,
 }
 
 /// A listing of records that starts at `start`, with at most `most` records if that is Some.
@@ -84,7 +84,7 @@ pub struct Listing<'a> {
 
 /// What is listed with names from the sensor data records.
 #[derive(Clone, Copy)]
-pub enum Named {
+pub enum NameLookup {
     /// The entries of the event log that the count selects, with the names of their sensors. The walk starts at this
     /// id, or at the first entry.
     Events(Count, Option<u16>),
@@ -101,13 +101,13 @@ pub enum Job<'a> {
     /// first entry.
     Last(Entries<'a>, u16, Option<u16>),
     /// Reads the sensor data records for names, then lists with these names, in this wording.
-    Named(Wording<'a>, Named),
+    NameLookup(Wording<'a>, NameLookup),
     /// Prints the info of the shelf, in this wording.
     Info(Wording<'a>, Shelf),
     /// Prints the inventory of this device with this name, in this wording.
-    Inventory(Wording<'a>, u8, Option<Name<'a>>),
+    Inventory(Wording<'a>, u8, Option<RecordName<'a>>),
     /// Prints the inventory of device 0 with this name, and of each device that a locator names, in this wording.
-    AllInventories(Wording<'a>, Option<Name<'a>>),
+    AllInventories(Wording<'a>, Option<RecordName<'a>>),
 }
 
 impl<'a> Entries<'a> {
@@ -116,8 +116,8 @@ impl<'a> Entries<'a> {
         ensures { result ≡ entries_in wording.entry sensors }
     {
         match wording {
-            Wording::Codes => Entries::Codes,
-            Wording::Words => Entries::Words(sensors),
+            Wording::Plain => Entries::Plain,
+            Wording::Descriptive => Entries::Descriptive(sensors),
             Wording::Json(labels) => Entries::Json(sensors, labels),
         }
     }
@@ -129,7 +129,7 @@ impl<'a> Form<'a> {
         ensures { result ≡ shelf_of self.now }
     {
         match self {
-            Form::EntryLine(_) | Form::EntryBlock | Form::Passed => Shelf::Sel,
+            Form::EntryLine(_) | Form::EntryBlock | Form::Skipped => Shelf::Sel,
             Form::Raw
             | Form::RawObject(_)
             | Form::Bytes
@@ -152,7 +152,7 @@ impl<'a> Form<'a> {
         ensures { result ≡ end_of self.now wrote with }
     {
         match self {
-            Form::Block(_, name) if !wrote => Err(Failure::NoName(Name::new(name.as_str()))),
+            Form::Block(_, name) if !wrote => Err(Failure::NoName(RecordName::new(name.as_str()))),
             _ => Ok(with),
         }
     }
@@ -187,15 +187,15 @@ impl<'a> Job<'a> {
     fn entries(count: Count, from: Option<u16>) -> Job<'a>
         requires count { IsCount count }
         requires from { IsFrom from }
-        ensures value { result ≡ entries_job Entries.Codes count from }
+        ensures value { result ≡ entries_job Entries.Plain count from }
         ensures range { IsJob result }
     {
         match count {
-            Count::All => Job::records(Form::EntryLine(Entries::Codes), from, None),
+            Count::All => Job::records(Form::EntryLine(Entries::Plain), from, None),
             Count::First(n) => {
-                Job::records(Form::EntryLine(Entries::Codes), from, Some(u32::from(n)))
+                Job::records(Form::EntryLine(Entries::Plain), from, Some(u32::from(n)))
             }
-            Count::Last(n) => Job::Last(Entries::Codes, n, from),
+            Count::Last(n) => Job::Last(Entries::Plain, n, from),
         }
     }
 
@@ -209,8 +209,8 @@ impl<'a> Job<'a> {
         ensures listing { is_listing task.now ≡ true → (job : Job) × (result ≡ Some job) × (lists_all job ≡ true) }
     {
         match wording {
-            Wording::Codes => Job::in_codes(task, from),
-            Wording::Words => Job::in_words(task, from),
+            Wording::Plain => Job::in_codes(task, from),
+            Wording::Descriptive => Job::in_words(task, from),
             Wording::Json(labels) => Job::in_json(task, from, labels),
         }
     }
@@ -229,13 +229,13 @@ impl<'a> Job<'a> {
                 Some(Job::records(Form::Line(Detail::Json(labels), *kind), from, None))
             }
             Task::Get(name) => {
-                let name = Name::new(name.as_str());
+                let name = RecordName::new(name.as_str());
                 Some(Job::records(Form::Block(json, name), from, None))
             }
-            Task::SelList(count) => Some(Job::Named(json, Named::Events(*count, from))),
-            Task::SelGet(id) => Some(Job::Named(json, Named::Events(Count::First(1), Some(*id)))),
+            Task::SelList(count) => Some(Job::NameLookup(json, NameLookup::Events(*count, from))),
+            Task::SelGet(id) => Some(Job::NameLookup(json, NameLookup::Events(Count::First(1), Some(*id)))),
             Task::Info(shelf) => Some(Job::Info(json, *shelf)),
-            Task::Fru(None) => Some(Job::Named(json, Named::Devices)),
+            Task::Fru(None) => Some(Job::NameLookup(json, NameLookup::Devices)),
             Task::Fru(Some(id)) => Some(Job::Inventory(json, *id, None)),
             Task::Rewrite => None,
         }
@@ -245,17 +245,17 @@ impl<'a> Job<'a> {
     fn in_words(task: &'a Task, from: Option<u16>) -> Option<Job<'a>>
         requires task { IsTask task.now }
         requires from { IsFrom from }
-        ensures value { result ≡ job_in Wording.Words task.now from }
+        ensures value { result ≡ job_in Wording.Descriptive task.now from }
         ensures range { IfSome result (λ job. IsJob job) }
     {
         match task {
-            Task::List(kind) => Some(Job::records(Form::Line(Detail::Words, *kind), from, None)),
+            Task::List(kind) => Some(Job::records(Form::Line(Detail::Descriptive, *kind), from, None)),
             Task::Get(name) => {
-                let name = Name::new(name.as_str());
-                Some(Job::records(Form::Block(Wording::Words, name), from, None))
+                let name = RecordName::new(name.as_str());
+                Some(Job::records(Form::Block(Wording::Descriptive, name), from, None))
             }
-            Task::SelList(count) => Some(Job::Named(Wording::Words, Named::Events(*count, from))),
-            Task::Fru(None) => Some(Job::Named(Wording::Words, Named::Devices)),
+            Task::SelList(count) => Some(Job::NameLookup(Wording::Descriptive, NameLookup::Events(*count, from))),
+            Task::Fru(None) => Some(Job::NameLookup(Wording::Descriptive, NameLookup::Devices)),
             _ => Job::in_codes(task, from),
         }
     }
@@ -276,14 +276,14 @@ impl<'a> Job<'a> {
                 None,
             )),
             Task::Get(name) => {
-                let name = Name::new(name.as_str());
-                Some(Job::records(Form::Block(Wording::Codes, name), from, None))
+                let name = RecordName::new(name.as_str());
+                Some(Job::records(Form::Block(Wording::Plain, name), from, None))
             }
             Task::SelList(count) => Some(Job::entries(*count, from)),
             Task::SelGet(id) => Some(Job::records(Form::EntryBlock, Some(*id), Some(1))),
-            Task::Info(shelf) => Some(Job::Info(Wording::Codes, *shelf)),
-            Task::Fru(None) => Some(Job::AllInventories(Wording::Codes, None)),
-            Task::Fru(Some(id)) => Some(Job::Inventory(Wording::Codes, *id, None)),
+            Task::Info(shelf) => Some(Job::Info(Wording::Plain, *shelf)),
+            Task::Fru(None) => Some(Job::AllInventories(Wording::Plain, None)),
+            Task::Fru(Some(id)) => Some(Job::Inventory(Wording::Plain, *id, None)),
             Task::Rewrite => None,
         }
     }
@@ -294,7 +294,7 @@ impl<'a> Job<'a> {
     {
         match self {
             Job::Records(listing) => listing.most.is_none() && !listing.form.searches(),
-            Job::Named(_, Named::Events(Count::All, _)) => true,
+            Job::NameLookup(_, NameLookup::Events(Count::All, _)) => true,
             _ => false,
         }
     }

@@ -26,20 +26,20 @@ fn count_entries<'a, C: Controller, O: Sink>(
     requires { IsFrom from }
     ensures faults { O.faults out.new ≡ O.faults out.old + write_faults (ending_of result) }
     ensures asked { AsksAtMost limits.part (C.seen ctl.old) (C.seen ctl.new) }
-    ensures ends { EndsListing Form.Passed (C.seen ctl.new) (ending_of result) }
-    ensures calls { (C.seen ctl.new).calls ≤ (C.seen ctl.old).calls + most_on_walk Form.Passed
+    ensures ends { EndsListing Form.Skipped (C.seen ctl.new) (ending_of result) }
+    ensures calls { (C.seen ctl.new).calls ≤ (C.seen ctl.old).calls + most_on_walk Form.Skipped
         limits.tries }
     ensures honest { IsHonest (C.seen ctl.old) →
         CountsEntries (start_of from) limits.tries (change (C.seen ctl.old) (C.seen ctl.new)
         (printed (O.taken out.old) summary.old) (printed (O.taken out.new) summary.new)) result }
 {
-    let mut cursor = start_cursor(alloc, limits, &Form::Passed, from)?;
+    let mut cursor = start_cursor(alloc, limits, &Form::Skipped, from)?;
     list_records(
         alloc,
         &mut cursor,
         ctl,
         limits,
-        &Form::Passed,
+        &Form::Skipped,
         None,
         out,
         summary,
@@ -58,11 +58,11 @@ fn list_rest<'a, C: Controller, O: Sink>(
     out: &mut O,
     summary: &mut Summary,
 ) -> Result<(), Failure<'a>>
-    requires { (from : Option ℕ) × IsFresh limits Form.Passed from cursor.old }
+    requires { (from : Option ℕ) × IsFresh limits Form.Skipped from cursor.old }
     ensures faults { O.faults out.new ≡ O.faults out.old + write_faults result }
     ensures asked { AsksAtMost limits.part (C.seen ctl.old) (C.seen ctl.new) }
     ensures ends { EndsListing (Form.EntryLine entries.entry) (C.seen ctl.new) result }
-    ensures calls { (C.seen ctl.new).calls ≤ (C.seen ctl.old).calls + most_on_walk Form.Passed
+    ensures calls { (C.seen ctl.new).calls ≤ (C.seen ctl.old).calls + most_on_walk Form.Skipped
         limits.tries }
     ensures honest { IsHonest (C.seen ctl.old) →
         ListsAfter entries.entry cursor.old.place passed limits.tries (change (C.seen ctl.old) (C.seen ctl.new)
@@ -74,7 +74,7 @@ fn list_rest<'a, C: Controller, O: Sink>(
         cursor,
         ctl,
         limits,
-        &Form::Passed,
+        &Form::Skipped,
         most,
         out,
         summary,
@@ -110,13 +110,13 @@ fn list_after<'a, C: Controller, O: Sink>(
     ensures faults { O.faults out.new ≡ O.faults out.old + write_faults result }
     ensures asked { AsksAtMost limits.part (C.seen ctl.old) (C.seen ctl.new) }
     ensures ends { EndsListing (Form.EntryLine entries.entry) (C.seen ctl.new) result }
-    ensures calls { (C.seen ctl.new).calls ≤ (C.seen ctl.old).calls + most_on_walk Form.Passed
+    ensures calls { (C.seen ctl.new).calls ≤ (C.seen ctl.old).calls + most_on_walk Form.Skipped
         limits.tries }
     ensures honest { IsHonest (C.seen ctl.old) →
         ListsAfter entries.entry (start_of from) passed limits.tries (change (C.seen ctl.old) (C.seen ctl.new)
         (printed (O.taken out.old) summary.old) (printed (O.taken out.new) summary.new)) result }
 {
-    let mut cursor = start_cursor(alloc, limits, &Form::Passed, from)?;
+    let mut cursor = start_cursor(alloc, limits, &Form::Skipped, from)?;
     list_rest(
         alloc,
         &mut cursor,

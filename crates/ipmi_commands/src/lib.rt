@@ -15,7 +15,7 @@ mod piece;
 mod runs;
 mod sensors;
 mod summary;
-mod unread;
+mod read_error;
 
 pub use job::{Job, Wording};
 pub use limits::RequestLimits;

@@ -5,7 +5,7 @@ ghost use Rattle.ipmi_commands.specs.Named.{end_after, ReadsRecords, walk_of};
 ghost use Rattle.ipmi_commands.specs.declared.job.Job.{Job};
 ghost use Rattle.ipmi_commands.specs.Prelude.{change, IsFrom, IsNamed, job_with, printed, Runs, RunsNamedInPages};
 
-use crate::job::{Entries, Form, Listing, Named, Wording};
+use crate::job::{Entries, Form, Listing, NameLookup, Wording};
 use crate::limits::RequestLimits;
 use crate::pages::{list_page, list_pages};
 use crate::perform::{list_entries, print_inventories};
@@ -17,7 +17,7 @@ use std::alloc::Global;
 
 /// How a walk of the sensor data records ended.
 #[derive(Clone, Copy)]
-pub(crate) enum Walked {
+pub(crate) enum RecordsEnd {
     /// After the last record.
     Whole,
     /// With a cycle at this id.
@@ -26,28 +26,28 @@ pub(crate) enum Walked {
     Missing(u16),
 }
 
-impl Walked {
+impl RecordsEnd {
     /// The end of a finished listing after this walk: names may be missing if it was not whole.
     fn end<'a>(self) -> Result<(), Failure<'a>>
         ensures { result ≡ end_after self }
     {
         match self {
-            Walked::Whole => Ok(()),
-            Walked::Cycle(id) => Err(Failure::NamesCycle(id)),
-            Walked::Missing(id) => Err(Failure::NamesMissing(id)),
+            RecordsEnd::Whole => Ok(()),
+            RecordsEnd::Cycle(id) => Err(Failure::NamesCycle(id)),
+            RecordsEnd::Missing(id) => Err(Failure::NamesMissing(id)),
         }
     }
 }
 
 /// How the walk ended, from the result of listing the records into memory. A write fault of that listing means out of
 /// memory.
-fn walk_of<'a>(listed: Result<Place, Failure<'a>>) -> Result<Walked, Failure<'a>>
+fn walk_of<'a>(listed: Result<Place, Failure<'a>>) -> Result<RecordsEnd, Failure<'a>>
     ensures { result ≡ walk_of listed.entry }
 {
     match listed {
-        Ok(_) => Ok(Walked::Whole),
-        Err(Failure::Ended(Ended::Cycle(id))) => Ok(Walked::Cycle(id)),
-        Err(Failure::Ended(Ended::Missing(id))) => Ok(Walked::Missing(id)),
+        Ok(_) => Ok(RecordsEnd::Whole),
+        Err(Failure::Ended(Ended::Cycle(id))) => Ok(RecordsEnd::Cycle(id)),
+        Err(Failure::Ended(Ended::Missing(id))) => Ok(RecordsEnd::Missing(id)),
         Err(Failure::WriteFault) => Err(Failure::OutOfMemory),
         Err(failure) => Err(failure),
     }
@@ -61,7 +61,7 @@ fn list_with<'a, C: Controller, O: Sink>(
     limits: RequestLimits,
     wording: Wording<'a>,
     records: Vec<u8>,
-    named: Named,
+    named: NameLookup,
     out: &mut O,
     summary: &mut Summary,
 ) -> Result<(), Failure<'a>>
@@ -72,11 +72,11 @@ fn list_with<'a, C: Controller, O: Sink>(
         (change (C.seen ctl.old) (C.seen ctl.new) (printed (O.taken out.old) summary.old) (printed (O.taken out.new) summary.new)) result }
 {
     match named {
-        Named::Events(count, from) => {
+        NameLookup::Events(count, from) => {
             let entries = Entries::of(wording, Sensors::of(alloc, records)?);
             list_entries(alloc, ctl, limits, entries, count, from, out, summary)
         }
-        Named::Devices => {
+        NameLookup::Devices => {
             let name = device_name(alloc, &records, 0)?;
             print_inventories(alloc, ctl, limits, wording, name.as_deref(), out, summary)
         }
@@ -90,7 +90,7 @@ fn read_records<'a, C: Controller, O: Sink>(
     limits: RequestLimits,
     records: &mut O,
     summary: &mut Summary,
-) -> Result<Walked, Failure<'a>>
+) -> Result<RecordsEnd, Failure<'a>>
     ensures asked { AsksAtMost limits.part (C.seen ctl.old) (C.seen ctl.new) }
     ensures reads { ReadsRecords limits.tries
         (change (C.seen ctl.old) (C.seen ctl.new) (printed (O.taken records.old) summary.old) (printed (O.taken records.new) summary.new)) result }
@@ -114,14 +114,14 @@ pub(crate) fn list_named<'a, C: Controller, O: Sink>(
     ctl: &mut C,
     limits: RequestLimits,
     wording: Wording<'a>,
-    named: Named,
+    named: NameLookup,
     out: &mut O,
     summary: &mut Summary,
 ) -> Result<(), Failure<'a>>
     requires { IsNamed named }
     ensures faults { O.faults out.new ≡ O.faults out.old + write_faults result }
     ensures asked { AsksAtMost limits.part (C.seen ctl.old) (C.seen ctl.new) }
-    ensures runs { Runs (Job.Named wording.entry named) limits.tries
+    ensures runs { Runs (Job.NameLookup wording.entry named) limits.tries
         (change (C.seen ctl.old) (C.seen ctl.new) (printed (O.taken out.old) summary.old) (printed (O.taken out.new) summary.new)) result }
 {
     ipmi_bus::laws::what_is_found_is_a_row();

@@ -8,7 +8,7 @@ ghost use Rattle.ipmi_commands.specs.Prelude.{change, entries_job, IsFrom, IsJob
 
 use crate::info::info_text;
 use crate::inventory::inventory_in;
-use crate::job::{Entries, Form, Job, Listing, Named, Wording};
+use crate::job::{Entries, Form, Job, Listing, NameLookup, Wording};
 use crate::last::list_last;
 use crate::limits::RequestLimits;
 use crate::named::{list_named, list_named_pages};
@@ -16,7 +16,7 @@ use crate::pages::{list_page, list_pages};
 use crate::summary::Summary;
 use ipmi_bus::{Controller, Place, Shelf};
 use ipmi_command_line::Count;
-use ipmi_output::{Failure, Name, Sink, write_all};
+use ipmi_output::{Failure, RecordName, Sink, write_all};
 use std::alloc::Global;
 
 /// Writes the text of an item, which has a fault or none, and counts the item.
@@ -134,7 +134,7 @@ fn print_info<'a, C: Controller, O: Sink>(
 }
 
 /// The text of a name, if there is one.
-fn text_of<'a>(name: &Option<Name<'a>>) -> Option<&'a str>
+fn text_of<'a>(name: &Option<RecordName<'a>>) -> Option<&'a str>
     ensures { option_map (λ text. text.now) result ≡ name.now }
 {
     match name {
@@ -207,7 +207,7 @@ pub fn execute<'a, C: Controller, O: Sink>(
         Job::Last(entries, wanted, from) => {
             list_last(alloc, ctl, limits, entries, wanted, from, out, summary)
         }
-        Job::Named(wording, named) => list_named(alloc, ctl, limits, wording, named, out, summary),
+        Job::NameLookup(wording, named) => list_named(alloc, ctl, limits, wording, named, out, summary),
         Job::Info(wording, shelf) => print_info(alloc, ctl, limits, wording, shelf, out, summary),
         Job::Inventory(wording, id, name) => {
             print_inventory(
@@ -248,7 +248,7 @@ pub fn execute_pages<'a, C: Controller, O: Sink>(
 {
     ipmi_bus::laws::the_tail_is_a_walk();
     match job {
-        Job::Named(wording, Named::Events(_, from)) => {
+        Job::NameLookup(wording, NameLookup::Events(_, from)) => {
             list_named_pages(alloc, ctl, limits, wording, from, out, summary, pages)
         }
         job => {

@@ -4,12 +4,12 @@ ghost use Rattle.std.specs.Prelude.{◌≡◌, ◌+◌, ◌≤◌, false, IfErr,
 ghost use Rattle.ipmi_commands.specs.Below.{AsksAtMost, row_of_record, IsHonest, largest_len, whole_len, sdr_view_of};
 ghost use Rattle.ipmi_records.specs.Sdr.{name_of};
 ghost use Rattle.ipmi_commands.specs.declared.job.Form.{Form};
-ghost use Rattle.ipmi_commands.specs.Prelude.{LacksPiece, LacksValue, bytes_of, Finds, is_name, is_of_kind, IsBlockIn, IsBlockOfName, IsEntryLine, IsFaultLine, IsLineOf, IsPieceOver, listed_spots, most_after, named_spots, OfRow, reading_for, reading_spots, row_has_fault, row_piece, shelf_of, shown, spots_because_of};
+ghost use Rattle.ipmi_commands.specs.Prelude.{PieceErrorIsTrue, LacksValue, bytes_of, Finds, is_name, is_of_kind, IsBlockIn, IsBlockOfName, IsEntryLine, IsFaultLine, IsLineOf, IsPieceOver, listed_points, most_after, named_points, OfRow, reading_for, reading_points, row_has_fault, row_piece, shelf_of, shown, points_because_of};
 
 use crate::inventory::locator_piece;
 use crate::job::{Detail, Entries, Form, Wording};
 use crate::limits::RequestLimits;
-use crate::unread::Unread;
+use crate::read_error::ReadError;
 use ipmi_bus::{Controller, Record, SEL_ENTRY_LEN, read_reading};
 use ipmi_command_line::Kind;
 use ipmi_events::{event_line, sensor_block, sensor_line};
@@ -52,12 +52,12 @@ pub(crate) fn reading_for<C: Controller>(
     id: u16,
     view: &SdrView<'_>,
     tries: u8,
-) -> Result<Option<Reading>, Unread>
+) -> Result<Option<Reading>, ReadError>
     ensures calls { (C.seen ctl.new).calls ≤ (C.seen ctl.old).calls + (tries + 1) }
     ensures asked { AsksAtMost 0 (C.seen ctl.old) (C.seen ctl.new) }
     ensures says { IfErr result (λ unread. LacksValue unread (C.seen ctl.new)) }
     ensures honest { IsHonest (C.seen ctl.old) →
-        Finds (λ store reading. reading ≡ reading_for store view.now) (reading_spots id (Ok view.now))
+        Finds (λ store reading. reading ≡ reading_for store view.now) (reading_points id (Ok view.now))
         tries (C.seen ctl.old) (C.seen ctl.new) result }
 {
     match view.reading_of() {
@@ -79,7 +79,7 @@ fn line_of(
     match detail {
         Detail::Short => Ok(sdr_line(alloc, view, reading)?.into_bytes()),
         Detail::Extended => Ok(sdr_eline(alloc, view, reading)?.into_bytes()),
-        Detail::Words => Ok(sensor_line(alloc, view, reading)?.into_bytes()),
+        Detail::Descriptive => Ok(sensor_line(alloc, view, reading)?.into_bytes()),
         Detail::Json(labels) => sdr_record_line(alloc, id, view, reading, labels),
     }
 }
@@ -95,7 +95,7 @@ fn fault_line_of(
         IfOk result (λ text. IsFaultLine detail.entry row.id fault row.bytes text.items) }
 {
     match detail {
-        Detail::Short | Detail::Extended | Detail::Words => {
+        Detail::Short | Detail::Extended | Detail::Descriptive => {
             Ok(sdr_fault_line(alloc, lent.id, fault)?.into_bytes())
         }
         Detail::Json(labels) => {
@@ -112,14 +112,14 @@ fn listed_line<C: Controller>(
     kind: Kind,
     tries: u8,
     lent: &Record<'_>,
-) -> Result<Piece, Unread>
+) -> Result<Piece, ReadError>
     requires { 5 ≤ length lent.now.bytes.now }
     ensures calls { (C.seen ctl.new).calls ≤ (C.seen ctl.old).calls + (tries + 1) }
     ensures asked { AsksAtMost 0 (C.seen ctl.old) (C.seen ctl.new) }
     ensures says { IfErr result (λ unread. LacksValue unread (C.seen ctl.new)) }
     ensures honest { let row = row_of_record lent.now in IsHonest (C.seen ctl.old) →
         Finds (λ store piece. IsPieceOver store (OfRow (Form.Line detail.entry kind) row) (shown piece))
-        (listed_spots kind row) tries (C.seen ctl.old) (C.seen ctl.new) result }
+        (listed_points kind row) tries (C.seen ctl.old) (C.seen ctl.new) result }
 {
     if !is_of_kind(kind, lent.bytes[3]) {
         return Ok(Piece::sound(Vec::new(alloc)));
@@ -159,8 +159,8 @@ pub(crate) fn block_of(
     ensures { IfOk result (λ text. IsBlockIn wording.entry id view.now reading text.items) }
 {
     match wording {
-        Wording::Codes => Ok(sdr_block(alloc, id, view, reading)?.into_bytes()),
-        Wording::Words => Ok(sensor_block(alloc, id, view, reading)?.into_bytes()),
+        Wording::Plain => Ok(sdr_block(alloc, id, view, reading)?.into_bytes()),
+        Wording::Descriptive => Ok(sensor_block(alloc, id, view, reading)?.into_bytes()),
         Wording::Json(labels) => sdr_record_line(alloc, id, view, reading, labels),
     }
 }
@@ -175,8 +175,8 @@ fn entry_line(
     ensures { IfOk result (λ text. IsEntryLine entries.now id entry.now text.items) }
 {
     match entries {
-        Entries::Codes => Ok(sel_line(alloc, id, entry)?.into_bytes()),
-        Entries::Words(sensors) => Ok(event_line(alloc, id, entry, sensors)?.into_bytes()),
+        Entries::Plain => Ok(sel_line(alloc, id, entry)?.into_bytes()),
+        Entries::Descriptive(sensors) => Ok(event_line(alloc, id, entry, sensors)?.into_bytes()),
         Entries::Json(sensors, labels) => sel_entry_line(alloc, id, entry, Some(sensors), labels),
     }
 }
@@ -190,13 +190,13 @@ fn named_block<C: Controller>(
     name: &str,
     tries: u8,
     lent: &Record<'_>,
-) -> Result<Vec<u8>, Unread>
+) -> Result<Vec<u8>, ReadError>
     ensures calls { (C.seen ctl.new).calls ≤ (C.seen ctl.old).calls + (tries + 1) }
     ensures asked { AsksAtMost 0 (C.seen ctl.old) (C.seen ctl.new) }
     ensures says { IfErr result (λ unread. LacksValue unread (C.seen ctl.new)) }
     ensures honest { let row = row_of_record lent.now in IsHonest (C.seen ctl.old) →
         Finds (λ store text. IsBlockOfName wording.entry name.now store row.id (sdr_view_of row.bytes)
-        text.items) (named_spots name.now row.id (sdr_view_of row.bytes)) tries (C.seen ctl.old)
+        text.items) (named_points name.now row.id (sdr_view_of row.bytes)) tries (C.seen ctl.old)
         (C.seen ctl.new) result }
 {
     let Ok(view) = SdrView::read(lent.bytes) else {
@@ -279,16 +279,16 @@ pub(crate) fn row_text<C: Controller>(
     form: &Form<'_>,
     lent: &Record<'_>,
     line: &mut LineBuffer,
-) -> Result<RowText, Unread>
+) -> Result<RowText, ReadError>
     requires whole { length lent.now.bytes.now ≡ whole_len (shelf_of form.now) lent.now.bytes.now }
     requires fits { length lent.now.bytes.now ≤ largest_len (shelf_of form.now) }
     ensures calls { (C.seen ctl.new).calls ≤ (C.seen ctl.old).calls + most_after form.now
         limits.tries }
     ensures asked { AsksAtMost limits.part (C.seen ctl.old) (C.seen ctl.new) }
-    ensures says { IfErr result (λ unread. LacksPiece form.now unread (C.seen ctl.new)) }
+    ensures says { IfErr result (λ unread. PieceErrorIsTrue form.now unread (C.seen ctl.new)) }
     ensures honest { let row = row_of_record lent.now in IsHonest (C.seen ctl.old) →
         Finds (λ store text. IsPieceOver store (OfRow form.now row) (row_piece line.new.items text))
-        (spots_because_of form.now row) limits.tries (C.seen ctl.old) (C.seen ctl.new) result }
+        (points_because_of form.now row) limits.tries (C.seen ctl.old) (C.seen ctl.new) result }
 {
     let tries = limits.tries();
     match form {
@@ -325,6 +325,6 @@ pub(crate) fn row_text<C: Controller>(
             let block = sel_block(alloc, lent.id, &entry)?;
             Ok(RowText::Own(Piece::sound(block.into_bytes())))
         }
-        Form::Passed => Ok(RowText::Own(Piece::sound(Vec::new(alloc)))),
+        Form::Skipped => Ok(RowText::Own(Piece::sound(Vec::new(alloc)))),
     }
 }

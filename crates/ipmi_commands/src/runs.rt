@@ -10,7 +10,7 @@ use crate::summary::Summary;
 use ipmi_bus::Controller;
 use ipmi_command_line::{Command, UsageFault};
 use ipmi_image::{Image, ImageController, image_text};
-use ipmi_output::{Failure, MessageSink, Sink, say};
+use ipmi_output::{Failure, MessageSink, Sink, write_failure};
 use std::alloc::Global;
 use std::io::Write;
 
@@ -23,7 +23,7 @@ pub fn report<E: MessageSink>(ending: Result<(), Failure<'_>>, err: &mut E) -> u
         Ok(()) => 0,
         Err(failure) => {
             // there is nowhere left to report that this failed
-            let _ = say(err, &failure);
+            let _ = write_failure(err, &failure);
             failure.status()
         }
     }
@@ -41,7 +41,7 @@ fn execute_command<'a, C: Controller, O: Sink>(
     ensures runs { OnBytes (O.taken out.old) (O.taken out.new) (λ old new.
         RunsCommand (job_of_command cmd.now) cmd.now.tries (change (C.seen ctl.old) (C.seen ctl.new) old new) result) }
 {
-    match Job::of(cmd.task(), cmd.from(), Wording::Codes) {
+    match Job::of(cmd.task(), cmd.from(), Wording::Plain) {
         Some(job) => execute(
             alloc,
             ctl,
@@ -90,7 +90,7 @@ fn execute_listing<'a, C: Controller, O: Sink>(
         RunsPagedCommand (job_of_command cmd.now) cmd.now.tries pages.now
         (change (C.seen ctl.old) (C.seen ctl.new) old new) result) }
 {
-    let job = Job::of(cmd.task(), cmd.from(), Wording::Codes).unwrap();
+    let job = Job::of(cmd.task(), cmd.from(), Wording::Plain).unwrap();
     let limits = RequestLimits::of(cmd);
     execute_pages(alloc, ctl, limits, job, out, &mut Summary::new(), pages)
 }
@@ -127,7 +127,7 @@ pub fn execute_image<'a, O: Sink>(
 {
     let image = Image::read(alloc, image)?;
     let mut summary = Summary::new();
-    match Job::of(cmd.task(), cmd.from(), Wording::Codes) {
+    match Job::of(cmd.task(), cmd.from(), Wording::Plain) {
         Some(job) => execute_over(alloc, image, RequestLimits::of(cmd), job, out, &mut summary),
         None => {
             let ended = write_image(alloc, &image, out, &mut summary);

@@ -5,7 +5,7 @@ ghost use Rattle.std.specs.List.{list_any};
 ghost use Rattle.ipmi_records.specs.Sdr.{name_of};
 ghost use Rattle.ipmi_commands.specs.Below.{AsksAtMost, IsHonest, row_of_record, Sdr, sdr_view_of, start_of, write_faults};
 ghost use Rattle.ipmi_commands.specs.Prelude.{Finds, IsFrom, is_name, LacksValue, most_on_walk, printed};
-ghost use Rattle.ipmi_commands.specs.Sensors.{AddsNamed, EndsSearch, Found, found_of, found_spots, IsBlockOfFound, PrintsFound, SearchCalls, Searches, SearchesBy, with_readings};
+ghost use Rattle.ipmi_commands.specs.Sensors.{AddsNamed, EndsSearch, Found, found_of, found_points, IsBlockOfFound, PrintsFound, SearchCalls, Searches, SearchesBy, with_readings};
 
 use crate::job::{Form, Wording};
 use crate::limits::RequestLimits;
@@ -13,7 +13,7 @@ use crate::pages::start_cursor;
 use crate::perform::write_piece;
 use crate::piece::{block_of, is_name, reading_for};
 use crate::summary::Summary;
-use crate::unread::Unread;
+use crate::read_error::ReadError;
 use ipmi_bus::{Controller, Cursor, Record};
 use ipmi_command_line::Word;
 use ipmi_output::{Failure, Sink};
@@ -98,14 +98,14 @@ fn find_in<C: Controller>(
     names: &[Word],
     lent: &Record<'_>,
     found: &mut FoundSensors,
-) -> Result<(), Unread>
+) -> Result<(), ReadError>
     ensures calls { (C.seen ctl.new).calls ≤ (C.seen ctl.old).calls + (tries + 1) }
     ensures asked { AsksAtMost 0 (C.seen ctl.old) (C.seen ctl.new) }
     ensures says { IfErr result (λ unread. LacksValue unread (C.seen ctl.new)) }
     ensures kept { OnErr result (found.new ≡ found.old) }
     ensures adds { AddsNamed names.now found.old found.new }
     ensures honest { let row = row_of_record lent.now in IsHonest (C.seen ctl.old) →
-        Finds (λ store _. found.new ≡ found.old ++ found_of names.now store row) (found_spots names.now row)
+        Finds (λ store _. found.new ≡ found.old ++ found_of names.now store row) (found_points names.now row)
         tries (C.seen ctl.old) (C.seen ctl.new) result }
 {
     let Ok(view) = SdrView::read(lent.bytes) else {

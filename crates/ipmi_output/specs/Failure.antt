@@ -9,7 +9,7 @@ use Rattle.ipmi_text.specs.Hex.{byte_h, upper_byte, word_h}
 use Rattle.ipmi_output.specs.declared.failure.Failure.{Failure}
 use Rattle.ipmi_output.specs.declared.message.Message.{Message}
 use Rattle.ipmi_output.specs.declared.message.Part.{Part}
-use Rattle.ipmi_output.specs.declared.message.Piece.{Piece}
+use Rattle.ipmi_output.specs.declared.message.MessagePiece.{MessagePiece}
 
 -- why a record, a reading or an info was not read, with its id
 abbrev pub ended_text : Ended → List ℕ
@@ -125,13 +125,13 @@ write_faults _ = 0
 
 -- ---- the pieces of messages
 
-abbrev pub piece_text : Piece → List ℕ
-piece_text (Piece.Text text) = text.now
-piece_text (Piece.Number number) = decimal number
-piece_text (Piece.Word word) = word_h word
-piece_text (Piece.Byte byte) = byte_h byte
+abbrev pub piece_text : MessagePiece → List ℕ
+piece_text (MessagePiece.Text text) = text.now
+piece_text (MessagePiece.Number number) = decimal number
+piece_text (MessagePiece.Word word) = word_h word
+piece_text (MessagePiece.Byte byte) = byte_h byte
 
-abbrev pub joined_pieces : List Piece → List ℕ
+abbrev pub joined_pieces : List MessagePiece → List ℕ
 joined_pieces pieces = flat_map piece_text pieces
 
 abbrev pub message_text : Message → List ℕ
@@ -156,7 +156,7 @@ unreadable_text name = codes "cannot read " ++ escaped_name name
 
 abbrev pub part_text : Part → List ℕ
 part_text (Part.Text text) = text.now
-part_text (Part.Name name) = escaped_name name.now
+part_text (Part.Escaped name) = escaped_name name.now
 part_text (Part.Number number) = decimal number
 part_text (Part.Failure failure) = failure_text failure.now
 

@@ -4,7 +4,7 @@ ghost use Rattle.ipmi_output.specs.Failure.{ended_text, failure_of_image, failur
 ghost use Rattle.ipmi_output.specs.declared.failure.Failure.{Failure};
 
 use crate::message::Message;
-use crate::message::Piece::{self, Byte, Number, Text, Word};
+use crate::message::MessagePiece::{self, Byte, Number, Text, Word};
 use crate::sink::SinkFault;
 use ipmi_bus::{Ended, FruEnded};
 use ipmi_command_line::UsageFault;
@@ -16,11 +16,11 @@ use std::marker::Model;
 
 /// A name given on the command line.
 #[derive(Debug, Drop)]
-pub struct Name<'a> {
+pub struct RecordName<'a> {
     text: &'a str,
 }
 
-impl<'a> Model for Name<'a> {
+impl<'a> Model for RecordName<'a> {
     ghost use Rattle.std.specs.Prelude.{List, ℕ};
 
     ghost Value = { List ℕ };
@@ -28,12 +28,12 @@ impl<'a> Model for Name<'a> {
     ghost view = { λ name. name.text.now };
 }
 
-impl<'a> Name<'a> {
+impl<'a> RecordName<'a> {
     /// The name with this text.
-    pub fn new(text: &'a str) -> Name<'a>
+    pub fn new(text: &'a str) -> RecordName<'a>
         ensures { result ≡ text.now }
     {
-        Name { text }
+        RecordName { text }
     }
 
     /// Its text.
@@ -61,7 +61,7 @@ pub enum Failure<'a> {
     /// record has that id.
     NamesMissing(u16),
     /// No record has this name.
-    NoName(Name<'a>),
+    NoName(RecordName<'a>),
     /// The controller has no such info.
     NoInfo,
     /// The output failed or accepted no more bytes.
@@ -181,7 +181,7 @@ impl From<UsageFault> for Failure<'_> {
 }
 
 /// The empty piece.
-const NONE: Piece<'static> = Text("");
+const NONE: MessagePiece<'static> = Text("");
 
 /// A message of one piece.
 fn text<'a>(text: &'a str) -> Message<'a>

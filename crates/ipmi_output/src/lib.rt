@@ -6,7 +6,7 @@ mod message;
 mod message_sink;
 mod sink;
 
-pub use failure::{Failure, Name, fault_line, fault_words};
-pub use message::{Part, say, say_line, say_unreadable};
+pub use failure::{Failure, RecordName, fault_line, fault_words};
+pub use message::{Part, write_failure, write_message, write_unreadable};
 pub use message_sink::MessageSink;
 pub use sink::{Sink, SinkFault, Written, write_all};

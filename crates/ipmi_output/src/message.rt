@@ -17,7 +17,7 @@ use std::fmt;
 
 /// A piece of a message.
 #[derive(Clone, Copy, Debug)]
-pub(crate) enum Piece<'a> {
+pub(crate) enum MessagePiece<'a> {
     /// A text as it is.
     Text(&'a str),
     /// A number in decimal.
@@ -29,17 +29,17 @@ pub(crate) enum Piece<'a> {
 }
 
 /// A message: its texts and pieces, in order.
-pub(crate) struct Message<'a>(pub &'a str, pub Piece<'a>, pub &'a str, pub Piece<'a>);
+pub(crate) struct Message<'a>(pub &'a str, pub MessagePiece<'a>, pub &'a str, pub MessagePiece<'a>);
 
-impl<'a> fmt::Display for Piece<'a> {
+impl<'a> fmt::Display for MessagePiece<'a> {
     ghost output = { λ piece. Some (piece_text piece) };
 
     fn fmt<W: fmt::Write>(&self, f: &mut fmt::Formatter<W>) -> fmt::Result {
         match self {
-            Piece::Text(text) => f.write_str(text),
-            Piece::Number(number) => fmt::Display::fmt(number, f),
-            Piece::Word(word) => fmt::Display::fmt(&WordH(*word), f),
-            Piece::Byte(byte) => fmt::Display::fmt(&ByteH(*byte), f),
+            MessagePiece::Text(text) => f.write_str(text),
+            MessagePiece::Number(number) => fmt::Display::fmt(number, f),
+            MessagePiece::Word(word) => fmt::Display::fmt(&WordH(*word), f),
+            MessagePiece::Byte(byte) => fmt::Display::fmt(&ByteH(*byte), f),
         }
     }
 }
@@ -51,7 +51,7 @@ pub enum Part<'a> {
     Text(&'a str),
     /// A name, or other user input. A control byte, below 20h or 7Fh, is written as `\x` and two upper-case hex
     /// digits, so that the message stays one line. All other bytes are written as they are.
-    Name(&'a str),
+    Escaped(&'a str),
     /// A number in decimal.
     Number(usize),
     /// The message of a failure.
@@ -59,7 +59,7 @@ pub enum Part<'a> {
 }
 
 /// Writes the parts as a line. After Err the sink has taken a prefix of the line.
-pub fn say_line<E: MessageSink>(err: &mut E, parts: &[Part<'_>]) -> Result<(), SinkFault>
+pub fn write_message<E: MessageSink>(err: &mut E, parts: &[Part<'_>]) -> Result<(), SinkFault>
     ensures { WritesAll (E.received err.old) (E.received err.new) result
         (line_text (joined_parts parts.now)) }
 {
@@ -67,20 +67,20 @@ pub fn say_line<E: MessageSink>(err: &mut E, parts: &[Part<'_>]) -> Result<(), S
     offer_all(err, b"\n")
 }
 
-/// Writes the message of the failure as a line ([`say_line`]).
-pub fn say<E: MessageSink>(err: &mut E, failure: &Failure<'_>) -> Result<(), SinkFault>
+/// Writes the message of the failure as a line ([`write_message`]).
+pub fn write_failure<E: MessageSink>(err: &mut E, failure: &Failure<'_>) -> Result<(), SinkFault>
     ensures { WritesAll (E.received err.old) (E.received err.new) result
         (line_text (failure_text failure.now)) }
 {
-    say_line(err, &[Part::Failure(failure)])
+    write_message(err, &[Part::Failure(failure)])
 }
 
-/// Writes a line: the input with this name could not be read, or is too long ([`say_line`]).
-pub fn say_unreadable<E: MessageSink>(err: &mut E, name: &str) -> Result<(), SinkFault>
+/// Writes a line: the input with this name could not be read, or is too long ([`write_message`]).
+pub fn write_unreadable<E: MessageSink>(err: &mut E, name: &str) -> Result<(), SinkFault>
     ensures { WritesAll (E.received err.old) (E.received err.new) result
         (line_text (unreadable_text name.now)) }
 {
-    say_line(err, &[Part::Text("cannot read "), Part::Name(name)])
+    write_message(err, &[Part::Text("cannot read "), Part::Escaped(name)])
 }
 
 /// Writes the parts, one after another.
@@ -99,13 +99,13 @@ fn write_part<E: MessageSink>(err: &mut E, part: &Part<'_>) -> Result<(), SinkFa
 {
     match part {
         Part::Text(text) => offer_all(err, text.as_bytes()),
-        Part::Name(name) => write_escaped(err, name.as_bytes()),
+        Part::Escaped(name) => write_escaped(err, name.as_bytes()),
         Part::Number(number) => offer_all(err, Buffer::new().format(*number).as_bytes()),
         Part::Failure(failure) => {
             let Message(before, subject, after, last) = failure.message();
             write_pieces(
                 err,
-                &[Piece::Text(before), subject, Piece::Text(after), last],
+                &[MessagePiece::Text(before), subject, MessagePiece::Text(after), last],
             )
         }
     }
@@ -144,7 +144,7 @@ fn write_byte<E: MessageSink>(err: &mut E, byte: u8) -> Result<(), SinkFault>
 }
 
 /// Writes the pieces, one after another.
-fn write_pieces<E: MessageSink>(err: &mut E, pieces: &[Piece<'_>]) -> Result<(), SinkFault>
+fn write_pieces<E: MessageSink>(err: &mut E, pieces: &[MessagePiece<'_>]) -> Result<(), SinkFault>
     ensures { WritesAll (E.received err.old) (E.received err.new) result (joined_pieces pieces.now) }
 {
     for piece in pieces {
@@ -154,14 +154,14 @@ fn write_pieces<E: MessageSink>(err: &mut E, pieces: &[Piece<'_>]) -> Result<(),
 }
 
 /// Writes a piece.
-fn write_piece<E: MessageSink>(err: &mut E, piece: &Piece<'_>) -> Result<(), SinkFault>
+fn write_piece<E: MessageSink>(err: &mut E, piece: &MessagePiece<'_>) -> Result<(), SinkFault>
     ensures { WritesAll (E.received err.old) (E.received err.new) result (piece_text piece.now) }
 {
     match piece {
-        Piece::Text(text) => offer_all(err, text.as_bytes()),
-        Piece::Number(number) => offer_all(err, Buffer::new().format(*number).as_bytes()),
-        Piece::Word(word) => offer_all(err, &word_h(*word)),
-        Piece::Byte(byte) => offer_all(err, &byte_h(*byte)),
+        MessagePiece::Text(text) => offer_all(err, text.as_bytes()),
+        MessagePiece::Number(number) => offer_all(err, Buffer::new().format(*number).as_bytes()),
+        MessagePiece::Word(word) => offer_all(err, &word_h(*word)),
+        MessagePiece::Byte(byte) => offer_all(err, &byte_h(*byte)),
     }
 }
 

@@ -12,7 +12,7 @@ use crate::input::{InputFault, input_name};
 use crate::printing::flush;
 use ipmi_command_line::{Command, UsageFault};
 use ipmi_commands::{execute_image, report};
-use ipmi_output::{Failure, MessageSink, Sink, Written, say_unreadable};
+use ipmi_output::{Failure, MessageSink, Sink, Written, write_unreadable};
 use std::alloc::Global;
 use std::io::{BufWriter, Write};
 
@@ -27,7 +27,7 @@ fn say_unread<E: MessageSink>(fault: InputFault, name: &str, err: &mut E) -> u8
         InputFault::Memory => report(Err(Failure::OutOfMemory), err),
         _ => {
             // a failure here cannot be reported anywhere
-            let _ = say_unreadable(err, name);
+            let _ = write_unreadable(err, name);
             UNREADABLE
         }
     }

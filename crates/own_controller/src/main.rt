@@ -269,7 +269,7 @@ fn program(rt: &HostRuntime) -> io::Result<()> {
     };
     let task = Task::List(Kind::All);
     // each task but `image rewrite` has a job
-    let job = Job::of(&task, None, Wording::Codes).unwrap();
+    let job = Job::of(&task, None, Wording::Plain).unwrap();
     let limits = RequestLimits::new(DEFAULT_PART, DEFAULT_TRIES);
     let mut out = Written::new(io::writer(rt));
     let mut summary = Summary::new();

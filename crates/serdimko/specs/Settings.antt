@@ -25,6 +25,6 @@ texts_of format = []
 
 -- objects have these labels
 abbrev pub wording_of : Format → Bor (List Label) → Wording
-wording_of Format.Plain labels = Wording.Codes
-wording_of Format.Descriptive labels = Wording.Words
+wording_of Format.Plain labels = Wording.Plain
+wording_of Format.Descriptive labels = Wording.Descriptive
 wording_of (Format.Json texts) labels = Wording.Json labels

@@ -16,8 +16,8 @@ use ipmi_capture::{Captured, Left, Progress, capture};
 use ipmi_command_line::Word;
 use ipmi_commands::RequestLimits;
 use ipmi_image::image_text;
-use ipmi_output::Part::{Name, Text};
-use ipmi_output::{Failure, MessageSink, say, say_line};
+use ipmi_output::Part::{Escaped, Text};
+use ipmi_output::{Failure, MessageSink, write_failure, write_message};
 use ipmi_raw::{Peer, RawController};
 use std::alloc::{AllocError, Global};
 use std::fs::{self, File, Files};
@@ -96,7 +96,7 @@ fn say_left<E: MessageSink>(alloc: Global, left: &[Left], err: &mut E) -> Result
     for left in left {
         let line = format!(in alloc; "{left}")?;
         // there is nowhere left to report that this failed
-        let _ = say_line(err, &[Text(line.as_str())]);
+        let _ = write_message(err, &[Text(line.as_str())]);
     }
     Ok(())
 }
@@ -107,7 +107,7 @@ fn say_lost<E: MessageSink>(line: &str, err: &mut E)
         (line_text (codes "no reply from the controller: " ++ escaped_name line.now)) }
 {
     // there is nowhere left to report that this failed
-    let _ = say_line(err, &[Text("no reply from the controller: "), Name(line)]);
+    let _ = write_message(err, &[Text("no reply from the controller: "), Escaped(line)]);
 }
 
 /// Writes the file in one step: writes another file, then renames it.
@@ -152,7 +152,7 @@ fn print_text<W: Write, E: MessageSink>(text: &[u8], is_whole: bool, out: &mut W
         Err(error) if error.kind() == ErrorKind::BrokenPipe => CLOSED,
         Err(_) => {
             // there is nowhere left to report that this failed
-            let _ = say(err, &Failure::WriteFault);
+            let _ = write_failure(err, &Failure::WriteFault);
             UNWRITTEN
         }
     }
@@ -168,7 +168,7 @@ fn write_whole<R: Files + AllocGlobal, E: MessageSink>(
     ensures { WritesText true name.now (E.received err.old) (E.received err.new) result }
 {
     if write_file(rt, name, text).is_err() {
-        let _ = say_line(err, &[Text("cannot write "), Name(name)]);
+        let _ = write_message(err, &[Text("cannot write "), Escaped(name)]);
         return UNWRITTEN;
     }
     0
@@ -188,7 +188,7 @@ fn write_text<R: Files + AllocGlobal, E: MessageSink>(
         return write_whole(rt, text, name, err);
     }
     let why = Text(" is not written: the image is not whole");
-    let _ = say_line(err, &[Name(name), why]);
+    let _ = write_message(err, &[Escaped(name), why]);
     NOT_WHOLE
 }
 

@@ -18,7 +18,7 @@ use ipmi_commands::{
     FoundSensors, Job, RequestLimits, Summary, execute, find_sensors, print_sensors,
 };
 use ipmi_image::ImageController;
-use ipmi_output::{Failure, MessageSink, Name};
+use ipmi_output::{Failure, MessageSink, RecordName};
 use std::alloc::Global;
 use std::io::Write;
 
@@ -106,7 +106,7 @@ fn run_name<'a, W: Write + Drop>(
 {
     let mut summary = Summary::new();
     let ending = match print_sensors(alloc, found, name, report.wording, out, &mut summary) {
-        Ok(()) if summary.pieces() == 0 => Err(Failure::NoName(Name::new(name))),
+        Ok(()) if summary.pieces() == 0 => Err(Failure::NoName(RecordName::new(name))),
         ending => ending,
     };
     end_run(alloc, report, ending, None, &summary, out)

@@ -14,7 +14,7 @@ use crate::report::Report;
 use crate::run_error::RunError;
 use ipmi_commands::{Summary, Wording};
 use ipmi_json::{Label, end_line};
-use ipmi_output::{Failure, Sink, SinkFault, say_line, write_all};
+use ipmi_output::{Failure, Sink, SinkFault, write_message, write_all};
 use ipmi_program::flush;
 use std::alloc::{AllocError, Global};
 use std::io::Write;
@@ -34,7 +34,7 @@ fn text_of(alloc: Global, error: &RunError<'_>, report: &Report<'_>) -> Result<S
 {
     let mut line = Vec::new(alloc);
     // the only failure is out of memory
-    say_line(&mut line, &error.parts(report.name, report.is_only_input)).or(Err(AllocError))?;
+    write_message(&mut line, &error.parts(report.name, report.is_only_input)).or(Err(AllocError))?;
     String::from_utf8_lossy(alloc, without_line_feed(line.as_slice()))
 }
 
@@ -130,7 +130,7 @@ pub(crate) fn end_with<'a, W: Write + Drop>(
 {
     match report.wording {
         Wording::Json(labels) => print_end(alloc, labels, pieces, error, report, out),
-        Wording::Codes | Wording::Words => error,
+        Wording::Plain | Wording::Descriptive => error,
     }
 }
 

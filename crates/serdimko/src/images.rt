@@ -17,8 +17,8 @@ use crate::run_error::RunError;
 use ipmi_command_line::{Format, Task, Word};
 use ipmi_commands::{RequestLimits, Summary, write_image};
 use ipmi_image::{FaultCause, Image, ImageController, ImageFault, fault_cause};
-use ipmi_output::Part::{Name, Text};
-use ipmi_output::{Failure, MessageSink, SinkFault, say_line};
+use ipmi_output::Part::{Escaped, Text};
+use ipmi_output::{Failure, MessageSink, SinkFault, write_message};
 use ipmi_program::{InputFault, input_name, read_input};
 use std::alloc::{AllocError, Global};
 use std::io::Write;
@@ -182,7 +182,7 @@ fn print_header<W: Write + Drop>(out: &mut Output<W>, name: &str) -> Result<(), 
     ensures err { OnErr result (TakesPart (out_of out.old).taken (out_of out.new).taken (header name.now)) }
     ensures faults { (out_of out.new).faults ≡ (out_of out.old).faults + flush_faults result }
 {
-    say_line(out, &[Text("== "), Name(name)])?;
+    write_message(out, &[Text("== "), Escaped(name)])?;
     out.flush()
 }
 

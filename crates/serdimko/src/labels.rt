@@ -7,7 +7,7 @@ ghost use Rattle.serdimko.specs.Labels.{fault_of_label, key_value, label_of, lab
 use crate::mistake::{Line, line};
 use ipmi_command_line::Word;
 use ipmi_json::Label;
-use ipmi_output::Part::{Name, Text};
+use ipmi_output::Part::{Escaped, Text};
 use std::alloc::{AllocError, Global};
 
 /// The key of the image's name, if there are several images.
@@ -176,7 +176,7 @@ pub(crate) fn wrong_label<'a>(
         let text = text.as_str();
         let label = label_of(text);
         if let Some(fault) = fault_of(label, labels.as_slice()) {
-            return line(alloc, &[Text("--label '"), Name(text), Text(fault)]).map(Some);
+            return line(alloc, &[Text("--label '"), Escaped(text), Text(fault)]).map(Some);
         }
         add(&mut labels, label)?;
     }

@@ -29,8 +29,8 @@ use ipmi_command_line::{
     Word, Words, request_of,
 };
 use ipmi_commands::{RequestLimits, report};
-use ipmi_output::Part::{self, Name, Number, Text};
-use ipmi_output::{Failure, MessageSink, Written, say_line};
+use ipmi_output::Part::{self, Escaped, Number, Text};
+use ipmi_output::{Failure, MessageSink, Written, write_message};
 use ipmi_program::read_words;
 use labels::wrong_label;
 use live::{Live, print_live};
@@ -197,7 +197,7 @@ fn advise<E: MessageSink>(rt: &HostRuntime, status: u8, names: &[Word], err: &mu
     }
     // without memory there is no advice
     if let Ok(Some(line)) = maybe_unquoted(rt.alloc(), names) {
-        let _ = say_line(err, &line);
+        let _ = write_message(err, &line);
     }
 }
 
@@ -216,7 +216,7 @@ fn live_of<'a, E: MessageSink>(
     refuse(
         &[
             Text("--live: cannot open the pipes in '"),
-            Name(folder),
+            Escaped(folder),
             Text(why),
         ],
         err,
@@ -267,7 +267,7 @@ fn print_from<E: MessageSink>(
 {
     if live.is_none() && images.is_empty() && rt.stdin().is_terminal() {
         // otherwise it would wait for an image in silence
-        let _ = say_line(
+        let _ = write_message(
             err,
             &[Text(
                 "waiting for an image from the terminal: write --image FILE to read a file, or use serdimko-live for a live machine",
@@ -288,7 +288,7 @@ fn print_from<E: MessageSink>(
 /// Reports what is wrong with the command line, and returns the exit status.
 fn refuse<E: MessageSink>(line: &[Part<'_>], err: &mut E) -> u8 {
     // there is nowhere left to report that this failed
-    let _ = say_line(err, line);
+    let _ = write_message(err, line);
     USAGE
 }
 

@@ -2,7 +2,7 @@
 ghost use Rattle.std.specs.Prelude.{◌≡◌, IfOk};
 
 use ipmi_command_line::Word;
-use ipmi_output::Part::{self, Name, Text};
+use ipmi_output::Part::{self, Escaped, Text};
 use std::alloc::{AllocError, Global};
 
 /// The parts of a line.
@@ -31,7 +31,7 @@ pub(crate) fn maybe_unquoted<'a>(
     let rule = "'sensor get' takes each word as a name: quote a name that has spaces";
     let mut parts = line(alloc, &[Text(rule)])?;
     if let [first, second] = names {
-        let (first, second) = (Name(first.as_str()), Name(second.as_str()));
+        let (first, second) = (Escaped(first.as_str()), Escaped(second.as_str()));
         for part in [Text(", as '"), first, Text(" "), second, Text("'")] {
             parts.push(part)?;
         }

@@ -7,7 +7,7 @@ use crate::run_error::{CLOSED, RunError};
 use ipmi_command_line::{Format, Word};
 use ipmi_commands::{RequestLimits, Wording};
 use ipmi_json::Label;
-use ipmi_output::{MessageSink, say_line};
+use ipmi_output::{MessageSink, write_message};
 
 /// What holds for all inputs of a request.
 #[derive(Drop)]
@@ -54,8 +54,8 @@ impl Settings {
         ensures input { result.is_only_input ≡ is_only_input }
     {
         let wording = match &self.format {
-            Format::Plain => Wording::Codes,
-            Format::Descriptive => Wording::Words,
+            Format::Plain => Wording::Plain,
+            Format::Descriptive => Wording::Descriptive,
             Format::Json(_) => Wording::Json(labels),
         };
         Report {
@@ -90,7 +90,7 @@ impl Report<'_> {
             RunError::Closed => CLOSED,
             _ => {
                 // there is nowhere left to report that this failed
-                let _ = say_line(err, &error.parts(self.name, self.is_only_input));
+                let _ = write_message(err, &error.parts(self.name, self.is_only_input));
                 error.status()
             }
         }

@@ -6,7 +6,7 @@ ghost use Rattle.serdimko.specs.RunError.{is_recoverable, is_output_open, lost_e
 use crate::causes::cause_words;
 use ipmi_bus::{Ended, FruEnded};
 use ipmi_image::{FaultCause, ImageFault};
-use ipmi_output::Part::{self, Name, Number, Text};
+use ipmi_output::Part::{self, Escaped, Number, Text};
 use ipmi_output::{Failure, fault_line, fault_words};
 use ipmi_program::InputFault;
 
@@ -149,7 +149,7 @@ impl<'a> RunError<'a> {
                 let words = Text(fault.words());
                 [
                     Text("cannot read "),
-                    Name(name),
+                    Escaped(name),
                     Text(": "),
                     words,
                     none,
@@ -160,7 +160,7 @@ impl<'a> RunError<'a> {
             RunError::Lost(said) => {
                 [
                     Text("no reply from the controller: "),
-                    Name(said.as_str()),
+                    Escaped(said.as_str()),
                     none,
                     none,
                     none,
@@ -184,8 +184,8 @@ fn image_parts<'a>(fault: ImageFault, cause: Option<FaultCause>, name: &'a str) 
     let words = Text(fault_words(fault));
     let (none, why) = (Text(""), Text(cause_words(cause)));
     match fault_line(fault) {
-        Some(line) => [Name(name), Text(":"), Number(line), Text(": "), words, why],
-        None => [Name(name), Text(": "), words, why, none, none],
+        Some(line) => [Escaped(name), Text(":"), Number(line), Text(": "), words, why],
+        None => [Escaped(name), Text(": "), words, why, none, none],
     }
 }
 
@@ -207,5 +207,5 @@ fn run_parts<'a>(part: Part<'a>, name: &'a str, is_only_input: bool) -> [Part<'a
     if is_only_input {
         return [part, none, none, none, none, none];
     }
-    [Name(name), Text(": "), part, none, none, none]
+    [Escaped(name), Text(": "), part, none, none, none]
 }

@@ -1,4 +1,4 @@
-//! Codes and their classes, the ends of a listing, a later step, parts and ids.
+//! Plain and their classes, the ends of a listing, a later step, parts and ids.
 use crate::bus::listings::{assert_listing, listing, listing_by_bytes};
 use crate::commands::outcome::{Outcome, assert_outcome};
 use crate::commands::over_images::over;

@@ -82,7 +82,7 @@ fn assert_blocks(
     let mut out = Written::new(Vec::new(alloc));
     let mut summary = Summary::new();
     for (name, count) in NAMES.iter().zip(pieces) {
-        let printed = print_sensors(alloc, found, name, Wording::Codes, &mut out, &mut summary);
+        let printed = print_sensors(alloc, found, name, Wording::Plain, &mut out, &mut summary);
         assert!(rt; printed.is_ok(), "{name}: printed");
         assert!(rt; summary.pieces() == *count, "{name}: pieces");
     }

@@ -128,7 +128,7 @@ pub(super) fn assert_output_in_words_over(
 ) {
     let ctl = scripted(rt, alloc, image, case.more);
     let command = command_of_case(rt, alloc, case.words);
-    let outcome = outcome_in(alloc, ctl, command, Wording::Words);
+    let outcome = outcome_in(alloc, ctl, command, Wording::Descriptive);
     assert_outcome(rt, alloc, outcome, case.wanted, case.line);
 }
 

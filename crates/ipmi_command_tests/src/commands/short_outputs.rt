@@ -214,7 +214,7 @@ fn outcome_with_slow_messages(rt: &impl Abort, alloc: Global) -> AnswerOutcome {
         alloc,
         &mut ctl,
         &hex,
-        Wording::Codes,
+        Wording::Plain,
         &mut out,
         &mut summary,
     );

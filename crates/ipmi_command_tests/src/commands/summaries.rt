@@ -43,7 +43,7 @@ fn counts_of(rt: &impl Abort, alloc: Global, line: &str, wording: Wording<'_>) -
 
 /// Asserts these numbers of a command in codes, in words and in JSON.
 fn assert_counts(rt: &impl Abort, alloc: Global, line: &str, wanted: [(u64, u64); 3]) {
-    let wordings = [Wording::Codes, Wording::Words, Wording::Json(&[])];
+    let wordings = [Wording::Plain, Wording::Descriptive, Wording::Json(&[])];
     for (wording, (pieces, faults)) in wordings.into_iter().zip(wanted) {
         let got = counts_of(rt, alloc, line, wording);
         assert!(rt;

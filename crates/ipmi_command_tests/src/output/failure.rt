@@ -2,7 +2,7 @@
 use crate::writers::{Limited, assert_written_text};
 use ipmi_bus::{Code, Ended, FruEnded};
 use ipmi_image::ImageFault;
-use ipmi_output::{Failure, MessageSink, Name, SinkFault, Written, say, say_unreadable};
+use ipmi_output::{Failure, MessageSink, RecordName, SinkFault, Written, write_failure, write_unreadable};
 use std::alloc::Global;
 use std::process::Abort;
 
@@ -29,7 +29,7 @@ const TWICE: Case = Case {
 /// Asserts the line and the status of a failure.
 fn assert_message(rt: &impl Abort, alloc: Global, case: &Case) {
     let mut err = Vec::new(alloc);
-    let result = say(&mut err, &case.failure);
+    let result = write_failure(&mut err, &case.failure);
     assert!(rt; result == Ok(()), "{case:?}: {result:?}");
     assert_written_text(rt, &err, case.line);
     let failure = &case.failure;
@@ -49,7 +49,7 @@ fn assert_messages(rt: &impl Abort, alloc: Global, cases: &[Case]) {
 /// Asserts the line about a file that can't be read.
 fn assert_unreadable_message(rt: &impl Abort, alloc: Global, name: &str, line: &str) {
     let mut err = Vec::new(alloc);
-    let result = say_unreadable(&mut err, name);
+    let result = write_unreadable(&mut err, name);
     assert!(rt; result == Ok(()), "{name:?}: {result:?}");
     assert_written_text(rt, &err, line);
 }
@@ -69,7 +69,7 @@ fn a_file_that_cannot_be_read_is_named_in_one_line(rt: HostRuntime) {
 #[test]
 fn a_name_that_no_record_has_is_said(rt: HostRuntime) {
     let case = Case {
-        failure: Failure::NoName(Name::new("Foo")),
+        failure: Failure::NoName(RecordName::new("Foo")),
         line: "no record named Foo\n",
         status: 1,
     };
@@ -236,9 +236,9 @@ fn image_faults_name_the_line(rt: HostRuntime) {
 #[test]
 fn a_line_comes_after_the_last_one(rt: HostRuntime) {
     let mut err = Vec::new(rt.alloc());
-    let result = say(&mut err, &REFUSED.failure);
+    let result = write_failure(&mut err, &REFUSED.failure);
     assert!(rt; result == Ok(()), "the first line: {result:?}");
-    let result = say(&mut err, &Failure::OutOfMemory);
+    let result = write_failure(&mut err, &Failure::OutOfMemory);
     assert!(rt; result == Ok(()), "the second line: {result:?}");
     assert_written_text(
         &rt,
@@ -250,7 +250,7 @@ fn a_line_comes_after_the_last_one(rt: HostRuntime) {
 /// Asserts that a writer that takes only `room` bytes has that much of the line.
 fn assert_cut_message(rt: &impl Abort, alloc: Global, case: &Case, room: usize) {
     let mut err = Limited::failing_after(alloc, room);
-    let result = say(&mut err, &case.failure);
+    let result = write_failure(&mut err, &case.failure);
     assert!(rt; result == Err(SinkFault), "{room} bytes of {}", case.line);
     assert_written_text(
         rt,
@@ -277,7 +277,7 @@ fn assert_cut_unreadable_message(rt: &impl Abort, alloc: Global, room: usize) {
     // first bytes before the line feed, and last ones after it
     let line = "cannot read a\\x0Ab\n";
     let mut err = Limited::failing_after(alloc, room);
-    let result = say_unreadable(&mut err, "a\nb");
+    let result = write_unreadable(&mut err, "a\nb");
     assert!(rt; result == Err(SinkFault), "{room} bytes of {line}");
     assert_written_text(rt, &err.got, line.get(..room).expect(rt, "so many bytes"));
 }
@@ -292,7 +292,7 @@ fn a_writer_that_fails_holds_a_first_part_of_a_name(rt: HostRuntime) {
 #[test]
 fn a_slow_writer_gets_the_whole_line(rt: HostRuntime) {
     let mut err = Limited::slow(rt.alloc(), 3);
-    let result = say(&mut err, &REFUSED.failure);
+    let result = write_failure(&mut err, &REFUSED.failure);
     assert!(rt; result == Ok(()), "{result:?}");
     assert_written_text(&rt, &err.got, REFUSED.line);
 }
@@ -300,14 +300,14 @@ fn a_slow_writer_gets_the_whole_line(rt: HostRuntime) {
 #[test]
 fn a_writer_that_takes_nothing_is_at_fault(rt: HostRuntime) {
     let mut err = Limited::full_after(rt.alloc(), 0);
-    let result = say(&mut err, &REFUSED.failure);
+    let result = write_failure(&mut err, &REFUSED.failure);
     assert!(rt; result == Err(SinkFault), "{result:?}");
 }
 
 #[test]
 fn a_sink_takes_messages_too(rt: HostRuntime) {
     let mut err = Written::new(Limited::slow(rt.alloc(), 3));
-    let result = say(&mut err, &TWICE.failure);
+    let result = write_failure(&mut err, &TWICE.failure);
     assert!(rt; result == Ok(()), "the message: {result:?}");
     let result = err.offer(b"record");
     assert!(rt; result == Ok(3), "what is offered: {result:?}");

@@ -4,4 +4,4 @@ use Rattle.serdimko.proofs.CapturedLemmas.{said_name}
 use Rattle.serdimko.proofs.capture.say_lost.Goals as goal
 
 pub returns : goal.returns
-returns g c = said_name c.say_line.result _ _ (codes "no reply from the controller: ") (escaped_name c.args.line.now) c.say_line.ensures
+returns g c = said_name c.write_message.result _ _ (codes "no reply from the controller: ") (escaped_name c.args.line.now) c.write_message.ensures

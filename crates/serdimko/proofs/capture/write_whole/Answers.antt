@@ -5,4 +5,4 @@ use Rattle.serdimko.proofs.capture.write_whole.Goals as goal
 
 pub returns-then-is_err : goal.returns-then-is_err
 returns-then-is_err g c =
-    inr (refl, said_name c.say_line.result _ _ (codes "cannot write ") (escaped_name c.args.name.now) c.say_line.ensures)
+    inr (refl, said_name c.write_message.result _ _ (codes "cannot write ") (escaped_name c.args.name.now) c.write_message.ensures)

@@ -2,7 +2,7 @@
 use Rattle.std.proofs.Common.{codes}
 use Rattle.std.proofs.lemmas.Result.{MatchResult-from_err, MatchResult-weaker}
 use Rattle.ipmi_output.proofs.MessageLemmas.{ReceivesAll-both, ReceivesPart-before, ReceivesPart-after}
-use Rattle.ipmi_output.proofs.message.say_line.Goals as goal
+use Rattle.ipmi_output.proofs.message.write_message.Goals as goal
 
 pub returns-in_err-write_parts : goal.returns-in_err-write_parts
 returns-in_err-write_parts g c =
