@@ -2,8 +2,8 @@
 use super::over_images::scripted;
 use crate::writers::assert_written_text;
 use ipmi_bus::Ended;
-use ipmi_command_line::{Command, Task, Word, Words};
-use ipmi_commands::{FoundSensors, Summary, Wording, find_sensors, print_sensors};
+use ipmi_command_line::Words;
+use ipmi_commands::{FoundSensors, RequestLimits, Summary, Wording, find_sensors, print_sensors};
 use ipmi_fixtures::{CPU_TEMP_BLOCK, PSU1_BLOCK};
 use ipmi_output::{Failure, Written};
 use std::alloc::Global;
@@ -47,22 +47,15 @@ fn names(rt: &impl Abort, alloc: Global) -> Words {
     names
 }
 
-/// A command with one try.
-fn command(rt: &impl Abort, alloc: Global) -> Command {
-    let name = Word::new(alloc, "PSU1").expect(rt, "memory");
-    Command::new(Task::Get(name), None, 32, 1, None)
-}
-
-/// A search for the names over a controller whose first calls have these moods.
+/// A search for the names over a controller whose first calls have these moods, with one retry.
 fn search_in_moods(rt: &impl Abort, alloc: Global, moods: &str) -> Search {
     let mut ctl = scripted(rt, alloc, SENSORS, moods);
     let names = names(rt, alloc);
-    let cmd = command(rt, alloc);
+    let limits = RequestLimits::new(32, 1);
     let mut found = FoundSensors::new(alloc);
-    let ending = find_sensors(alloc, &mut ctl, &cmd, names.as_slice(), &mut found);
+    let ending = find_sensors(alloc, &mut ctl, limits, names.as_slice(), None, &mut found);
     let calls = ctl.calls;
     drop(ctl);
-    drop(cmd);
     drop(names);
     Search {
         found,
