@@ -58,7 +58,7 @@ job_of (Task.Fru None) from = Some (Job.AllInventories Wording.Plain None)
 job_of (Task.Fru (Some id)) from = Some (Job.Inventory Wording.Plain id None)
 job_of Task.Rewrite from = None
 
--- The job of a task in a wording. With `Words`, it prints the words of the standard's tables, and
+-- The job of a task in a wording. With `Descriptive`, it prints the words of the standard's tables, and
 -- one line for each device; a task without such a text is printed in codes. With `Json`, each job
 -- prints objects, and `sel get` is a listing of one entry.
 abbrev pub job_in : Wording → Task → Option ℕ → Option Job

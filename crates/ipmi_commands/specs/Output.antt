@@ -34,7 +34,7 @@ pub record IsCut (old new piece : Output) : Type 0 where
   pub pieces : new.pieces ≡ old.pieces
   pub faults : new.faults ≡ old.faults
 
--- bytes were printed, and something was counted
+-- bytes were printed, whatever was counted
 abbrev pub OnBytes : List ℕ → List ℕ → (Output → Output → Type 0) → Type 0
 OnBytes old new Holds = (pieces faults : ℕ)
     × Holds (record { bytes = old; pieces = 0; faults = 0 }) (record { bytes = new; pieces = pieces; faults = faults })

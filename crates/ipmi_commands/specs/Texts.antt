@@ -196,7 +196,7 @@ IsTextOver store OfImage text = text ≡ image_text_of store
 
 -- ---- what is counted
 
--- a device is missing, or its inventory has a fault that the form names: the line in words, only one of the header
+-- a device is missing, or its inventory has a fault that the form names; a line in words names only a fault of the header
 abbrev pub is_faulty_device : Wording → Option (List ℕ) → Bool
 is_faulty_device wording None = true
 is_faulty_device Wording.Descriptive (Some bytes) = is_some (header_fault bytes)

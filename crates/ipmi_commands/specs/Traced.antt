@@ -20,7 +20,7 @@ pub record IsTraced (begun now : CursorState) (s s' : Seen) (steps : List Steppe
 -- ---- the texts of the returned records
 
 -- The text of a record in this form, over the store that the controller held after the requests for it,
--- `s'`; any text if an inventory changed between `s` and `s'`
+-- `s'`; any text and counts if an inventory changed between `s` and `s'`
 abbrev pub IsTextAfter : Form → Row → Seen → Seen → Output → Type 0
 IsTextAfter form row s s' text = KeepsAt (points_because_of form row) s s' → IsPieceOver s'.store (OfRow form row) text
 

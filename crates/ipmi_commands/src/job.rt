@@ -233,7 +233,10 @@ impl<'a> Job<'a> {
                 Some(Job::records(Form::Block(json, name), from, None))
             }
             Task::SelList(count) => Some(Job::NameLookup(json, NameLookup::Events(*count, from))),
-            Task::SelGet(id) => Some(Job::NameLookup(json, NameLookup::Events(Count::First(1), Some(*id)))),
+            Task::SelGet(id) => Some(Job::NameLookup(
+                json,
+                NameLookup::Events(Count::First(1), Some(*id)),
+            )),
             Task::Info(shelf) => Some(Job::Info(json, *shelf)),
             Task::Fru(None) => Some(Job::NameLookup(json, NameLookup::Devices)),
             Task::Fru(Some(id)) => Some(Job::Inventory(json, *id, None)),
@@ -249,12 +252,19 @@ impl<'a> Job<'a> {
         ensures range { IfSome result (λ job. IsJob job) }
     {
         match task {
-            Task::List(kind) => Some(Job::records(Form::Line(Detail::Descriptive, *kind), from, None)),
+            Task::List(kind) => Some(Job::records(
+                Form::Line(Detail::Descriptive, *kind),
+                from,
+                None,
+            )),
             Task::Get(name) => {
                 let name = RecordName::new(name.as_str());
                 Some(Job::records(Form::Block(Wording::Descriptive, name), from, None))
             }
-            Task::SelList(count) => Some(Job::NameLookup(Wording::Descriptive, NameLookup::Events(*count, from))),
+            Task::SelList(count) => Some(Job::NameLookup(
+                Wording::Descriptive,
+                NameLookup::Events(*count, from),
+            )),
             Task::Fru(None) => Some(Job::NameLookup(Wording::Descriptive, NameLookup::Devices)),
             _ => Job::in_codes(task, from),
         }

@@ -12,10 +12,10 @@ mod named;
 mod pages;
 mod perform;
 mod piece;
+mod read_error;
 mod runs;
 mod sensors;
 mod summary;
-mod read_error;
 
 pub use job::{Job, Wording};
 pub use limits::RequestLimits;

@@ -207,7 +207,9 @@ pub fn execute<'a, C: Controller, O: Sink>(
         Job::Last(entries, wanted, from) => {
             list_last(alloc, ctl, limits, entries, wanted, from, out, summary)
         }
-        Job::NameLookup(wording, named) => list_named(alloc, ctl, limits, wording, named, out, summary),
+        Job::NameLookup(wording, named) => list_named(
+            alloc, ctl, limits, wording, named, out, summary,
+        ),
         Job::Info(wording, shelf) => print_info(alloc, ctl, limits, wording, shelf, out, summary),
         Job::Inventory(wording, id, name) => {
             print_inventory(

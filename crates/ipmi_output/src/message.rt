@@ -29,7 +29,12 @@ pub(crate) enum MessagePiece<'a> {
 }
 
 /// A message: its texts and pieces, in order.
-pub(crate) struct Message<'a>(pub &'a str, pub MessagePiece<'a>, pub &'a str, pub MessagePiece<'a>);
+pub(crate) struct Message<'a>(
+    pub &'a str,
+    pub MessagePiece<'a>,
+    pub &'a str,
+    pub MessagePiece<'a>,
+);
 
 impl<'a> fmt::Display for MessagePiece<'a> {
     ghost output = { λ piece. Some (piece_text piece) };
@@ -105,7 +110,12 @@ fn write_part<E: MessageSink>(err: &mut E, part: &Part<'_>) -> Result<(), SinkFa
             let Message(before, subject, after, last) = failure.message();
             write_pieces(
                 err,
-                &[MessagePiece::Text(before), subject, MessagePiece::Text(after), last],
+                &[
+                    MessagePiece::Text(before),
+                    subject,
+                    MessagePiece::Text(after),
+                    last,
+                ],
             )
         }
     }

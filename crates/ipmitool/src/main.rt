@@ -7,7 +7,9 @@ pub use ipmi_commands::{
     Job, RequestLimits, Summary, Wording, answer, execute, execute_image, execute_pages, report,
     run, run_pages, write_image,
 };
-pub use ipmi_output::{Failure, MessageSink, Sink, SinkFault, Written, write_failure, write_unreadable};
+pub use ipmi_output::{
+    Failure, MessageSink, Sink, SinkFault, Written, write_failure, write_unreadable,
+};
 use ipmi_program::{answer_buffered, read_input, read_words};
 use std::io::{self, BufWriter};
 use std::process::ExitCode;

@@ -42,7 +42,7 @@ WritesEnd line old new error last =
     ((new.taken ≡ old.taken ++ line) × (new.held ≡ []) × (last ≡ error))
     ⊎ (TakesPart old.taken new.taken line × (last ≡ Some (output_error new.closed)))
 
--- `error` is that of the run, and `last` that of the run and its end line. Without room in the output nothing is printed.
+-- `error` is that of the run, and `last` that of the run and its end line. If the output accepts no more, nothing is printed.
 -- Otherwise a line with `IsEnd` is printed, or memory for it runs out.
 abbrev pub PrintsEnd : Bool → (List ℕ → Type 0) → Out → Out → Option RunError → Option RunError → Type 0
 PrintsEnd false IsEnd old new error last = (new ≡ old) × (last ≡ error)
@@ -81,7 +81,7 @@ pub record EndsRun (report : Report) (pieces faults : ℕ) (said : Option (Strin
   pub ends : EndsIn report (shown pieces) flushed new
       (lost_error said (error_of ending (is_faulty report faults) flushed.closed)) last
 
--- A run whose output and ending `Prints` relates, and its end. `Prints` sees what was printed and counted: nothing before the run.
+-- A run whose output and ending `Prints` relates, and its end. `Prints` sees the bytes before and after, and what the run counted.
 pub record RunsThenEnds (report : Report) (Prints : Output → Output → Ending → Type 0) (said : Option (String Global)) (old new : Out)
     (last : Option RunError) : Type 0 where
   pub after : Out
@@ -159,7 +159,7 @@ pub record PrintsBroken (report : Report) (found : List Found) (names : List (Li
   pub prints : PrintsNames report found names before after printed
   pub ends : ending ≡ broken_end failure printed
 
--- a run for one name; the next one follows, unless the error is not this run's own
+-- a run for one name; the next one follows, unless the error would stop it too
 abbrev pub RunsName : Report → List Found → List ℕ → Out → Out → Received → Received → ℕ × Bool → Bool → Type 0
 RunsName report found name old new said said' result follows =
     (error : Option RunError) × RunsThenEnds report (PrintsName report found name) None old new error

@@ -91,7 +91,7 @@ said_of_error name is_only_input None = []
 said_of_error name is_only_input (Some RunError.Closed) = []
 said_of_error name is_only_input (Some error) = line_text (error_text name is_only_input error)
 
--- a write fault is one fault of the output, and nothing else is
+-- a write fault is one fault of the output, and so is a closed output; nothing else is
 abbrev pub faults_of_error : Option RunError → ℕ
 faults_of_error (Some (RunError.Failed failure)) = write_faults (Err failure)
 faults_of_error (Some RunError.Closed) = 1

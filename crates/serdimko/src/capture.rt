@@ -107,7 +107,10 @@ fn say_lost<E: MessageSink>(line: &str, err: &mut E)
         (line_text (codes "no reply from the controller: " ++ escaped_name line.now)) }
 {
     // there is nowhere left to report that this failed
-    let _ = write_message(err, &[Text("no reply from the controller: "), Escaped(line)]);
+    let _ = write_message(
+        err,
+        &[Text("no reply from the controller: "), Escaped(line)],
+    );
 }
 
 /// Writes the file in one step: writes another file, then renames it.

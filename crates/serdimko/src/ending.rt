@@ -14,7 +14,7 @@ use crate::report::Report;
 use crate::run_error::RunError;
 use ipmi_commands::{Summary, Wording};
 use ipmi_json::{Label, end_line};
-use ipmi_output::{Failure, Sink, SinkFault, write_message, write_all};
+use ipmi_output::{Failure, Sink, SinkFault, write_all, write_message};
 use ipmi_program::flush;
 use std::alloc::{AllocError, Global};
 use std::io::Write;

@@ -184,7 +184,14 @@ fn image_parts<'a>(fault: ImageFault, cause: Option<FaultCause>, name: &'a str) 
     let words = Text(fault_words(fault));
     let (none, why) = (Text(""), Text(cause_words(cause)));
     match fault_line(fault) {
-        Some(line) => [Escaped(name), Text(":"), Number(line), Text(": "), words, why],
+        Some(line) => [
+            Escaped(name),
+            Text(":"),
+            Number(line),
+            Text(": "),
+            words,
+            why,
+        ],
         None => [Escaped(name), Text(": "), words, why, none, none],
     }
 }

@@ -2,7 +2,9 @@
 use crate::writers::{Limited, assert_written_text};
 use ipmi_bus::{Code, Ended, FruEnded};
 use ipmi_image::ImageFault;
-use ipmi_output::{Failure, MessageSink, RecordName, SinkFault, Written, write_failure, write_unreadable};
+use ipmi_output::{
+    Failure, MessageSink, RecordName, SinkFault, Written, write_failure, write_unreadable,
+};
 use std::alloc::Global;
 use std::process::Abort;
 
