@@ -68,9 +68,9 @@ const OTHER: [u8; 16] = [
 const OTHER_LINE: &str =
     r#"{"object":"sel_entry","record_id":4,"record_type":3,"kind":"unknown","oem_data":"0102030405060708090a0b0c0d","raw":"0400030102030405060708090a0b0c0d","host":"web\"17\\","no\tte":"\u0001\né"}"#;
 
-/// A record of four memory sensors, starting with number 10h, and the full record of a temperature.
+/// A record of four memory sensors, `DIMM`, starting with number 10h, and the full record of a temperature.
 pub(crate) const SENSORS: &str =
-    "0200510220200010200100000c6f0000000000000000000401000000000000c544494d4d20010051013320000103017f680101000000003838000100000100000000f00000000000005f5a550000000202000000c84350552054656d70";
+    "020051021f200010200100000c6f0000000000000000000401000000000000c444494d4d010051013320000103017f680101000000003838000100000100000000f00000000000005f5a550000000202000000c84350552054656d70";
 
 /// The line of an entry, without a table of sensors.
 fn line_of(alloc: Global, id: u16, entry: &[u8; 16]) -> Result<Vec<u8>, AllocError> {
