@@ -7,6 +7,7 @@ pub mod PartsLemmas
 pub mod RecordLemmas
 pub mod SensorExistenceLemmas
 pub mod SensorUniqueLemmas
+pub mod SignLemmas
 pub mod StateLemmas
 pub mod TableLemmas
 pub mod ThresholdLemmas

@@ -1,20 +1,36 @@
 -- Appending names and their suffixes; finding locators among records.
-use Rattle.std.proofs.Common.{◌≡◌, ◌∙◌, ℕ, ◌-◌, None, Some, List, [], ◌∷◌, ◌++◌, length, take, drop, take_all, filter_map, append_assoc, append-nil, refl, sym, ap, arith}
-use Rattle.std.specs.List.{find}
+use Rattle.std.proofs.Common.{◌≡◌, ◌∙◌, ℕ, ◌+◌, ◌-◌, None, Option, Some, List, [], ◌∷◌, ◌++◌, length, take, drop, take_all, filter_map, append_assoc, append-nil, length-append, codes, nat_eq, refl, sym, ap, arith}
+use Rattle.std.specs.List.{ends_with, find}
 use Rattle.std.specs.Option.{option_or}
+use Rattle.std.proofs.Math.Seq.{drop-append-add}
 use Rattle.std.proofs.lemmas.List.{length-drop}
 use Rattle.std.proofs.lemmas.List.Elements.{filter_map-append}
 use Rattle.std.proofs.lemmas.List.Folds.{find-append}
 use Rattle.ipmi_records.specs.declared.sdr.SdrView.{SdrView}
-use Rattle.ipmi_events.specs.Name.{followed_by, locates, locator_for}
+use Rattle.ipmi_events.specs.Name.{followed_by, locates, locator_for, suffix_text}
 use Rattle.ipmi_events.specs.Sensors.{first_record, records_in, view_of}
 use Rattle.ipmi_events.proofs.RecordLemmas.{last_record, next_record}
 
+-- what comes before a name does not change how it ends
+ends_alike : (old : List ℕ) (c : ℕ) (name : List ℕ)
+    → ends_with nat_eq (old ++ c ∷ name) (codes " ") ≡ ends_with nat_eq (c ∷ name) (codes " ")
+ends_alike old c name =
+    let last = length (c ∷ name) - 1 in
+    let place : length (old ++ c ∷ name) - 1 ≡ length old + last = omega (arith, length-append old (c ∷ name)) in
+    rw (place, drop-append-add old (c ∷ name) last) refl
+
+suffix_alike : (old : List ℕ) (c : ℕ) (name : List ℕ) (suffix : Option (List ℕ))
+    → suffix_text (old ++ c ∷ name) suffix ≡ suffix_text (c ∷ name) suffix
+suffix_alike old c name None = refl
+suffix_alike old c name (Some suffix) = rw (ends_alike old c name) refl
+
 -- a suffix after a name, if the name made the text longer
-pub followed_some : (old text name suffix new : List ℕ) → text ≡ old ++ name
-    → (length text ≡ length old → ⊥) → new ≡ text ++ suffix → new ≡ old ++ followed_by suffix name
+pub followed_some : (old text name : List ℕ) (suffix : Option (List ℕ)) (new : List ℕ)
+    → text ≡ old ++ name → (length text ≡ length old → ⊥) → new ≡ text ++ suffix_text text suffix
+    → new ≡ old ++ followed_by suffix name
 followed_some old text [] suffix new is differs new_is = absurd (differs (ap length (is ∙ append-nil old)))
-followed_some old text (c ∷ name) suffix new is differs new_is = new_is ∙ rw is (append_assoc old (c ∷ name) suffix)
+followed_some old text (c ∷ name) suffix new is differs new_is =
+    new_is ∙ rw (is, suffix_alike old c name suffix) (append_assoc old (c ∷ name) (suffix_text (c ∷ name) suffix))
 
 -- the first record is the locator, or the locator is among the later records
 locator_for-next : (id : ℕ) (bytes first : List ℕ) → Some first ≡ first_record bytes

@@ -1,7 +1,12 @@
 -- The details in event data 2 and 3 of a threshold event (IPMI v2.0, table 29-6).
-use Rattle.std.specs.Prelude.{◌≡◌, ℕ, ◌%◌, ◌==◌, ◌||◌, Bool, true, false, if◌then◌else◌, List, [], ◌++◌, codes, Option, Some, None}
+use Rattle.std.specs.Prelude.{◌≡◌, ℕ, ◌%◌, ◌==◌, ◌||◌, Bool, true, false, if◌then◌else◌, ℤ, pos, List, [], ◌++◌, codes, Option, Some, None, unwrap_or}
+use Rattle.std.specs.Ordering.{int_cmp}
+use Rattle.std.specs.declared.cmp.Ordering.{Ordering}
+use Rattle.std.specs.declared.cmp.Ordering.TheVariants.{Less, Equal, Greater}
 use Rattle.ipmi_text.specs.Appended.{Appends}
+use Rattle.ipmi_text.specs.ReadingValue.{reading_value}
 use Rattle.ipmi_records.specs.Columns.{IsRawText, IsRawValue, raw_byte_text}
+use Rattle.ipmi_records.specs.Prelude.{factors_in}
 use Rattle.ipmi_events.specs.declared.event_data.Byte.{Byte}
 use Rattle.ipmi_events.specs.declared.event_data.EventData.{EventData}
 use Rattle.ipmi_events.specs.declared.event_data.Holding.{Holding}
@@ -26,17 +31,34 @@ abbrev pub IsLimit : Option (List ℕ) → ℕ → List ℕ → Type 0
 IsLimit None raw text = text ≡ raw_byte_text raw
 IsLimit (Some full) raw text = IsRawValue full raw text
 
--- how the reading of an assertion event compares to the threshold: if they are not equal, an odd
--- offset means that the reading went high, and an even offset that it went low (table 42-2)
-abbrev pub sign : EventData → List ℕ
-sign event =
-    if event.second == event.third then codes " = "
-    else if event.offset % 2 == 1 then codes " > "
-    else codes " < "
+-- the number that is printed of a raw byte: its value by the full record, or the byte itself if
+-- there is no value; by one record either all bytes have a value or none
+abbrev pub printed_number : Option (List ℕ) → ℕ → ℤ
+printed_number None raw = pos raw
+printed_number (Some full) raw = unwrap_or (reading_value (factors_in full) raw) (pos raw)
 
--- in a deassertion event the reading has crossed back, so no sign would be correct
-abbrev pub comparison : EventData → List ℕ
-comparison event = if event.is_deasserted then codes ", " else sign event
+-- how the printed reading compares to the printed threshold
+abbrev pub order_of : Option (List ℕ) → EventData → Ordering
+order_of full event = int_cmp (printed_number full event.second) (printed_number full event.third)
+
+-- the event says that the reading went high, and not low: its offset is odd (table 42-2)
+abbrev pub is_going_high : EventData → Bool
+is_going_high event = event.offset % 2 == 1
+
+-- the sign of an order, unless the event says the opposite
+abbrev pub sign : Ordering → Bool → List ℕ
+sign Less true = codes ", "
+sign Less false = codes " < "
+sign Equal going_high = codes " = "
+sign Greater true = codes " > "
+sign Greater false = codes ", "
+
+-- the text between the reading and the threshold; in a deassertion event the reading has crossed
+-- back, so no sign would be correct
+abbrev pub comparison : Option (List ℕ) → EventData → List ℕ
+comparison full event =
+    if event.is_deasserted then codes ", "
+    else sign (order_of full event) (is_going_high event)
 
 -- the reading, then the threshold
 pub record IsComparison (full : Option (List ℕ)) (event : EventData) (text : List ℕ)
@@ -46,7 +68,7 @@ pub record IsComparison (full : Option (List ℕ)) (event : EventData) (text : L
   pub is_reading : IsReading full event.second reading
   pub is_limit : IsLimit full event.third limit
   pub text_is : text ≡ codes "Reading "
-      ++ (reading ++ (comparison event ++ (codes "threshold " ++ limit)))
+      ++ (reading ++ (comparison full event ++ (codes "threshold " ++ limit)))
 
 -- the text for an event with or without a reading, and with or without a threshold
 abbrev pub IsCompared : Bool → Bool → Option (List ℕ) → EventData → List ℕ → Type 0

@@ -1,7 +1,7 @@
 //! Laws of tables and lines. They follow from the definitions, so they hold for any code that makes such a text.
 ghost use Rattle.std.specs.Prelude.{◌≡◌, ℕ, List};
 ghost use Rattle.std.specs.List.{AllPass, concat};
-ghost use Rattle.ipmi_events.specs.Laws.{DetailsAreUnique, DetailsExist, EventInWordsExists, EventInWordsIsUnique};
+ghost use Rattle.ipmi_events.specs.Laws.{DetailsAreUnique, DetailsExist, EventInWordsExists, EventInWordsIsUnique, SignsAreTrue};
 ghost use Rattle.ipmi_events.specs.Sensors.{is_whole_record, records_in};
 
 /// Splitting concatenated whole records gives these records again.
@@ -35,3 +35,8 @@ pub fn each_entry_has_a_line_in_words()
     ipmi_text::laws::each_time_has_a_text();
     ipmi_records::laws::each_entry_has_texts();
 }
+
+/// A sign between the reading and the threshold of an event is true of the two numbers that are printed.
+pub fn signs_are_true()
+    ensures { SignsAreTrue }
+{}

@@ -1,7 +1,7 @@
 //! The names of sensors, including sensors that share a record, and of FRU devices (IPMI v2.0, section 43).
 ghost use Rattle.std.specs.Prelude.{◌≡◌, ◌<◌, ◌++◌, ◌∷◌, [], IfOk, OnOk, option_map, string_bytes};
 ghost use Rattle.ipmi_records.specs.Prelude.{sensor_of, sharing_of};
-ghost use Rattle.ipmi_events.specs.Name.{device_name, letter, letters, locator_for, modifier_text, sensor_name, suffix_of};
+ghost use Rattle.ipmi_events.specs.Name.{device_name, letter, letters, locator_for, modifier_text, sensor_name, space_after, suffix_of, suffix_text};
 ghost use Rattle.ipmi_events.specs.Sensors.{records_in};
 
 use crate::sensors::first_record;
@@ -31,23 +31,42 @@ fn push_letters(text: &mut String, n: u16) -> Result<(), AllocError>
     text.push(letter(n % LETTERS) as char)
 }
 
-/// Appends a number in the form of a modifier.
+/// Appends a space, unless the text ends with one.
+fn push_space(text: &mut String) -> Result<(), AllocError>
+    ensures { OnOk result
+        (string_bytes text.new ≡ string_bytes text.old ++ space_after (string_bytes text.old)) }
+{
+    if text.as_bytes().ends_with(b" ") {
+        return Ok(());
+    }
+    text.push_str(" ")
+}
+
+/// Appends a number in the form of a modifier, after a space. Appends nothing if the modifier is reserved.
 fn push_modifier(text: &mut String, modifier: Modifier, n: u16) -> Result<(), AllocError>
     requires { n < 702 }
-    ensures { OnOk result
-        (string_bytes text.new ≡ string_bytes text.old ++ modifier_text modifier n) }
+    ensures { OnOk result (string_bytes text.new ≡ string_bytes text.old
+        ++ suffix_text (string_bytes text.old) (modifier_text modifier n)) }
 {
     match modifier {
-        Modifier::Numeric => write!(text, "{n}"),
-        Modifier::Alpha => push_letters(text, n),
+        Modifier::Numeric => {
+            push_space(text)?;
+            write!(text, "{n}")
+        }
+        Modifier::Alpha => {
+            push_space(text)?;
+            push_letters(text, n)
+        }
         Modifier::Reserved => Ok(()),
     }
 }
 
-/// Appends the suffix that distinguishes the sensor with this number from the others that share its record.
+/// Appends the suffix that distinguishes the sensor with this number from the others that share its record, after a
+/// space.
 fn push_suffix(text: &mut String, view: &SdrView, number: u8) -> Result<(), AllocError>
     ensures { OnOk result (string_bytes text.new ≡ string_bytes text.old
-        ++ suffix_of (sensor_of view.now) (sharing_of view.now) number) }
+        ++ suffix_text (string_bytes text.old)
+        (suffix_of (sensor_of view.now) (sharing_of view.now) number)) }
 {
     let Some(sensor) = view.sensor() else {
         return Ok(());
@@ -62,8 +81,9 @@ fn push_suffix(text: &mut String, view: &SdrView, number: u8) -> Result<(), Allo
     }
 }
 
-/// Appends the name of the sensor with this number, from its record: the record's name, followed by a number or
-/// letters if several sensors share the record. Appends nothing if the record has no name.
+/// Appends the name of the sensor with this number, from its record: the record's name, and if several sensors share
+/// the record, a space and a number or letters, such as `Temp 5`. A name that ends with a space gets no second. Appends
+/// nothing if the record has no name.
 pub fn push_sensor_name(
     alloc: Global,
     text: &mut String,

@@ -2,12 +2,14 @@
 ghost use Rattle.std.specs.Prelude.{◌≡◌, ◌++◌, ◌||◌, OnOk, IfOk, option_map, string_bytes};
 ghost use Rattle.ipmi_text.specs.Appended.{Appends};
 ghost use Rattle.ipmi_events.specs.Parts.{has_parts, parts_text};
-ghost use Rattle.ipmi_events.specs.Threshold.{IsComparedOf, IsLimit, IsReading, IsThresholdDetails, code_parts, codes_parts, comparison, has_value};
+ghost use Rattle.ipmi_events.specs.Threshold.{IsComparedOf, IsLimit, IsReading, IsThresholdDetails, code_parts, codes_parts, comparison, has_value, order_of, printed_number, sign};
 
 use crate::discrete::push_raw_part;
 use crate::event_data::{Byte, EventData, Holding};
 use ipmi_records::{FullSensor, push_raw, push_raw_byte, push_value};
+use ipmi_text::convert;
 use std::alloc::AllocError;
+use std::cmp::Ordering;
 
 /// Whether a byte contains a reading or a threshold.
 fn has_value(holds: Holding) -> bool
@@ -41,19 +43,50 @@ fn push_limit(text: &mut String, full: Option<&FullSensor>, raw: u8) -> Result<(
     }
 }
 
+/// The number that is printed of a raw byte: its value by the sensor's record, in units of 10^-16, or the byte itself
+/// if there is no value.
+fn printed_number(full: Option<&FullSensor>, raw: u8) -> i128
+    ensures { result ≡ printed_number (option_map (λ f. f.now) full.entry) raw }
+{
+    let Some(full) = full else {
+        return i128::from(raw);
+    };
+    match convert(&full.factors(), raw) {
+        Some(value) => value.0,
+        None => i128::from(raw),
+    }
+}
+
+/// How the reading of an event compares to the threshold, as both are printed.
+fn order_of(event: &EventData, full: Option<&FullSensor>) -> Ordering
+    ensures { result ≡ order_of (option_map (λ f. f.now) full.entry) event.now }
+{
+    let reading = printed_number(full, event.second);
+    let limit = printed_number(full, event.third);
+    reading.cmp(&limit)
+}
+
+/// The sign of an order, or `, ` if the event says the opposite.
+fn sign(order: Ordering, is_going_high: bool) -> &'static str
+    ensures { result.now ≡ sign order is_going_high }
+{
+    match (order, is_going_high) {
+        (Ordering::Less, false) => " < ",
+        (Ordering::Equal, _) => " = ",
+        (Ordering::Greater, true) => " > ",
+        (Ordering::Less, true) | (Ordering::Greater, false) => ", ",
+    }
+}
+
 /// The text between the reading and the threshold of an event. In a deassertion event the reading has crossed back,
 /// so no sign would be correct. An odd offset means that the reading went high.
-fn comparison(event: &EventData) -> &'static str
-    ensures { result.now ≡ comparison event.now }
+fn comparison(event: &EventData, full: Option<&FullSensor>) -> &'static str
+    ensures { result.now ≡ comparison (option_map (λ f. f.now) full.entry) event.now }
 {
     if event.is_deasserted {
         ", "
-    } else if event.second == event.third {
-        " = "
-    } else if event.offset % 2 == 1 {
-        " > "
     } else {
-        " < "
+        sign(order_of(event, full), event.offset % 2 == 1)
     }
 }
 
@@ -72,7 +105,7 @@ fn push_compared(
         if !has_value(event.third_holds) {
             return Ok(());
         }
-        text.push_str(comparison(event))?;
+        text.push_str(comparison(event, full))?;
         text.push_str("threshold ")?;
         return push_limit(text, full, event.third);
     }

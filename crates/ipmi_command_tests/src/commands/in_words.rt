@@ -15,8 +15,8 @@ use std::process::Abort;
 /// Each image comes after a line with its name and before a line of dashes. The sensor is `CPU_TEMP`. In `cycle` its next id
 /// is its own id, and `nowhere` has a next id that no record has. The first event of a log is of this sensor. Of the sensors
 /// with statuses, H has no reading, and I has another owner. Of the shared ones, four memory sensors, starting with number
-/// 10h, have one record, and three fans, starting with 30h, an event-only record. The memory sensor 50h has no name, and 14h
-/// has no record.
+/// 10h, have one record, `DIMM `, and three fans, starting with 30h, an event-only record, `Fan`. The memory sensor 50h has
+/// no name, and 14h has no record.
 const IMAGES: &str = "sensor
 ipmi-image 1
 sdr 0001 ffff CPU_TEMP
@@ -86,7 +86,7 @@ end
 shared
 ipmi-image 1
 sdr 0002 0003 0200510220200010200100000c6f0000000000000000000401000000000000c544494d4d20
-sdr 0003 0009 03005103102000301d01040313190000c446616e20
+sdr 0003 0009 030051030f2000301d01040313190000c346616e
 sdr 0009 ffff 090051021b200050200100000c6f0000000000000000000000000000000000c0
 sel 0001 0002 010002010000202000040c116f06ffff
 sel 0002 0003 0200020100002020000404310301ffff

@@ -1,15 +1,12 @@
 //! The details in event data 2 and 3. The texts were put together by hand, from tables 29-6, 42-2 and 42-3 of the
 //! standard.
-use crate::cases::{assert_text, byte_of, parts};
+use crate::cases::{byte_of, parts, three_parts};
 use hex::FromHex;
 use ipmi_events::push_details;
-use ipmi_fixtures::CPU_TEMP;
+use ipmi_fixtures::{CPU_TEMP, changed};
 use ipmi_records::{EventEntry, FullSensor, SdrView, SelView};
 use std::alloc::{AllocError, Global};
 use std::process::Abort;
-
-/// The position of the linearization in `CPU_TEMP`.
-const LINEARIZATION: usize = 23;
 
 /// `event data|details with CPU_TEMP;details without a record` of asserted threshold events.
 const THRESHOLDS: &str =
@@ -18,6 +15,10 @@ const THRESHOLDS: &str =
 5b605f|Reading 96 degrees C > threshold 95;Reading raw 0x60 > threshold raw 0x5f
 595a5a|Reading 90 degrees C = threshold 90;Reading raw 0x5a = threshold raw 0x5a
 500505|Reading 5 degrees C = threshold 5;Reading raw 0x05 = threshold raw 0x05
+510605|Reading 6 degrees C > threshold 5;Reading raw 0x06 > threshold raw 0x05
+565455|Reading 84 degrees C < threshold 85;Reading raw 0x54 < threshold raw 0x55
+572d5a|Reading 45 degrees C, threshold 90;Reading raw 0x2d, threshold raw 0x5a
+505a05|Reading 90 degrees C, threshold 5;Reading raw 0x5a, threshold raw 0x05
 495c5a|Reading 92 degrees C;Reading raw 0x5c
 195c5a|Threshold 90 degrees C;Threshold raw 0x5a
 095c5a|;
@@ -38,6 +39,22 @@ const DEASSERTED: &str =
 575555|Reading 85 degrees C, threshold 85;Reading raw 0x55, threshold raw 0x55
 475455|Reading 84 degrees C;Reading raw 0x54
 175455|Threshold 85 degrees C;Threshold raw 0x55";
+
+/// `changes of CPU_TEMP|event data|details` of asserted threshold events. Bits 7:6 of byte 21 are the format of a raw byte:
+/// 10b is 2's complement, and 11b has no analog reading. Byte 24 is the linearization. M is byte 25 and bits 7:6 of byte
+/// 26, in 2's complement, and B begins with byte 27.
+const VALUES: &str = "25=00,27=05|595c5a|Reading 5 degrees C = threshold 5
+25=00,27=05|505c5a|Reading 5 degrees C = threshold 5
+25=ff,26=c0|59050a|Reading -5 degrees C > threshold -10
+25=ff,26=c0|590a05|Reading -10 degrees C, threshold -5
+25=ff,26=c0|500a05|Reading -10 degrees C < threshold -5
+25=ff,26=c0|59fe01|Reading -254 degrees C, threshold -1
+21=80|50fe05|Reading -2 degrees C < threshold 5
+21=80|5905fe|Reading 5 degrees C > threshold -2
+21=80|5005fe|Reading 5 degrees C, threshold -2
+21=c0|595c5a|Reading raw 0x5c > threshold raw 0x5a
+24=01|595c5a|Reading raw 0x5c > threshold raw 0x5a
+24=01|592d5a|Reading raw 0x2d, threshold raw 0x5a";
 
 /// `event/reading type and sensor type, event data|details`: states, severities and OEM codes.
 const STATES: &str =
@@ -193,13 +210,20 @@ fn a_threshold_event_has_its_reading_and_threshold(rt: HostRuntime) {
     }
 }
 
+/// Asserts the details of a threshold event, with changes of `CPU_TEMP`.
+fn assert_details_by_values(rt: &impl Abort, alloc: Global, case: &str) {
+    let (changes, digits, wanted) = three_parts(rt, case);
+    let record = changed(changes).expect(rt, case);
+    let bytes = entry_of(rt, 0x01, 0x01, digits);
+    assert_details_by_record(rt, alloc, &record, &bytes, wanted);
+}
+
+// The sign is true of the two numbers, whatever the bytes are. Without values the bytes are the numbers.
 #[test]
-fn a_reading_that_no_formula_gives_a_value_is_raw(rt: HostRuntime) {
-    let mut record = CPU_TEMP;
-    record[LINEARIZATION] = 0x01;
-    let bytes = entry_of(&rt, 0x01, 0x01, "595c5a");
-    let wanted = "Reading raw 0x5c > threshold raw 0x5a";
-    assert_details_by_record(&rt, rt.alloc(), &record, &bytes, wanted);
+fn the_values_decide_the_sign(rt: HostRuntime) {
+    for case in VALUES.lines() {
+        assert_details_by_values(&rt, rt.alloc(), case);
+    }
 }
 
 /// Asserts the details of a discrete event.

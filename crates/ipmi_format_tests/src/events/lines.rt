@@ -11,6 +11,9 @@ use std::process::Abort;
 const LINES: &str = "01000201000020200004010101595f5a|\
     0001 | 1987-01-05 18:48:33 | CPU Temp | Upper Critical going high | Asserted | \
     Reading 95 degrees C > threshold 90
+01000201000020200004010101572d5a|\
+    0001 | 1987-01-05 18:48:33 | CPU Temp | Upper Non-critical going high | Asserted | \
+    Reading 45 degrees C, threshold 90
 01000201000020200004010181495fff|\
     0001 | 1987-01-05 18:48:33 | CPU Temp | Upper Critical going high | Deasserted | Reading 95 degrees C
 01000201000020200004010181575455|\

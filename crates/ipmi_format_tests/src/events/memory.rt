@@ -28,10 +28,17 @@ fn line(alloc: Global) -> Result<String, AllocError> {
     event_line(alloc, 1, &SelView::read(&EVENT), &sensors)
 }
 
-/// The name of the record's third sensor.
-fn name(alloc: Global, view: &SdrView<'_>) -> Result<String, AllocError> {
+/// A compact record of three sensors, starting with number 10h. Its name ends without a space.
+const TEMPS: [u8; 36] = [
+    0x02, 0x00, 0x51, 0x02, 0x1f, 0x20, 0x00, 0x10, 0x20, 0x01, 0x00, 0x00, 0x0c, 0x6f, 0x00, 0x00,
+    0x00, 0x00, 0x00, 0x00, 0x00, 0x00, 0x00, 0x03, 0x05, 0x00, 0x00, 0x00, 0x00, 0x00, 0x00, 0xc4,
+    0x54, 0x65, 0x6d, 0x70,
+];
+
+/// The name of the sensor with this number, by its record.
+fn name(alloc: Global, view: &SdrView<'_>, number: u8) -> Result<String, AllocError> {
     let mut name = String::new(alloc);
-    push_sensor_name(alloc, &mut name, view, 0x32)?;
+    push_sensor_name(alloc, &mut name, view, number)?;
     Ok(name)
 }
 
@@ -49,17 +56,21 @@ fn device(alloc: Global) -> Result<String, AllocError> {
 // With ample memory each call returns its text.
 #[test]
 fn not_always_out_of_memory(rt: HostRuntime) {
-    let view = SdrView::read(&FANS).expect(&rt, "a record");
+    let fans = SdrView::read(&FANS).expect(&rt, "a record");
+    let temps = SdrView::read(&TEMPS).expect(&rt, "a record");
     assert_text(&rt, line(rt.alloc()), LINE, "line");
-    assert_text(&rt, name(rt.alloc(), &view), "FAN AB", "name");
+    assert_text(&rt, name(rt.alloc(), &fans, 0x32), "FAN AB", "name");
+    assert_text(&rt, name(rt.alloc(), &temps, 0x10), "Temp 5", "name");
     assert_text(&rt, device(rt.alloc()), "PSU1", "device");
 }
 
 // With memory refused each call returns its text, or fails when out of memory.
 #[test]
 fn memory_may_be_refused(rt: HostRuntime) {
-    let view = SdrView::read(&FANS).expect(&rt, "a record");
+    let fans = SdrView::read(&FANS).expect(&rt, "a record");
+    let temps = SdrView::read(&TEMPS).expect(&rt, "a record");
     assert_text_or_refused(&rt, line(rt.alloc()), LINE);
-    assert_text_or_refused(&rt, name(rt.alloc(), &view), "FAN AB");
+    assert_text_or_refused(&rt, name(rt.alloc(), &fans, 0x32), "FAN AB");
+    assert_text_or_refused(&rt, name(rt.alloc(), &temps, 0x10), "Temp 5");
     assert_text_or_refused(&rt, device(rt.alloc()), "PSU1");
 }

@@ -37,6 +37,14 @@ const HOT: [u8; 16] = [
 const HOT_LINE: &str =
     r#"{"object":"sel_entry","record_id":5,"record_type":2,"kind":"event","timestamp":"2020-09-13T12:26:40Z","timestamp_raw":1600000000,"generator_id":32,"event_revision":4,"sensor_type":1,"sensor_type_name":"Temperature","sensor_number":1,"sensor_name":"CPU Temp","event_type":1,"event":"Upper Critical going high","event_words":"Upper Critical going high","direction":"asserted","event_data":"595c5a","event_details":"Reading 9.2 degrees C > threshold 9","raw":"05000200105e5f200004010101595c5a"}"#;
 
+/// The same event with a reading below the threshold, although the event says that it went high.
+const COLD: [u8; 16] = [
+    0x06, 0x00, 0x02, 0x00, 0x10, 0x5e, 0x5f, 0x20, 0x00, 0x04, 0x01, 0x01, 0x01, 0x59, 0x2d, 0x5a,
+];
+
+const COLD_LINE: &str =
+    r#"{"object":"sel_entry","record_id":6,"record_type":2,"kind":"event","timestamp":"2020-09-13T12:26:40Z","timestamp_raw":1600000000,"generator_id":32,"event_revision":4,"sensor_type":1,"sensor_type_name":"Temperature","sensor_number":1,"sensor_name":"CPU Temp","event_type":1,"event":"Upper Critical going high","event_words":"Upper Critical going high","direction":"asserted","event_data":"592d5a","event_details":"Reading 4.5 degrees C, threshold 9","raw":"06000200105e5f200004010101592d5a"}"#;
+
 /// An OEM timestamped record, one without a time stamp, and an entry of another type.
 const TIMED: [u8; 16] = [
     0x02, 0x00, 0xc1, 0x00, 0x10, 0x00, 0x00, 0x57, 0x01, 0x00, 0x01, 0x02, 0x03, 0x04, 0x05, 0x06,
@@ -60,9 +68,9 @@ const OTHER: [u8; 16] = [
 const OTHER_LINE: &str =
     r#"{"object":"sel_entry","record_id":4,"record_type":3,"kind":"unknown","oem_data":"0102030405060708090a0b0c0d","raw":"0400030102030405060708090a0b0c0d","host":"web\"17\\","no\tte":"\u0001\né"}"#;
 
-/// A record of four memory sensors, starting with number 10h, and the full record of a temperature.
+/// A record of four memory sensors, `DIMM`, starting with number 10h, and the full record of a temperature.
 pub(crate) const SENSORS: &str =
-    "0200510220200010200100000c6f0000000000000000000401000000000000c544494d4d20010051013320000103017f680101000000003838000100000100000000f00000000000005f5a550000000202000000c84350552054656d70";
+    "020051021f200010200100000c6f0000000000000000000401000000000000c444494d4d010051013320000103017f680101000000003838000100000100000000f00000000000005f5a550000000202000000c84350552054656d70";
 
 /// The line of an entry, without a table of sensors.
 fn line_of(alloc: Global, id: u16, entry: &[u8; 16]) -> Result<Vec<u8>, AllocError> {
@@ -90,6 +98,7 @@ fn events(rt: HostRuntime) {
     assert_line(&rt, named_line(alloc, 2, &MEMORY, &sensors), MEMORY_LINE);
     assert_line(&rt, named_line(alloc, 3, &UNKNOWN, &sensors), UNKNOWN_LINE);
     assert_line(&rt, named_line(alloc, 5, &HOT, &sensors), HOT_LINE);
+    assert_line(&rt, named_line(alloc, 6, &COLD, &sensors), COLD_LINE);
     drop(sensors);
 }
 
