@@ -11,11 +11,11 @@ else
   SERDIMKO=$PWD/crates/serdimko/out/serdimko
 fi
 export SERDIMKO
-export IPMITOOL=$PWD/tests/live/tool.py IPMI_RAW=$PWD/tests/live/tool.py TOOL_IMAGE=$PWD/examples/server.image TOOL_TROUBLES=
+export IPMITOOL=$PWD/tests/live/recorder IPMI_RAW=$PWD/tests/live/recorder TOOL_IMAGE=$PWD/examples/server.image TOOL_TROUBLES=
 work=$(mktemp -d)
 trap 'rm -rf "$work"' EXIT
-export TMPDIR=$work/folders TOOL_LOG=$work/log
-mkdir "$TMPDIR"
+export TMPDIR=$work/folders TOOL_LOG=$work/log TOOL_SENT=$work/sent
+mkdir "$TMPDIR" "$TOOL_SENT"
 failed=0
 
 fault() {
@@ -191,7 +191,7 @@ if [ "$status" -ne 0 ] || ! grep -q '^usage: live ' "$work/out"; then fault '--h
 IPMITOOL=$work/none
 live -- sdr list
 if [ "$status" -ne 1 ] || ! grep -q '^no reply from the controller: .*none' "$work/err"; then fault "no tool: status $status, $(cat "$work/err")"; fi
-IPMITOOL=$PWD/tests/live/tool.py
+IPMITOOL=$PWD/tests/live/recorder
 
 # The reader of the output may close it early.
 scripts/live -- sdr list all 2> "$work/err" | true
@@ -229,4 +229,8 @@ os.execvp(sys.argv[1], sys.argv[1:])' scripts/live -- --tries 255 sdr list > /de
   if [ -n "$(ls -A "$TMPDIR")" ]; then fault "$signal: left $(ls -A "$TMPDIR")"; rm -rf "${TMPDIR:?}"/*; fi
   if pgrep -g "$session" > /dev/null; then fault "$signal: left processes"; pkill -KILL -g "$session"; fi
 done
+
+# In all these runs each tool was sent only requests that read.
+count=$(tests/live/sent.py "$TOOL_SENT" 2>&1) || fault "sent: $count"
+if ! [ "$count" -gt 1000 ]; then fault "sent: only $count requests are kept"; fi
 exit $failed

@@ -10,6 +10,7 @@ garbage=N     the Nth answer is malformed                cut=N      the tool exi
 long=N        the Nth answer is long and has no end      other=N    the Nth answer is one byte short
 say=TEXT      the tool prints this error and exits       die=N      the tool exits before the Nth answer
 warn=TEXT     the tool prints this before its first answer
+read=N        the tool dies after N bytes of its input   print=N    the tool dies after N bytes of its output
 
 TOOL_LOG gets one line per request: unit, network function, command and data."""
 import os
@@ -135,6 +136,34 @@ def freeipmi_text(command, answer):
     return "rcvd: " + "".join("%02X " % byte for byte in bytes([command, code]) + data) + "\n"
 
 
+def lines():
+    """Returns the lines of standard input, up to the byte at which the tool dies."""
+    left = int(TROUBLES.get("read", -1))
+    line = b""
+    while left != 0:
+        byte = os.read(0, 1)
+        if not byte:
+            return
+        left -= 1
+        line += byte
+        if byte == b"\n":
+            yield line.decode("ascii")
+            line = b""
+    sys.exit(1)
+
+
+def put(text, printed=[0]):
+    """Prints the text, up to the byte at which the tool dies."""
+    printed[0] += len(text)
+    over = printed[0] - int(TROUBLES.get("print", printed[0] + 1))
+    if over >= 0:
+        text = text[: len(text) - over]
+    sys.stdout.write(text)
+    sys.stdout.flush()
+    if over >= 0:
+        sys.exit(1)
+
+
 def send(controller, is_ipmitool, text):
     """Prints an answer, or what a trouble puts in its place."""
     happens = {trouble: TROUBLES.get(trouble) == str(controller.requests) for trouble in ("garbage", "cut", "long", "other", "die")}
@@ -148,8 +177,7 @@ def send(controller, is_ipmitool, text):
         text = " 00" * 5000
     if happens["cut"]:
         text = text[: len(text) // 2]
-    sys.stdout.write(text)
-    sys.stdout.flush()
+    put(text)
     if happens["cut"]:
         sys.exit(1)
 
@@ -161,14 +189,13 @@ def main():
     if "say" in TROUBLES:
         sys.stderr.write(TROUBLES["say"] + "\n")
         sys.exit(1)
-    sys.stdout.write(TROUBLES.get("warn", ""))
+    put(TROUBLES.get("warn", ""))
     controller = Controller(read_image(os.environ["TOOL_IMAGE"]))
     log = open(os.environ.get("TOOL_LOG", "/dev/null"), "a", encoding="ascii")
-    for line in sys.stdin:
+    for line in lines():
         words = line.split()
         if words == ["echo", "."]:
-            sys.stdout.write(". \n")
-            sys.stdout.flush()
+            put(". \n")
             continue
         if is_ipmitool:
             assert words[0] == "raw", line

@@ -6,8 +6,6 @@ use Rattle.ipmi_raw.specs.declared.controller.RawController.{RawController}
 use Rattle.ipmi_raw.specs.declared.request.Request.{Request}
 use Rattle.ipmi_raw.specs.declared.tool.Tool.{Tool}
 use Rattle.ipmi_raw.specs.Controller.{Exchanged, Hears, IsUnheard, Exchanges, Sends}
-use Rattle.ipmi_raw.specs.Peer.{request_text}
-use Rattle.ipmi_raw.specs.Request.{lun_of}
 use Rattle.ipmi_raw.specs.declared.peer.Lost.{Lost}
 
 pub hears_failed : {P K V : Type 0} (tool : Tool) (request : Request) (Gives : Result V Code → Result (List ℕ) Code → Type 0)
@@ -27,21 +25,13 @@ hears_failed {P} {K} {V} tool request Gives old new result code same heard gives
 
 -- ---- what was sent
 
--- the same exchange, for an equal unit and an equal text
-pub exchanged_as : {P : Type 0} (brings : Exchanges P) (old new : P) (lun lun' : ℕ) (text text' : List ℕ)
-    (came : Result (Unit {0}) Lost) (reply : List ℕ) → lun ≡ lun' → text ≡ text'
-    → brings old new lun text came reply → brings old new lun' text' came reply
-exchanged_as brings old new lun lun' text text' came reply same_lun same_text h =
-    subst (λ (l : ℕ). brings old new l text' came reply) same_lun (subst (λ (t : List ℕ). brings old new lun t came reply) same_text h)
-
 -- counting a failure afterwards sends nothing
 pub sends_counted : {P K : Type 0} (brings : Exchanges P) (tool : Tool) (request : Request)
     (old middle new : RawController P K) (came : Result (Unit {0}) Lost) → new.peer ≡ middle.peer
-    → new.text ≡ middle.text → Exchanged brings tool request old middle came
+    → new.text ≡ middle.text → Exchanged brings request old middle came
     → MatchBool new.is_lost (IsUnheard tool request came middle.text.items) (came ≡ Ok tt) → Sends brings tool request old new
 sends_counted {P} brings tool request old middle new came same_peer same_text h last = λ was. (
   came,
-  subst (λ (p : P). brings old.peer p (lun_of request) (request_text tool request) came new.text.items) (sym same_peer)
-      (rw same_text h),
+  subst (λ (p : P). brings old.peer p request came new.text.items) (sym same_peer) (rw same_text h),
   subst (λ (text : List ℕ). MatchBool new.is_lost (IsUnheard tool request came text) (came ≡ Ok tt)) (ap (λ t. t.items) (sym same_text)) last,
 )

@@ -9,3 +9,4 @@ mod ReplyLemmas
 mod AskLemmas
 mod StreamLemmas
 mod PipedLemmas
+mod HandedLemmas

@@ -9,8 +9,7 @@ use Rattle.ipmi_raw.specs.declared.reply.Reply.{Reply}
 use Rattle.ipmi_raw.specs.declared.request.Request.{Request}
 use Rattle.ipmi_raw.specs.declared.tool.Tool.{Tool}
 use Rattle.ipmi_raw.specs.Answer.{given, IsDataIfAny}
-use Rattle.ipmi_raw.specs.Peer.{IsReplyText, request_text}
-use Rattle.ipmi_raw.specs.Request.{lun_of}
+use Rattle.ipmi_raw.specs.Peer.{IsReplyText}
 
 -- The controller at the other end, but with the counts of the calls made here. Once the connection
 -- is lost, it does not claim to be honest.
@@ -37,13 +36,11 @@ last_words raw = if raw.is_lost then Some raw.text.items else None
 
 -- the type of a peer's `brings`: what is known of its exchanges
 abbrev pub Exchanges : Type 0 → Type 1
-Exchanges P = P → P → ℕ → List ℕ → Result (Unit {0}) Lost → List ℕ → Type 0
+Exchanges P = P → P → Request → Result (Unit {0}) Lost → List ℕ → Type 0
 
--- the text of the request was sent to its logical unit, and the received text is that of the peer
-abbrev pub Exchanged : {P K : Type 0} → Exchanges P → Tool → Request → RawController P K → RawController P K
-    → Result (Unit {0}) Lost → Type 0
-Exchanged brings tool request old new came =
-    brings old.peer new.peer (lun_of request) (request_text tool request) came new.text.items
+-- the request was sent, and the received text is that of the peer
+abbrev pub Exchanged : {P K : Type 0} → Exchanges P → Request → RawController P K → RawController P K → Result (Unit {0}) Lost → Type 0
+Exchanged brings request old new came = brings old.peer new.peer request came new.text.items
 
 -- no reply came, or the received text is not of a reply to the request with data of the right length
 abbrev pub IsUnheard : Tool → Request → Result (Unit {0}) Lost → List ℕ → Type 0
@@ -55,7 +52,7 @@ IsUnheard tool request (Ok done) text =
 -- reply came; otherwise a reply came.
 abbrev pub Sends : {P K : Type 0} → Exchanges P → Tool → Request → RawController P K → RawController P K → Type 0
 Sends brings tool request old new = old.is_lost ≡ false
-    → (came : Result (Unit {0}) Lost) × Exchanged brings tool request old new came
+    → (came : Result (Unit {0}) Lost) × Exchanged brings request old new came
     × MatchBool new.is_lost (IsUnheard tool request came new.text.items) (came ≡ Ok tt)
 
 -- The result of a call over any peer. If the connection is not lost, the received text is of a reply to the request, with data of

@@ -11,3 +11,4 @@ pub mod Controller
 pub mod Heard
 pub mod Streams
 pub mod Piped
+pub mod Handed

@@ -65,9 +65,13 @@ pub record IsOpened {O R W : Type 0} {write : Ghosts W} (opens : Openings O R W)
   pub none_sent : taken_of opened.requests ≡ unwrap_or (write.contents (writer_of opened.requests)) []
 
 -- ipmitool is first sent a request that makes it open its session: Get Device ID (IPMI v2.0, section 20.1)
+abbrev pub first_text : Tool → List ℕ
+first_text Ipmitool = codes "raw 0x06 0x01\necho .\n"
+first_text FreeIpmi = []
+
 abbrev pub IsFirst : {R W : Type 0} {write : Ghosts W} → Known R → Tool → Result (Unit {0}) Lost → List ℕ
     → Kept R W write → Kept R W write → Type 0
-IsFirst remaining Ipmitool came reply old new = IsExchange remaining (codes "raw 0x06 0x01\necho .\n") came reply old new
+IsFirst remaining Ipmitool came reply old new = IsExchange remaining (first_text Ipmitool) came reply old new
 IsFirst remaining FreeIpmi came reply old new = (came ≡ Ok tt) × (reply ≡ []) × (new ≡ old)
 
 -- the streams for a request, or the connection is lost: then those that lost it, or none if the opening failed

@@ -48,6 +48,7 @@ impl<P: Peer, K: Clock> RawController<P, K> {
     pub fn new(peer: P, clock: K, pause: Duration) -> RawController<P, K>
         ensures seen { seen_of P.seen result ≡ seen_through (P.seen peer) zero_counts false }
         ensures lost { last_words result ≡ None }
+        ensures peer { result.peer ≡ peer }
         ensures clock { result.clock ≡ clock }
         ensures pause { result.pause ≡ pause }
     {
@@ -78,16 +79,13 @@ impl<P: Peer, K: Clock> RawController<P, K> {
         ensures fits { IfSome result (λ reply. IsDataIfAny request (given request reply)) }
         ensures text { IfSome result (λ reply. IsReplyText (P.tool self.old.peer) request reply self.new.text.items) }
         ensures sends { (came : Result (Unit {0}) Lost) ×
-            Exchanged P.brings (P.tool self.old.peer) request self.old self.new came ×
+            Exchanged P.brings request self.old self.new came ×
             MatchOption result (IsUnheard (P.tool self.old.peer) request came self.new.text.items) (λ reply. came ≡ Ok tt) }
         ensures honest { IsHonest (P.seen self.old.peer) → IsRequest request → MatchOption result ⊥
             (λ reply. IsAnswer request (given request reply) (P.seen self.old.peer) (P.seen self.new.peer)) }
     {
         let tool = self.peer.tool();
-        let line = tool.request_text(request);
-        let came = self
-            .peer
-            .exchange(request.lun(), line.as_slice(), &mut self.text);
+        let came = self.peer.exchange(request, &mut self.text);
         if came.is_err() {
             return None;
         }

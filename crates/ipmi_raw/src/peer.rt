@@ -1,12 +1,13 @@
 //! A peer passes requests to a controller and returns the replies, as texts of one of the tools.
-ghost use Rattle.std.specs.Prelude.{ℕ, List, Result, ◌≡◌, IsOk};
+ghost use Rattle.std.specs.Prelude.{List, Result, ◌≡◌, ℕ, IsOk};
 ghost use Rattle.ipmi_bus.specs.Seen.{IsHonest, Seen};
-ghost use Rattle.ipmi_raw.specs.Peer.{Replies, request_text};
-ghost use Rattle.ipmi_raw.specs.Request.{IsRequest, lun_of};
+ghost use Rattle.ipmi_raw.specs.Peer.{Replies};
+ghost use Rattle.ipmi_raw.specs.Request.{IsRequest};
 ghost use Rattle.ipmi_raw.specs.declared.peer.Lost.{Lost};
 ghost use Rattle.ipmi_raw.specs.declared.request.Request.{Request};
 ghost use Rattle.ipmi_raw.specs.declared.tool.Tool.{Tool};
 
+use crate::request::Request;
 use crate::tool::Tool;
 use arrayvec::ArrayVec;
 use thiserror::Error;
@@ -33,19 +34,18 @@ pub trait Peer {
     ghost tool: { Self → Tool };
 
     /// What is known of an exchange, even if the controller is not honest. It relates the peer before and after, the
-    /// logical unit, the text to send, whether a reply came, and the tool's output.
-    ghost brings: { Self → Self → ℕ → List ℕ → Result (Unit {0}) Lost → List ℕ → Type 0 };
+    /// request, whether a reply came, and the tool's output.
+    ghost brings: { Self → Self → Request → Result (Unit {0}) Lost → List ℕ → Type 0 };
 
     /// The tool whose texts the peer passes on.
     fn tool(&self) -> Tool
         ensures { result ≡ tool self.now };
 
-    /// Sends the text of a request to this logical unit of the controller, and stores the tool's output in `reply`,
-    /// up to the end of the reply. If the connection is lost, that is the output so far.
-    fn exchange(&mut self, lun: u8, request: &[u8], reply: &mut ReplyText) -> Result<(), Lost>
+    /// Sends the request to the controller, and stores the tool's output in `reply`, up to the end of the reply. If the
+    /// connection is lost, that is the output so far.
+    fn exchange(&mut self, request: Request, reply: &mut ReplyText) -> Result<(), Lost>
         ensures tool { tool self.new ≡ tool self.old }
-        ensures brings { brings self.old self.new lun request.now result reply.new.items }
-        ensures honest { IsHonest (seen self.old) → (sent : Request) → IsRequest sent → lun_of sent ≡ lun →
-            request_text (tool self.old) sent ≡ request.now →
-            IsOk result × Replies (tool self.old) sent reply.new.items (seen self.old) (seen self.new) };
+        ensures brings { brings self.old self.new request result reply.new.items }
+        ensures honest { IsHonest (seen self.old) → IsRequest request →
+            IsOk result × Replies (tool self.old) request reply.new.items (seen self.old) (seen self.new) };
 }

@@ -1,15 +1,16 @@
 //! A peer over streams: a tool for all logical units of a controller, or one for each.
-ghost use Rattle.std.specs.Prelude.{ℕ, ◌≡◌, ◌<◌, ◌≤◌, [], None, Some, Option, MatchResult, IsErr, IsOk, OnOk};
+ghost use Rattle.std.specs.Prelude.{ℕ, ◌≡◌, ◌<◌, ◌≤◌, [], false, true, None, Some, Option, MatchResult, IsErr, IsOk, is_err, OnOk};
 ghost use Rattle.ipmi_bus.specs.Prelude.{IsHonest, zero_counts};
 ghost use Rattle.ipmi_bus.specs.Unclaimed.{calls_only};
 ghost use Rattle.ipmi_raw.specs.Peer.{Replies, request_text};
 ghost use Rattle.ipmi_raw.specs.Request.{IsRequest, lun_of};
 ghost use Rattle.ipmi_raw.specs.Streams.{IsEnded, IsNotEndedWithin};
 ghost use Rattle.ipmi_raw.specs.Piped.{AreReady, IsFirst, IsOverUnit, no_units, streams_of, unit_of, with_streams};
-ghost use Rattle.ipmi_raw.specs.declared.request.Request.{Request};
+ghost use Rattle.ipmi_raw.specs.Handed.{OnlyRequests};
 
 use crate::heard::Heard;
 use crate::peer::{Lost, Peer, ReplyText};
+use crate::request::Request;
 use crate::streams::Streams;
 use crate::tool::Tool;
 use ipmi_output::Written;
@@ -74,12 +75,15 @@ impl<R: Drop, W: Drop> Units<R, W> {
 /// A request to `ipmi-raw` names its logical unit. `ipmitool exec` sends all its requests to one unit, so there is
 /// one such tool for each unit used. There is none for a unit above 3: a request to it loses the connection.
 ///
-/// Streams stay open, even if the connection is lost over them.
+/// All that a tool is handed are whole requests, one after another, and at most a first part of the request over which the
+/// connection is lost. Nothing is sent afterwards. Streams stay open even then.
 #[derive(Drop)]
 pub struct Piped<O: Open> {
     tool: Tool,
     opener: O,
     units: Units<Heard<O::Replies>, Written<O::Requests>>,
+    is_lost: bool,
+    pub ghost handed: { ∥ OnlyRequests O.opens tool is_lost units ∥₁ },
 }
 
 impl<O: Open> Piped<O> {
@@ -88,6 +92,7 @@ impl<O: Open> Piped<O> {
         ensures tool { ⟦<Piped<O> as Peer>⟧.tool result ≡ tool }
         ensures opener { result.opener ≡ opener }
         ensures units { result.units ≡ no_units }
+        ensures open { result.is_lost ≡ false }
     {
         Piped {
             tool,
@@ -98,6 +103,7 @@ impl<O: Open> Piped<O> {
                 two: None,
                 three: None,
             },
+            is_lost: false,
         }
     }
 }
@@ -164,37 +170,41 @@ impl<O: Open> Peer for Piped<O> {
 
     ghost tool = { λ piped. piped.tool };
 
-    ghost brings = { λ old new lun request result reply. OnOk result (IsEnded old.tool reply) × IsNotEndedWithin old.tool reply
-        × (unit_of old.tool lun < 4 → IsOverUnit O.opens O.Replies.remaining old.tool (unit_of old.tool lun)
-        request result reply old.opener new.opener old.units new.units)
-        × (4 ≤ unit_of old.tool lun → IsErr result × (reply ≡ []) × (new ≡ old)) };
+    ghost brings = { λ old new request result reply. OnOk result (IsEnded old.tool reply) × IsNotEndedWithin old.tool reply
+        × (old.is_lost ≡ false → unit_of old.tool (lun_of request) < 4
+        → IsOverUnit O.opens O.Replies.remaining old.tool (unit_of old.tool (lun_of request)) (request_text old.tool request)
+        result reply old.opener new.opener old.units new.units × (new.is_lost ≡ is_err result))
+        × (old.is_lost ≡ true → IsErr result × (reply ≡ []) × (new ≡ old))
+        × (4 ≤ unit_of old.tool (lun_of request) → IsErr result × (reply ≡ []) × (new ≡ old)) };
 
     fn tool(&self) -> Tool {
         self.tool
     }
 
-    fn exchange(&mut self, lun: u8, request: &[u8], reply: &mut ReplyText) -> Result<(), Lost>
+    fn exchange(&mut self, request: Request, reply: &mut ReplyText) -> Result<(), Lost>
         ensures tool { ⟦<Piped<O> as Peer>⟧.tool self.new ≡ ⟦<Piped<O> as Peer>⟧.tool self.old }
-        ensures honest { IsHonest (calls_only zero_counts) → (sent : Request) → IsRequest sent → lun_of sent ≡ lun →
-            request_text (⟦<Piped<O> as Peer>⟧.tool self.old) sent ≡ request.now →
-            IsOk result × Replies (⟦<Piped<O> as Peer>⟧.tool self.old) sent reply.new.items
+        ensures honest { IsHonest (calls_only zero_counts) → IsRequest request →
+            IsOk result × Replies (⟦<Piped<O> as Peer>⟧.tool self.old) request reply.new.items
             (calls_only zero_counts) (calls_only zero_counts) }
-        ensures brings { ⟦<Piped<O> as Peer>⟧.brings self.old self.new lun request.now result reply.new.items }
+        ensures brings { ⟦<Piped<O> as Peer>⟧.brings self.old self.new request result reply.new.items }
     {
         reply.clear();
-        let unit = unit_of(self.tool, lun);
-        if LAST_UNIT < unit {
+        let unit = unit_of(self.tool, request.lun());
+        if self.is_lost || LAST_UNIT < unit {
             return Err(Lost);
         }
+        let text = self.tool.request_text(request);
         let open = self.units.replace(unit, None);
         match opened(open, &mut self.opener, self.tool, unit, reply) {
             Ok(mut streams) => {
-                let came = streams.exchange(self.tool, request, reply);
+                let came = streams.exchange(self.tool, text.as_slice(), reply);
                 self.units.replace(unit, Some(streams));
+                self.is_lost = came.is_err();
                 came
             }
             Err(streams) => {
                 self.units.replace(unit, streams);
+                self.is_lost = true;
                 Err(Lost)
             }
         }

@@ -1,7 +1,6 @@
 -- The output and the exit status of a capture.
 use Rattle.std.specs.Prelude.{◌≡◌, ◌⊎◌, ◌≤◌, ◌+◌, ◌-◌, ◌++◌, [], ◌∷◌, ℕ, All, Bool, true, false, codes, IsTrue, length, List, map, MatchOption, Option, take}
 use Rattle.std.specs.List.{list_all}
-use Rattle.std.specs.Io.KnownBytes.{Appends}
 use Rattle.ipmi_bus.specs.Seen.{AsksAtMost, IsHonest, IsPlain, Seen, StaysHonest}
 use Rattle.ipmi_bus.specs.Store.{Store}
 use Rattle.ipmi_capture.specs.Capture.{IsCaptureBut, IsCaptureOf}
@@ -12,6 +11,9 @@ use Rattle.ipmi_image.specs.Rewritten.{image_text_of}
 use Rattle.ipmi_output.specs.Failure.{escaped_name, failure_text, line_text}
 use Rattle.ipmi_output.specs.Received.{Received, ReceivesText}
 use Rattle.ipmi_output.specs.declared.failure.Failure.{Failure}
+use Rattle.ipmi_output.specs.Sink.{TakesPart}
+use Rattle.serdimko.specs.LastWords.{lost_text}
+use Rattle.serdimko.specs.Out.{Out}
 
 -- the text of a whole image; for any other, the text without its last line, `end`, so that it is not an image
 abbrev pub printed_text : Bool → List ℕ → List ℕ
@@ -22,12 +24,17 @@ abbrev pub status_of_image : Bool → ℕ
 status_of_image true = 0
 status_of_image false = 1
 
--- The text was written to the output; or the output was closed by its reader; or it accepted no more, and a message says so.
-abbrev pub PrintsText : Bool → List ℕ → Option (List ℕ) → Option (List ℕ) → Received → Received → ℕ → Type 0
+-- the output accepted no more: its reader closed it, or a message says that a write failed
+abbrev pub EndsUnwritten : Bool → Received → Received → ℕ → Type 0
+EndsUnwritten true said said' status = (status ≡ 141) × (said' ≡ said)
+EndsUnwritten false said said' status = (status ≡ 4) × ReceivesText said said' (line_text (failure_text Failure.WriteFault))
+
+-- the text was written to the output; or a part of it, before a fault
+abbrev pub PrintsText : Bool → List ℕ → Out → Out → Received → Received → ℕ → Type 0
 PrintsText is_whole text old new said said' status =
-    ((status ≡ status_of_image is_whole) × Appends old new (printed_text is_whole text) × (said' ≡ said))
-    ⊎ (((status ≡ 141) × (said' ≡ said))
-    ⊎ ((status ≡ 4) × ReceivesText said said' (line_text (failure_text Failure.WriteFault))))
+    ((new.taken ≡ old.taken ++ printed_text is_whole text) × (new.held ≡ []) × (status ≡ status_of_image is_whole) × (said' ≡ said))
+    ⊎ (TakesPart old.taken new.taken (printed_text is_whole text) × (new.faults ≡ old.faults + 1)
+    × EndsUnwritten new.closed said said' status)
 
 -- A whole image was written to the file with this name, or the file can't be written. Another image is not written.
 abbrev pub WritesText : Bool → List ℕ → Received → Received → ℕ → Type 0
@@ -38,7 +45,7 @@ WritesText true name said said' status =
     ⊎ ((status ≡ 4) × ReceivesText said said' (line_text (codes "cannot write " ++ escaped_name name)))
 
 -- to a file with this name, if there is one
-abbrev pub SavesText : Option (List ℕ) → Bool → List ℕ → Option (List ℕ) → Option (List ℕ) → Received → Received → ℕ → Type 0
+abbrev pub SavesText : Option (List ℕ) → Bool → List ℕ → Out → Out → Received → Received → ℕ → Type 0
 SavesText file is_whole text old new said said' status =
     MatchOption file (PrintsText is_whole text old new said said' status)
     (λ name. (new ≡ old) × WritesText is_whole name said said' status)
@@ -49,20 +56,20 @@ SaysLines [] said said' = said' ≡ said
 SaysLines (text ∷ texts) said said'' = (said' : Received) × ReceivesText said said' (line_text text) × SaysLines texts said' said''
 
 -- each item left out is said, and the text is saved
-abbrev pub SavesImage : Option (List ℕ) → Store → List Left → Option (List ℕ) → Option (List ℕ) → Received → Received → ℕ → Type 0
+abbrev pub SavesImage : Option (List ℕ) → Store → List Left → Out → Out → Received → Received → ℕ → Type 0
 SavesImage file image left old new said said'' status =
     (said' : Received) × SaysLines (map left_text left) said said'
     × SavesText file (list_all leaves_whole left) (image_text_of image) old new said' said'' status
 
--- nothing is saved, and a message has the tool's output on a line
-abbrev pub SaysLost : Option (List ℕ) → Option (List ℕ) → Received → Received → ℕ → Type 0
-SaysLost old new said said' status =
+-- nothing is saved, and a message has this last output of the tool on a line
+abbrev pub SaysLost : List ℕ → Out → Out → Received → Received → ℕ → Type 0
+SaysLost text old new said said' status =
     (new ≡ old) × (status ≡ 1)
-    × ((text : List ℕ) × ReceivesText said said' (line_text (codes "no reply from the controller: " ++ escaped_name text)))
+    × ReceivesText said said' (line_text (codes "no reply from the controller: " ++ escaped_name (lost_text text)))
 
 -- The controller was captured, as the contract of `capture` says, and the image was saved, unless the connection was lost.
 -- `IsState` says of which states is known that the controller was in them.
-pub record Captures (IsState : Seen → Type 0) (part tries : ℕ) (seen seen' : Seen) (lost file old new : Option (List ℕ)) (said said' : Received)
+pub record Captures (IsState : Seen → Type 0) (part tries : ℕ) (seen seen' : Seen) (lost file : Option (List ℕ)) (old new : Out) (said said' : Received)
     (status : ℕ) : Type 0 where
   pub image : Store
   pub left : List Left
@@ -76,4 +83,4 @@ pub record Captures (IsState : Seen → Type 0) (part tries : ℕ) (seen seen' :
       → IsCaptureOf image seen.store
   pub told : IsHonest seen → seen'.stores_added ≡ seen.stores_added → All (IsTrueOf seen.store) left
   pub plain : IsPlain seen → All (PlainLeaves seen.store) left
-  pub saves : MatchOption lost (SavesImage file image left old new said said' status) (λ text. SaysLost old new said said' status)
+  pub saves : MatchOption lost (SavesImage file image left old new said said' status) (λ text. SaysLost text old new said said' status)

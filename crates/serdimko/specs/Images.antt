@@ -5,7 +5,6 @@ use Rattle.std.specs.declared.alloc.Global.{Global}
 use Rattle.ipmi_bus.specs.Seen.{IsHonest, Seen}
 use Rattle.ipmi_bus.specs.Store.{Store}
 use Rattle.ipmi_command_line.specs.declared.request.Format.{Format}
-use Rattle.ipmi_command_line.specs.declared.task.Task.{Task}
 use Rattle.ipmi_commands.specs.Prelude.{IsRewriting}
 use Rattle.ipmi_commands.specs.declared.limits.RequestLimits.{RequestLimits}
 use Rattle.ipmi_json.specs.declared.object.Label.{Label}
@@ -20,14 +19,14 @@ use Rattle.ipmi_output.specs.declared.failure.Failure.{Failure}
 use Rattle.ipmi_program.specs.Input.{input_name}
 use Rattle.ipmi_program.specs.declared.input.InputFault.{InputFault}
 use Rattle.serdimko.specs.Labels.{key_value, labels_of}
-use Rattle.serdimko.specs.declared.driver.Query.{Query}
+use Rattle.serdimko.specs.declared.images.ImageQuery.{ImageQuery}
 use Rattle.serdimko.specs.declared.report.Report.{Report}
 use Rattle.serdimko.specs.declared.report.Settings.{Settings}
 use Rattle.serdimko.specs.declared.run_error.RunError.{RunError}
 use Rattle.serdimko.specs.Out.{Out, state}
 use Rattle.serdimko.specs.Printing.{Each, EndsIn, PrintsQuery, Reports, RunsThenEnds}
 use Rattle.serdimko.specs.RunError.{faults_of_error, is_output_open, no_image, output_error, Tells, unread}
-use Rattle.serdimko.specs.Settings.{is_headed, texts_of, wording_of}
+use Rattle.serdimko.specs.Settings.{is_headed, IsQuery, texts_of, wording_of}
 
 -- ---- one image
 
@@ -44,29 +43,30 @@ pub record Rewrites (report : Report) (store : Store) (old new : Out) (said said
   pub runs : RunsThenEnds report (λ before after ending. IsRewriting store before after ending) None old new last
   pub reports : Reports report last said said' result
 
-abbrev pub is_rewrite : Query → Bool
-is_rewrite (Query.Print Task.Rewrite from) = true
-is_rewrite query = false
+-- the numbers of the query are in their ranges
+abbrev pub IsImageQuery : ImageQuery → Type 0
+IsImageQuery (ImageQuery.Print query) = IsQuery query.now
+IsImageQuery ImageQuery.Rewrite = Unit {0}
 
--- the query runs over a controller that holds the image, is honest, never busy, and cancels nothing
-abbrev pub PrintsStore : Bool → RequestLimits → Query → Report → Store → Out → Out → Received → Received → ℕ × Bool → Type 0
-PrintsStore true limits query report store old new said said' result = Rewrites report store old new said said' result
-PrintsStore false limits query report store old new said said' result =
+-- the query runs over a controller that holds the image, is honest, never busy, and cancels nothing; or the image is rewritten
+abbrev pub PrintsStore : RequestLimits → ImageQuery → Report → Store → Out → Out → Received → Received → ℕ × Bool → Type 0
+PrintsStore limits (ImageQuery.Print query) report store old new said said' result =
     (seen seen' : Seen) × IsHonest seen × IsTrue seen.plain × (seen.store ≡ store)
-    × PrintsQuery limits query report (state seen None old) (state seen' None new) said said' result
+    × PrintsQuery limits query.now report (state seen None old) (state seen' None new) said said' result
+PrintsStore limits ImageQuery.Rewrite report store old new said said' result = Rewrites report store old new said said' result
 
 -- the rule that the bytes break; None also if memory ran out
 abbrev pub IsCause : List ℕ → ImageFault → Option FaultCause → Type 0
 IsCause bytes fault cause = (cause ≡ None) ⊎ (cause ≡ cause_of bytes fault)
 
 -- the bytes are an image, or they have a fault; memory may run out before that is known
-abbrev pub PrintsBytes : RequestLimits → Query → Report → List ℕ → Out → Out → Received → Received → ℕ × Bool → Type 0
+abbrev pub PrintsBytes : RequestLimits → ImageQuery → Report → List ℕ → Out → Out → Received → Received → ℕ × Bool → Type 0
 PrintsBytes limits query report bytes old new said said' result =
-    ((store : Store) × (store_of_image bytes ≡ Ok store) × PrintsStore (is_rewrite query) limits query report store old new said said' result)
+    ((store : Store) × (store_of_image bytes ≡ Ok store) × PrintsStore limits query report store old new said said' result)
     ⊎ ((fault : ImageFault) × (cause : Option FaultCause) × ((fault ≡ ImageFault.Memory) ⊎ (store_of_image bytes ≡ Err fault))
     × IsCause bytes fault cause × Fails report (no_image fault cause) old new said said' result)
 
-abbrev pub PrintsInput : RequestLimits → Query → Report → Result (Vec ℕ Global) InputFault → Out → Out → Received → Received
+abbrev pub PrintsInput : RequestLimits → ImageQuery → Report → Result (Vec ℕ Global) InputFault → Out → Out → Received → Received
     → ℕ × Bool → Type 0
 PrintsInput limits query report (Err fault) old new said said' result = Fails report (unread fault) old new said said' result
 PrintsInput limits query report (Ok image) old new said said' result =
@@ -97,7 +97,7 @@ ReportsError error name is_only_input said said' result =
     Tells name is_only_input (Some error) said said' result.0 × (result.1 ≡ is_output_open (Some error))
 
 -- memory for the labels ran out, or the input is printed
-abbrev pub PrintsNamed : Settings → Query → Option (List ℕ) → Bool → Out → Out → Received → Received → ℕ × Bool → Type 0
+abbrev pub PrintsNamed : Settings → ImageQuery → Option (List ℕ) → Bool → Out → Out → Received → Received → ℕ × Bool → Type 0
 PrintsNamed settings query file is_only_input old new said said' result =
     ((new ≡ old) × ReportsError (RunError.Failed Failure.OutOfMemory) (input_name file) is_only_input said said' result)
     ⊎ ((report : Report) × (input : Result (Vec ℕ Global) InputFault)
@@ -105,7 +105,7 @@ PrintsNamed settings query file is_only_input old new said said' result =
     × PrintsInput settings.limits query report input old new said said' result)
 
 -- after its name, if that could be printed
-abbrev pub PrintsFile : Bool → Settings → Query → Option (List ℕ) → Bool → Out → Out → Received → Received → ℕ × Bool → Type 0
+abbrev pub PrintsFile : Bool → Settings → ImageQuery → Option (List ℕ) → Bool → Out → Out → Received → Received → ℕ × Bool → Type 0
 PrintsFile false settings query file is_only_input old new said said' result =
     PrintsNamed settings query file is_only_input old new said said' result
 PrintsFile true settings query file is_only_input old new said said' result =
@@ -119,19 +119,19 @@ abbrev pub file_of : Option (List ℕ) → Option (List ℕ)
 file_of None = None
 file_of (Some name) = if bytes_eq name (codes "-") then None else Some name
 
-abbrev pub PrintsImage : Settings → Query → Bool → Option (List ℕ) → Out → Out → Received → Received → ℕ × Bool → Type 0
+abbrev pub PrintsImage : Settings → ImageQuery → Bool → Option (List ℕ) → Out → Out → Received → Received → ℕ × Bool → Type 0
 PrintsImage settings query is_only_input image old new said said' result =
     PrintsFile (is_headed settings.format is_only_input) settings query (file_of image) is_only_input old new said said' result
 
 -- ---- all images
 
 -- the next image follows if more can be printed
-abbrev pub PrintsOne : Settings → Query → Bool → List ℕ → Out → Out → Received → Received → ℕ × Bool → Bool → Type 0
+abbrev pub PrintsOne : Settings → ImageQuery → Bool → List ℕ → Out → Out → Received → Received → ℕ × Bool → Bool → Type 0
 PrintsOne settings query is_only_input image old new said said' result follows =
     PrintsImage settings query is_only_input (Some image) old new said said' result × (follows ≡ result.1)
 
 -- standard input if none is named
-abbrev pub PrintsImages : Settings → Query → List (List ℕ) → Out → Out → Received → Received → ℕ × Bool → Type 0
+abbrev pub PrintsImages : Settings → ImageQuery → List (List ℕ) → Out → Out → Received → Received → ℕ × Bool → Type 0
 PrintsImages settings query [] old new said said' result = PrintsImage settings query true None old new said said' result
 PrintsImages settings query (image ∷ images) old new said said' result =
     Each (PrintsOne settings query (length (image ∷ images) == 1)) (image ∷ images) old new said said' result

@@ -7,3 +7,5 @@ pub mod Out
 pub mod Printing
 pub mod RunError
 pub mod Settings
+pub mod LastWords
+pub mod Closed

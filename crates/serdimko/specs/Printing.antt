@@ -5,7 +5,7 @@ use Rattle.std.specs.declared.alloc.Global.{Global}
 use Rattle.ipmi_bus.specs.CursorState.{start_of}
 use Rattle.ipmi_bus.specs.Seen.{AsksAtMost, IsHonest, Seen}
 use Rattle.ipmi_command_line.specs.declared.task.Task.{Task}
-use Rattle.ipmi_commands.specs.Prelude.{change, job_in, most_on_walk, Output, Runs}
+use Rattle.ipmi_commands.specs.Prelude.{change, job_in, most_on_walk, Output, RunsCommand}
 use Rattle.ipmi_commands.specs.declared.job.Job.{Job}
 use Rattle.ipmi_commands.specs.declared.job.Wording.{Wording}
 use Rattle.ipmi_commands.specs.Sensors.{AddsNamed, EndsSearch, Found, PrintsFound, Searches, with_readings}
@@ -21,6 +21,7 @@ use Rattle.ipmi_program.specs.Printing.{IsFlushed}
 use Rattle.serdimko.specs.declared.driver.Query.{Query}
 use Rattle.serdimko.specs.declared.report.Report.{Report}
 use Rattle.serdimko.specs.declared.run_error.RunError.{RunError}
+use Rattle.serdimko.specs.LastWords.{IsLastLine}
 use Rattle.serdimko.specs.Out.{Out, State}
 use Rattle.serdimko.specs.RunError.{error_of, error_text, faults_of_error, is_output_open, is_recoverable, lost_error, output_error, status_of_error, Tells}
 
@@ -95,20 +96,15 @@ pub record RunsThenEnds (report : Report) (Prints : Output → Output → Ending
 
 -- ---- a task
 
--- over a controller; `image rewrite` is none
-abbrev pub RunsJob : Option Job → RequestLimits → Seen → Seen → Output → Output → Ending → Type 0
-RunsJob None limits seen seen' before after ending =
-    (ending ≡ Err Failure.Usage) × (seen' ≡ seen) × (after ≡ before)
-RunsJob (Some job) limits seen seen' before after ending =
-    Runs job limits.tries (change seen seen' before after) ending
-
--- what a task prints of a controller: no part requested is too long; the tool's words are told only if the connection was lost
+-- What a task prints of a controller. No part requested is too long. If the connection was lost, its tool's last words are told.
 pub record PrintsTask (limits : RequestLimits) (task : Task) (from : Option ℕ) (report : Report) (old new : State)
     (last : Option RunError) : Type 0 where
   pub said : Option (String Global)
-  pub lost : new.lost ≡ None → said ≡ None
+  pub last_line : IsLastLine new.lost said
   pub asked : AsksAtMost limits.part old.seen new.seen
-  pub runs : RunsThenEnds report (RunsJob (job_in report.wording task from) limits old.seen new.seen) said old.out new.out last
+  pub runs : RunsThenEnds report
+      (λ before after. RunsCommand (job_in report.wording task from) limits.tries (change old.seen new.seen before after))
+      said old.out new.out last
 
 -- the exit status, and whether more can be printed, after a run with this error
 abbrev pub Reports : Report → Option RunError → Received → Received → ℕ × Bool → Type 0
@@ -171,7 +167,7 @@ abbrev pub PrintsSearched : Ending → Report → List Found → List (List ℕ)
 PrintsSearched (Ok done) report found names old new said said' result =
     Each (RunsName report found) names old.out new.out said said' result
 PrintsSearched (Err failure) report found names old new said said' result =
-    (line : Option (String Global)) × (last : Option RunError) × (new.lost ≡ None → line ≡ None)
+    (line : Option (String Global)) × (last : Option RunError) × IsLastLine new.lost line
     × RunsThenEnds report (PrintsBroken report found names failure) line old.out new.out last × Reports report last said said' result
 
 -- one walk finds the sensors with these names, and then they are printed

@@ -7,9 +7,13 @@ ghost use Rattle.ipmi_image.specs.Rewritten.{image_text_of};
 ghost use Rattle.ipmi_output.specs.Failure.{escaped_name, line_text};
 ghost use Rattle.ipmi_output.specs.Received.{ReceivesText};
 ghost use Rattle.ipmi_raw.specs.Controller.{last_words, seen_of};
-ghost use Rattle.serdimko.specs.Captured.{Captures, printed_text, PrintsText, SavesImage, SavesText, SaysLines, SaysLost, status_of_image, WritesText};
+ghost use Rattle.serdimko.specs.Captured.{Captures, EndsUnwritten, printed_text, PrintsText, SavesImage, SavesText, SaysLines, SaysLost, status_of_image, WritesText};
+ghost use Rattle.serdimko.specs.Live.{HandsOnlyRequests};
+ghost use Rattle.serdimko.specs.Out.{out_of};
 
-use crate::live::{Live, controller_of, lost_line};
+use crate::closable::{Output, is_closed};
+use crate::ending::write_flushed;
+use crate::live::lost_line;
 use crate::run_error::CLOSED;
 use ipmi_bus::Shelf;
 use ipmi_capture::{Captured, Left, Progress, capture};
@@ -18,10 +22,10 @@ use ipmi_commands::RequestLimits;
 use ipmi_image::image_text;
 use ipmi_output::Part::{Escaped, Text};
 use ipmi_output::{Failure, MessageSink, write_failure, write_message};
-use ipmi_raw::{Peer, RawController};
+use ipmi_raw::{Open, Piped, RawController};
 use std::alloc::{AllocError, Global};
 use std::fs::{self, File, Files};
-use std::io::{self, ErrorKind, Write};
+use std::io::{self, Write};
 use std::time::Clock;
 
 /// The exit status if the image is not whole.
@@ -101,7 +105,7 @@ fn say_left<E: MessageSink>(alloc: Global, left: &[Left], err: &mut E) -> Result
     Ok(())
 }
 
-/// Reports that the connection was lost, with the tool's last output on a line.
+/// Reports that the connection was lost, with this line of the tool's last output.
 fn say_lost<E: MessageSink>(line: &str, err: &mut E)
     ensures { ReceivesText (E.received err.old) (E.received err.new)
         (line_text (codes "no reply from the controller: " ++ escaped_name line.now)) }
@@ -145,19 +149,30 @@ fn status_of_image(is_whole: bool) -> u8
     if is_whole { 0 } else { NOT_WHOLE }
 }
 
-/// Writes the text of an image, or its part to print, to the output, and returns the exit status.
-fn print_text<W: Write, E: MessageSink>(text: &[u8], is_whole: bool, out: &mut W, err: &mut E) -> u8
-    ensures { PrintsText is_whole text.now (W.contents out.old) (W.contents out.new)
-        (E.received err.old) (E.received err.new) result }
+/// Reports that the output accepted no more, unless its reader closed it, and returns the exit status.
+fn end_unwritten<E: MessageSink>(is_closed: bool, err: &mut E) -> u8
+    ensures { EndsUnwritten is_closed (E.received err.old) (E.received err.new) result }
 {
-    match out.write_all(printed_text(text, is_whole)) {
+    if is_closed {
+        return CLOSED;
+    }
+    // there is nowhere left to report that this failed
+    let _ = write_failure(err, &Failure::WriteFault);
+    UNWRITTEN
+}
+
+/// Writes the text of an image, or its part to print, to the output, and returns the exit status.
+fn print_text<W: Write + Drop, E: MessageSink>(
+    text: &[u8],
+    is_whole: bool,
+    out: &mut Output<W>,
+    err: &mut E,
+) -> u8
+    ensures { PrintsText is_whole text.now (out_of out.old) (out_of out.new) (E.received err.old) (E.received err.new) result }
+{
+    match write_flushed(out, printed_text(text, is_whole)) {
         Ok(()) => status_of_image(is_whole),
-        Err(error) if error.kind() == ErrorKind::BrokenPipe => CLOSED,
-        Err(_) => {
-            // there is nowhere left to report that this failed
-            let _ = write_failure(err, &Failure::WriteFault);
-            UNWRITTEN
-        }
+        Err(_) => end_unwritten(is_closed(out), err),
     }
 }
 
@@ -196,15 +211,15 @@ fn write_text<R: Files + AllocGlobal, E: MessageSink>(
 }
 
 /// Writes the image, whole or in part, and returns the exit status.
-fn write_captured<R: Files + AllocGlobal, W: Write, E: MessageSink>(
+fn write_captured<R: Files + AllocGlobal, W: Write + Drop, E: MessageSink>(
     rt: &R,
     captured: &Captured,
     output: Option<&Word>,
-    out: &mut W,
+    out: &mut Output<W>,
     err: &mut E,
 ) -> Result<u8, AllocError>
     ensures saves { IfOk result (λ status. SavesText (option_map (λ word. word.now) output.entry) captured.now.is_whole
-        (image_text_of captured.now.image) (W.contents out.old) (W.contents out.new)
+        (image_text_of captured.now.image) (out_of out.old) (out_of out.new)
         (E.received err.old) (E.received err.new) status) }
     ensures err { OnErr result (out.new ≡ out.old) }
 {
@@ -217,19 +232,19 @@ fn write_captured<R: Files + AllocGlobal, W: Write, E: MessageSink>(
 
 /// Reports what was captured: that the connection was lost, or the items left out. Then writes the image, and returns the exit
 /// status.
-fn report_captured<R: Files + AllocGlobal, W: Write, E: MessageSink>(
+fn report_captured<R: Files + AllocGlobal, W: Write + Drop, E: MessageSink>(
     rt: &R,
     lost: Option<&[u8]>,
     captured: &Captured,
     output: Option<&Word>,
-    out: &mut W,
+    out: &mut Output<W>,
     err: &mut E,
 ) -> Result<u8, AllocError>
     requires { captured.now.is_whole ≡ list_all leaves_whole captured.now.left.items }
     ensures { IfOk result (λ status. MatchOption (option_map (λ text. text.now) lost.entry)
         (SavesImage (option_map (λ word. word.now) output.entry) captured.now.image captured.now.left.items
-        (W.contents out.old) (W.contents out.new) (E.received err.old) (E.received err.new) status)
-        (λ text. SaysLost (W.contents out.old) (W.contents out.new) (E.received err.old) (E.received err.new) status)) }
+        (out_of out.old) (out_of out.new) (E.received err.old) (E.received err.new) status)
+        (λ text. SaysLost text (out_of out.old) (out_of out.new) (E.received err.old) (E.received err.new) status)) }
 {
     if let Some(text) = lost {
         let line = lost_line(rt.alloc(), text)?;
@@ -240,26 +255,29 @@ fn report_captured<R: Files + AllocGlobal, W: Write, E: MessageSink>(
     write_captured(rt, captured, output, out, err)
 }
 
-/// Reads the contents of the controller, writes them as an image, reports the items left out, and returns the exit status.
-fn capture_from<
+/// Reads the contents of the live controller, writes them as an image, reports the items left out, and returns the exit status.
+/// All that a tool is handed are requests that read.
+pub(crate) fn capture_live<
     R: Files + AllocGlobal,
-    P: Peer + Drop,
+    O: Open + Drop,
     K: Clock + Drop,
     T: Write + Drop,
-    W: Write,
+    W: Write + Drop,
     E: MessageSink,
 >(
     rt: &R,
-    controller: &mut RawController<P, K>,
+    controller: &mut RawController<Piped<O>, K>,
     limits: RequestLimits,
     output: Option<&Word>,
     counter: &mut Counter<T>,
-    out: &mut W,
+    out: &mut Output<W>,
     err: &mut E,
 ) -> Result<u8, AllocError>
-    ensures { IfOk result (Captures (IsStateOf (seen_of {K = K} P.seen)) limits.part limits.tries (seen_of P.seen controller.old)
-        (seen_of P.seen controller.new) (last_words controller.new) (option_map (λ word. word.now) output.entry)
-        (W.contents out.old) (W.contents out.new) (E.received err.old) (E.received err.new)) }
+    ensures captures { IfOk result (Captures (IsStateOf (seen_of {K = K} ⟦<Piped<O> as Peer>⟧.seen)) limits.part limits.tries
+        (seen_of ⟦<Piped<O> as Peer>⟧.seen controller.old) (seen_of ⟦<Piped<O> as Peer>⟧.seen controller.new)
+        (last_words controller.new) (option_map (λ word. word.now) output.entry)
+        (out_of out.old) (out_of out.new) (E.received err.old) (E.received err.new)) }
+    ensures requests { HandsOnlyRequests controller.new }
 {
     let captured = capture(
         rt.alloc(),
@@ -272,31 +290,4 @@ fn capture_from<
     let status = report_captured(rt, controller.lost(), &captured, output, out, err);
     drop(captured);
     status
-}
-
-/// Saves the contents of the live controller, and returns the exit status.
-pub(crate) fn capture_live<
-    R: Files + Clock + AllocGlobal,
-    T: Write + Drop,
-    W: Write,
-    E: MessageSink,
->(
-    rt: &R,
-    limits: RequestLimits,
-    live: Live<'_>,
-    output: Option<&Word>,
-    terminal: Option<T>,
-    out: &mut W,
-    err: &mut E,
-) -> Result<u8, AllocError>
-    ensures { IfOk result (λ status. (seen seen' : Seen) × (lost : Option (List ℕ)) × Captures (λ s. Unit {0}) limits.part limits.tries
-        seen seen' lost (option_map (λ word. word.now) output.entry) (W.contents out.old) (W.contents out.new)
-        (E.received err.old) (E.received err.new) status) }
-{
-    let mut counter = Counter::new(terminal);
-    let mut controller = controller_of(rt, live);
-    let saved = capture_from(rt, &mut controller, limits, output, &mut counter, out, err);
-    drop(controller);
-    drop(counter);
-    saved
 }

@@ -1,5 +1,6 @@
 //! The output of the program, which may be closed by its reader.
-ghost use Rattle.std.specs.Prelude.{◌≡◌, false};
+ghost use Rattle.std.specs.Prelude.{◌≡◌, ◌||◌, false};
+ghost use Rattle.serdimko.specs.Closed.{is_closing, says_closed};
 ghost use Rattle.serdimko.specs.Out.{is_closed};
 
 use ipmi_output::Written;
@@ -28,13 +29,22 @@ impl<W: Write> Closable<W> {
     }
 }
 
+/// Whether a writer with an error of this kind was closed by its reader.
+fn is_closing(kind: ErrorKind) -> bool
+    ensures { result ≡ is_closing kind }
+{
+    matches!(kind, ErrorKind::BrokenPipe)
+}
+
 impl<W: Write> Write for Closable<W> {
     ghost contents = { λ closable. W.contents closable.writer };
 
-    fn write(&mut self, buf: &[u8]) -> Result<usize> {
+    fn write(&mut self, buf: &[u8]) -> Result<usize>
+        ensures noted { self.new.is_closed ≡ (self.old.is_closed || says_closed result) }
+    {
         let taken = self.writer.write(buf);
         if let Err(error) = &taken {
-            self.is_closed |= error.kind() == ErrorKind::BrokenPipe;
+            self.is_closed |= is_closing(error.kind());
         }
         taken
     }

@@ -3,10 +3,11 @@ ghost use Rattle.std.specs.Prelude.{◌≡◌, ◌+◌, Err, IfSome, List, None,
 ghost use Rattle.serdimko.specs.Out.{out_of, state};
 ghost use Rattle.ipmi_command_line.specs.Command.{IsTask};
 ghost use Rattle.ipmi_bus.specs.Seen.{AsksAtMost};
-ghost use Rattle.ipmi_commands.specs.Prelude.{IsFrom, IsJob, printed};
+ghost use Rattle.ipmi_commands.specs.Prelude.{change, IsFrom, IsJob, printed, RunsCommand};
 ghost use Rattle.ipmi_output.specs.Failure.{write_faults};
+ghost use Rattle.serdimko.specs.LastWords.{IsLastLine};
 ghost use Rattle.serdimko.specs.Settings.{IsQuery};
-ghost use Rattle.serdimko.specs.Printing.{PrintsName, PrintsNames, PrintsQuery, PrintsSensors, PrintsTask, Each, PrintsBroken, RunsJob, RunsName, RunsThenEnds};
+ghost use Rattle.serdimko.specs.Printing.{PrintsName, PrintsNames, PrintsQuery, PrintsSensors, PrintsTask, Each, PrintsBroken, RunsName, RunsThenEnds};
 
 use crate::closable::Output;
 use crate::ending::end_run;
@@ -29,7 +30,7 @@ pub(crate) trait Connection: Controller {
 
     /// The same on a line. None also if memory ran out; the message is then that of a refusal.
     fn last_line(&self, alloc: Global) -> Option<String>
-        ensures { lost self.now ≡ None → result ≡ None };
+        ensures { IsLastLine (lost self.now) result };
 }
 
 impl Connection for ImageController {
@@ -61,8 +62,8 @@ fn run_job<'a, C: Controller, W: Write + Drop>(
     requires { IfSome job (λ job. IsJob job) }
     ensures faults { (out_of out.new).faults ≡ (out_of out.old).faults + write_faults result }
     ensures asked { AsksAtMost limits.part (C.seen ctl.old) (C.seen ctl.new) }
-    ensures runs { RunsJob job.entry limits (C.seen ctl.old) (C.seen ctl.new)
-        (printed (out_of out.old).taken summary.old) (printed (out_of out.new).taken summary.new) result }
+    ensures runs { RunsCommand job.entry limits.tries (change (C.seen ctl.old) (C.seen ctl.new)
+        (printed (out_of out.old).taken summary.old) (printed (out_of out.new).taken summary.new)) result }
 {
     match job {
         Some(job) => execute(alloc, ctl, limits, job, out, summary),

@@ -78,13 +78,13 @@ fn line_at_end(
     end_line(alloc, status, message.as_deref(), count, labels)
 }
 
-/// Writes the line, and flushes it.
-fn write_line<W: Write + Drop>(out: &mut Output<W>, line: &[u8]) -> Result<(), SinkFault>
-    ensures ok { OnOk result (((out_of out.new).taken ≡ (out_of out.old).taken ++ line.now) × ((out_of out.new).held ≡ [])) }
-    ensures err { OnErr result (TakesPart (out_of out.old).taken (out_of out.new).taken line.now) }
+/// Writes the text, and flushes it.
+pub(crate) fn write_flushed<W: Write + Drop>(out: &mut Output<W>, text: &[u8]) -> Result<(), SinkFault>
+    ensures ok { OnOk result (((out_of out.new).taken ≡ (out_of out.old).taken ++ text.now) × ((out_of out.new).held ≡ [])) }
+    ensures err { OnErr result (TakesPart (out_of out.old).taken (out_of out.new).taken text.now) }
     ensures faults { (out_of out.new).faults ≡ (out_of out.old).faults + flush_faults result }
 {
-    write_all(out, line)?;
+    write_all(out, text)?;
     out.flush()
 }
 
@@ -109,7 +109,7 @@ fn print_end<'a, W: Write + Drop>(
     let Ok(line) = line_at_end(alloc, labels, count, &error, report) else {
         return Some(RunError::Failed(Failure::OutOfMemory));
     };
-    match write_line(out, line.as_slice()) {
+    match write_flushed(out, line.as_slice()) {
         Ok(()) => error,
         Err(fault) => RunError::of(Err(Failure::from(fault)), false, is_closed(out)),
     }

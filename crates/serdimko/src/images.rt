@@ -4,9 +4,8 @@ ghost use Rattle.ipmi_image.specs.Image.{store_of_image};
 ghost use Rattle.ipmi_output.specs.Sink.{TakesPart};
 ghost use Rattle.ipmi_output.specs.Writer.{flush_faults};
 ghost use Rattle.ipmi_program.specs.Input.{input_name};
-ghost use Rattle.serdimko.specs.Images.{Fails, file_of, header, image_label, IsCause, is_rewrite, PrintsBytes, PrintsFile, PrintsImage, PrintsImages, PrintsInput, PrintsNamed, PrintsStore, Rewrites};
+ghost use Rattle.serdimko.specs.Images.{Fails, file_of, header, image_label, IsCause, IsImageQuery, PrintsBytes, PrintsFile, PrintsImage, PrintsImages, PrintsInput, PrintsNamed, PrintsStore, Rewrites};
 ghost use Rattle.serdimko.specs.Out.{out_of};
-ghost use Rattle.serdimko.specs.Settings.{IsQuery};
 
 use crate::closable::{Output, is_closed};
 use crate::driver::{Query, print_query};
@@ -14,7 +13,7 @@ use crate::ending::{end_run, end_with};
 use crate::labels::labels_of;
 use crate::report::{Report, Settings};
 use crate::run_error::RunError;
-use ipmi_command_line::{Format, Task, Word};
+use ipmi_command_line::Word;
 use ipmi_commands::{RequestLimits, Summary, write_image};
 use ipmi_image::{FaultCause, Image, ImageController, ImageFault, fault_cause};
 use ipmi_output::Part::{Escaped, Text};
@@ -22,6 +21,15 @@ use ipmi_output::{Failure, MessageSink, SinkFault, write_message};
 use ipmi_program::{InputFault, input_name, read_input};
 use std::alloc::{AllocError, Global};
 use std::io::Write;
+
+/// What is printed of each image.
+#[derive(Clone, Copy)]
+pub(crate) enum ImageQuery<'a> {
+    /// What a query asks for.
+    Print(&'a Query),
+    /// The image, in its canonical spelling.
+    Rewrite,
+}
 
 /// The file; None for `-`, which is standard input.
 pub(crate) fn file_of(image: Option<&Word>) -> Option<&Word>
@@ -70,30 +78,24 @@ fn rewrite<W: Write + Drop, E: MessageSink>(
     report.tell(&last, err)
 }
 
-/// Whether the image is to be printed in its canonical spelling.
-fn is_rewrite(query: &Query) -> bool
-    ensures { result ≡ is_rewrite query.now }
-{
-    matches!(query, Query::Print(Task::Rewrite, _))
-}
-
 /// Prints what the query asks for from an image.
 fn print_store<W: Write + Drop, E: MessageSink>(
     alloc: Global,
     limits: RequestLimits,
-    query: &Query,
+    query: ImageQuery<'_>,
     report: &Report<'_>,
     image: Image,
     out: &mut Output<W>,
     err: &mut E,
 ) -> (u8, bool)
-    requires { IsQuery query.now }
-    ensures { PrintsStore (is_rewrite query.now) limits query.now report.now image (out_of out.old) (out_of out.new)
+    requires { IsImageQuery query }
+    ensures { PrintsStore limits query report.now image (out_of out.old) (out_of out.new)
         (E.received err.old) (E.received err.new) result }
 {
-    if is_rewrite(query) {
-        return rewrite(alloc, &image, report, out, err);
-    }
+    let query = match query {
+        ImageQuery::Rewrite => return rewrite(alloc, &image, report, out, err),
+        ImageQuery::Print(query) => query,
+    };
     let mut ctl = ImageController::new(image);
     let result = print_query(alloc, &mut ctl, limits, query, report, out, err);
     drop(ctl);
@@ -104,14 +106,14 @@ fn print_store<W: Write + Drop, E: MessageSink>(
 fn print_bytes<W: Write + Drop, E: MessageSink>(
     alloc: Global,
     limits: RequestLimits,
-    query: &Query,
+    query: ImageQuery<'_>,
     report: &Report<'_>,
     bytes: &[u8],
     out: &mut Output<W>,
     err: &mut E,
 ) -> (u8, bool)
-    requires { IsQuery query.now }
-    ensures { PrintsBytes limits query.now report.now bytes.now (out_of out.old) (out_of out.new)
+    requires { IsImageQuery query }
+    ensures { PrintsBytes limits query report.now bytes.now (out_of out.old) (out_of out.new)
         (E.received err.old) (E.received err.new) result }
 {
     match Image::read(alloc, bytes) {
@@ -127,14 +129,14 @@ fn print_bytes<W: Write + Drop, E: MessageSink>(
 fn print_input<W: Write + Drop, E: MessageSink>(
     alloc: Global,
     limits: RequestLimits,
-    query: &Query,
+    query: ImageQuery<'_>,
     report: &Report<'_>,
     input: &Result<Vec<u8>, InputFault>,
     out: &mut Output<W>,
     err: &mut E,
 ) -> (u8, bool)
-    requires { IsQuery query.now }
-    ensures { PrintsInput limits query.now report.now input.now (out_of out.old) (out_of out.new)
+    requires { IsImageQuery query }
+    ensures { PrintsInput limits query report.now input.now (out_of out.old) (out_of out.new)
         (E.received err.old) (E.received err.new) result }
 {
     match input {
@@ -154,14 +156,14 @@ fn image_label(is_only_input: bool, name: &str) -> Option<&str>
 fn print_named<W: Write + Drop, E: MessageSink>(
     rt: &HostRuntime,
     settings: &Settings,
-    query: &Query,
+    query: ImageQuery<'_>,
     file: Option<&Word>,
     is_only_input: bool,
     out: &mut Output<W>,
     err: &mut E,
 ) -> (u8, bool)
-    requires { IsQuery query.now }
-    ensures { PrintsNamed settings.now query.now (option_map (λ file. file.now) file.entry) is_only_input
+    requires { IsImageQuery query }
+    ensures { PrintsNamed settings.now query (option_map (λ file. file.now) file.entry) is_only_input
         (out_of out.old) (out_of out.new) (E.received err.old) (E.received err.new) result }
 {
     let alloc = rt.alloc();
@@ -190,14 +192,14 @@ fn print_header<W: Write + Drop>(out: &mut Output<W>, name: &str) -> Result<(), 
 fn print_headed<W: Write + Drop, E: MessageSink>(
     rt: &HostRuntime,
     settings: &Settings,
-    query: &Query,
+    query: ImageQuery<'_>,
     file: Option<&Word>,
     is_only_input: bool,
     out: &mut Output<W>,
     err: &mut E,
 ) -> (u8, bool)
-    requires { IsQuery query.now }
-    ensures { PrintsFile true settings.now query.now (option_map (λ file. file.now) file.entry) is_only_input
+    requires { IsImageQuery query }
+    ensures { PrintsFile true settings.now query (option_map (λ file. file.now) file.entry) is_only_input
         (out_of out.old) (out_of out.new) (E.received err.old) (E.received err.new) result }
 {
     let name = input_name(file);
@@ -215,14 +217,14 @@ fn print_headed<W: Write + Drop, E: MessageSink>(
 fn print_image<W: Write + Drop, E: MessageSink>(
     rt: &HostRuntime,
     settings: &Settings,
-    query: &Query,
+    query: ImageQuery<'_>,
     image: Option<&Word>,
     is_only_input: bool,
     out: &mut Output<W>,
     err: &mut E,
 ) -> (u8, bool)
-    requires { IsQuery query.now }
-    ensures { PrintsImage settings.now query.now is_only_input (option_map (λ image. image.now) image.entry)
+    requires { IsImageQuery query }
+    ensures { PrintsImage settings.now query is_only_input (option_map (λ image. image.now) image.entry)
         (out_of out.old) (out_of out.new) (E.received err.old) (E.received err.new) result }
 {
     let file = file_of(image);
@@ -237,13 +239,13 @@ fn print_image<W: Write + Drop, E: MessageSink>(
 pub(crate) fn print_images<W: Write + Drop, E: MessageSink>(
     rt: &HostRuntime,
     settings: &Settings,
-    query: &Query,
+    query: ImageQuery<'_>,
     images: &[Word],
     out: &mut Output<W>,
     err: &mut E,
 ) -> (u8, bool)
-    requires { IsQuery query.now }
-    ensures { PrintsImages settings.now query.now images.now (out_of out.old) (out_of out.new)
+    requires { IsImageQuery query }
+    ensures { PrintsImages settings.now query images.now (out_of out.old) (out_of out.new)
         (E.received err.old) (E.received err.new) result }
 {
     if images.is_empty() {

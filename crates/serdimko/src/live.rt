@@ -1,7 +1,10 @@
 //! Prints what a command asks for from a live controller. A stock tool holds a session with it, and pipes in a folder lead to the tool.
-ghost use Rattle.std.specs.Prelude.{◌≡◌, ⊤, None};
+ghost use Rattle.std.specs.Prelude.{◌≡◌, ◌*◌, None, IfOk, map, string_bytes};
+ghost use Rattle.core.specs.Time.{as_nanos};
 ghost use Rattle.ipmi_raw.specs.Controller.{last_words};
-ghost use Rattle.serdimko.specs.Live.{PrintsLive, tool_of};
+ghost use Rattle.ipmi_raw.specs.Piped.{no_units};
+ghost use Rattle.serdimko.specs.LastWords.{lost_text, said_lines};
+ghost use Rattle.serdimko.specs.Live.{HandsOnlyRequests, live_state, pipe_name, PrintsLive, tool_of};
 ghost use Rattle.serdimko.specs.Out.{out_of};
 ghost use Rattle.serdimko.specs.Settings.{IsQuery};
 
@@ -71,17 +74,24 @@ pub(crate) struct Pipes<'a, R> {
     folder: &'a str,
 }
 
+/// The name of a pipe in the folder: `requests` or `replies`, and the logical unit.
+fn pipe_name(alloc: Global, folder: &str, stream: &str, lun: u8) -> Result<String, AllocError>
+    ensures { IfOk result (λ name. string_bytes name ≡ pipe_name folder.now stream.now lun) }
+{
+    format!(in alloc; "{folder}/{stream}.{lun}")
+}
+
 impl<'a, R: Files + AllocGlobal> Open for Pipes<'a, R> {
     type Replies = BufReader<R::File>;
 
     type Requests = R::File;
 
-    ghost opens = { λ old new lun streams. ⊤ };
+    ghost opens = { λ old new lun streams. new ≡ old };
 
     fn open(&mut self, lun: u8) -> io::Result<(BufReader<R::File>, R::File)> {
         let alloc = self.rt.alloc();
-        let requests = format!(in alloc; "{}/requests.{lun}", self.folder)?;
-        let replies = format!(in alloc; "{}/replies.{lun}", self.folder)?;
+        let requests = pipe_name(alloc, self.folder, "requests", lun)?;
+        let replies = pipe_name(alloc, self.folder, "replies", lun)?;
         // each waits until the tool's side opens the same pipe, in this order
         let requests = OpenOptions::new()
             .write(true)
@@ -91,21 +101,30 @@ impl<'a, R: Files + AllocGlobal> Open for Pipes<'a, R> {
     }
 }
 
-/// The last output of the tool, on one line, cut off if it is long.
-pub(crate) fn lost_line(alloc: Global, text: &[u8]) -> Result<String, AllocError> {
-    let text = String::from_utf8_lossy(alloc, text.get(..MOST_TOLD).unwrap_or(text))?;
-    let mut line = String::new(alloc);
-    let parts = text.lines().map(|part| part.trim());
-    for part in parts.filter(|part| !part.is_empty()).take(MOST_LINES) {
-        if !line.is_empty() {
-            line.push_str("; ")?;
+/// The lines of a text that are not blank, without white space at their ends; at most three.
+fn said_lines<'a>(alloc: Global, text: &'a str) -> Result<Vec<&'a str>, AllocError>
+    ensures { IfOk result (λ lines. map (λ line. line.now) lines.items ≡ said_lines text.entry.now) }
+{
+    let mut lines = Vec::new(alloc);
+    for line in text.lines() {
+        let line = line.trim();
+        if !line.is_empty() && lines.len() < MOST_LINES {
+            lines.push(line)?;
         }
-        line.push_str(part)?;
     }
-    if line.is_empty() {
-        line.push_str("the tool said nothing")?;
+    Ok(lines)
+}
+
+/// The last output of the tool, on one line, cut off if it is long.
+pub(crate) fn lost_line(alloc: Global, text: &[u8]) -> Result<String, AllocError>
+    ensures { IfOk result (λ line. string_bytes line ≡ lost_text text.now) }
+{
+    let text = String::from_utf8_lossy(alloc, text.get(..MOST_TOLD).unwrap_or(text))?;
+    let lines = said_lines(alloc, text.as_str())?;
+    if lines.is_empty() {
+        return String::from(alloc, "the tool said nothing");
     }
-    Ok(line)
+    lines.as_slice().join(alloc, "; ")
 }
 
 impl<P: Peer + Drop, K: Clock + Drop> Connection for RawController<P, K> {
@@ -116,12 +135,16 @@ impl<P: Peer + Drop, K: Clock + Drop> Connection for RawController<P, K> {
     }
 }
 
-/// The controller that the pipes lead to.
+/// The controller that the pipes lead to. Nothing is opened or sent yet.
 pub(crate) fn controller_of<'a, R: Files + Clock + AllocGlobal>(
     rt: &'a R,
     live: Live<'a>,
 ) -> RawController<Piped<Pipes<'a, R>>, &'a R>
-    ensures { last_words result ≡ None }
+    ensures lost { last_words result ≡ None }
+    ensures tool { result.peer.tool ≡ live.tool }
+    ensures folder { result.peer.opener.folder.now ≡ live.folder.now }
+    ensures units { result.peer.units ≡ no_units }
+    ensures pause { as_nanos result.pause ≡ PAUSE * 1_000_000 }
 {
     let pipes = Pipes {
         rt,
@@ -131,28 +154,30 @@ pub(crate) fn controller_of<'a, R: Files + Clock + AllocGlobal>(
     RawController::new(Piped::new(live.tool, pipes), rt, pause)
 }
 
-/// Prints what the query asks for from the live controller, and returns the exit status.
-pub(crate) fn print_live<R: Files + Clock + AllocGlobal, W: Write + Drop, E: MessageSink>(
-    rt: &R,
+/// Prints what the query asks for from the live controller, and returns the exit status, and whether more can be printed.
+/// All that a tool is handed are requests that read.
+pub(crate) fn print_live<O: Open + Drop, K: Clock + Drop, W: Write + Drop, E: MessageSink>(
+    alloc: Global,
     settings: &Settings,
     query: &Query,
-    live: Live<'_>,
+    controller: &mut RawController<Piped<O>, K>,
     out: &mut Output<W>,
     err: &mut E,
 ) -> (u8, bool)
     requires { IsQuery query.now }
-    ensures { PrintsLive settings.now query.now (out_of out.old) (out_of out.new) (E.received err.old) (E.received err.new) result }
+    ensures prints { PrintsLive settings.now query.now
+        (live_state controller.old (out_of out.old)) (live_state controller.new (out_of out.new))
+        (E.received err.old) (E.received err.new) result }
+    ensures requests { HandsOnlyRequests controller.new }
 {
-    let alloc = rt.alloc();
     let Ok(labels) = labels_of(alloc, settings.labels(), None) else {
         let report = settings.report(&[], NAME, true);
         return report.tell(&Some(RunError::Failed(Failure::OutOfMemory)), err);
     };
     let report = settings.report(labels.as_slice(), NAME, true);
-    let mut controller = controller_of(rt, live);
     print_query(
         alloc,
-        &mut controller,
+        controller,
         settings.limits,
         query,
         &report,

@@ -4,6 +4,7 @@
 
 ghost use Rattle.std.specs.Prelude.{◌≤◌, IfSome};
 ghost use Rattle.ipmi_command_line.specs.Request.{IsRequest};
+ghost use Rattle.serdimko.specs.Images.{IsImageQuery};
 ghost use Rattle.serdimko.specs.Settings.{IsQuery};
 
 mod capture;
@@ -19,13 +20,13 @@ mod mistake;
 mod report;
 mod run_error;
 
-use capture::capture_live;
-use closable::Closable;
+use capture::{Counter, capture_live};
+use closable::{Closable, Output};
 use driver::Query;
 use help::{SHORT, VERSION, help_on};
-use images::print_images;
+use images::{ImageQuery, print_images};
 use ipmi_command_line::{
-    Action, DEFAULT_PART, Format, Limits, LiveTool, Request, Source, Task, UsageError, UsageFault,
+    Action, DEFAULT_PART, Format, Limits, LiveTool, Request, Source, UsageError, UsageFault,
     Word, Words, request_of,
 };
 use ipmi_commands::{RequestLimits, report};
@@ -33,7 +34,7 @@ use ipmi_output::Part::{self, Escaped, Number, Text};
 use ipmi_output::{Failure, MessageSink, Written, write_message};
 use ipmi_program::read_words;
 use labels::wrong_label;
-use live::{Live, print_live};
+use live::{Live, controller_of, print_live};
 use mistake::maybe_unquoted;
 use report::Settings;
 use run_error::{CLOSED, INCOMPLETE};
@@ -136,13 +137,7 @@ fn run<E: MessageSink>(rt: &HostRuntime, request: Request, err: &mut E) -> Resul
         }
         Action::Rewrite => {
             let settings = settings_of(limits, format, strict);
-            run_query(
-                rt,
-                &Query::Print(Task::Rewrite, None),
-                &source,
-                &settings,
-                err,
-            )
+            run_rewrite(rt, &source, &settings, err)
         }
     }
 }
@@ -178,9 +173,11 @@ fn run_query<E: MessageSink>(
         return Ok(refuse(&line, err));
     }
     let status = match source {
-        Source::Images(images) => print_from(rt, query, images.as_slice(), None, settings, err)?,
+        Source::Images(images) => {
+            run_images(rt, ImageQuery::Print(query), images.as_slice(), settings, err)?
+        }
         Source::Live(tool, folder) => match live_of(rt, *tool, folder.as_str(), err)? {
-            Some(live) => print_from(rt, query, &[], Some(live), settings, err)?,
+            Some(live) => run_live(rt, query, live, settings, err)?,
             None => return Ok(USAGE),
         },
     };
@@ -188,6 +185,21 @@ fn run_query<E: MessageSink>(
         advise(rt, status, names.as_slice(), err);
     }
     Ok(status)
+}
+
+/// Prints each image in its canonical spelling.
+fn run_rewrite<E: MessageSink>(
+    rt: &HostRuntime,
+    source: &Source,
+    settings: &Settings,
+    err: &mut E,
+) -> Result<u8, AllocError> {
+    match source {
+        Source::Images(images) => {
+            run_images(rt, ImageQuery::Rewrite, images.as_slice(), settings, err)
+        }
+        Source::Live(..) => Ok(refuse(&[Text("'image rewrite' needs an image")], err)),
+    }
 }
 
 /// Says, after a run that lacks something, that the words may be one name.
@@ -243,29 +255,68 @@ fn run_capture<E: MessageSink>(
     };
     let is_shown = !quiet && rt.stderr().is_terminal();
     let terminal = if is_shown { Some(rt.stderr()) } else { None };
-    capture_live(
+    let mut counter = Counter::new(terminal);
+    let mut controller = controller_of(rt, live);
+    let mut out = buffered_output(rt)?;
+    let status = capture_live(
         rt,
+        &mut controller,
         limits_of(*limits),
-        live,
         output,
-        terminal,
-        &mut io::writer(rt),
+        &mut counter,
+        &mut out,
         err,
-    )
+    );
+    discard(out);
+    status
 }
 
-/// Prints what a query asks for from these images, or from the live controller if there is one, with buffered output.
-fn print_from<E: MessageSink>(
+/// Standard output, buffered.
+fn buffered_output(rt: &HostRuntime) -> Result<Output<io::Printer<'_, HostRuntime>>, AllocError> {
+    let writer = Closable::new(io::writer(rt));
+    Ok(Written::new(BufWriter::new(rt.alloc(), writer).or(Err(AllocError))?))
+}
+
+/// Ends the output: bytes left by a failed flush are not written again.
+fn discard<W: Write + Drop>(out: Output<W>) {
+    let _ = out.into_inner().into_parts();
+}
+
+/// Prints what is asked for from the live controller, with buffered output.
+fn run_live<E: MessageSink>(
     rt: &HostRuntime,
     query: &Query,
-    images: &[Word],
-    live: Option<Live<'_>>,
+    live: Live<'_>,
     settings: &Settings,
     err: &mut E,
 ) -> Result<u8, AllocError>
     requires { IsQuery query.now }
 {
-    if live.is_none() && images.is_empty() && rt.stdin().is_terminal() {
+    let mut controller = controller_of(rt, live);
+    let mut out = buffered_output(rt)?;
+    let (status, _) = print_live(
+        rt.alloc(),
+        settings,
+        query,
+        &mut controller,
+        &mut out,
+        err,
+    );
+    discard(out);
+    Ok(status)
+}
+
+/// Prints what is asked for from these images, with buffered output.
+fn run_images<E: MessageSink>(
+    rt: &HostRuntime,
+    query: ImageQuery<'_>,
+    images: &[Word],
+    settings: &Settings,
+    err: &mut E,
+) -> Result<u8, AllocError>
+    requires { IsImageQuery query }
+{
+    if images.is_empty() && rt.stdin().is_terminal() {
         // otherwise it would wait for an image in silence
         let _ = write_message(
             err,
@@ -274,14 +325,9 @@ fn print_from<E: MessageSink>(
             )],
         );
     }
-    let writer = Closable::new(io::writer(rt));
-    let mut out = Written::new(BufWriter::new(rt.alloc(), writer).or(Err(AllocError))?);
-    let (status, _) = match live {
-        Some(live) => print_live(rt, settings, query, live, &mut out, err),
-        None => print_images(rt, settings, query, images, &mut out, err),
-    };
-    // bytes left by a failed flush are not written again
-    let _ = out.into_inner().into_parts();
+    let mut out = buffered_output(rt)?;
+    let (status, _) = print_images(rt, settings, query, images, &mut out, err);
+    discard(out);
     Ok(status)
 }
 

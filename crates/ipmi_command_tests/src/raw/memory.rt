@@ -9,7 +9,7 @@ use crate::raw::message::read_message;
 use crate::raw::printed::print_reply;
 use ipmi_bus::Controller;
 use ipmi_image::{Image, ImageController};
-use ipmi_raw::{Lost, Peer, RawController, ReplyText, Tool};
+use ipmi_raw::{Lost, Peer, RawController, ReplyText, Request, Tool};
 use std::time::{Clock, Duration};
 
 /// A tool over an image. It reads the text of each request, and prints the text of the reply.
@@ -38,18 +38,19 @@ impl Peer for MemoryPeer {
 
     ghost tool = { λ peer. peer.tool };
 
-    ghost brings = { λ old new lun request came reply. ⊤ };
+    ghost brings = { λ old new request came reply. ⊤ };
 
     fn tool(&self) -> Tool {
         self.tool
     }
 
-    fn exchange(&mut self, lun: u8, request: &[u8], reply: &mut ReplyText) -> Result<(), Lost> {
+    fn exchange(&mut self, request: Request, reply: &mut ReplyText) -> Result<(), Lost> {
         reply.clear();
-        let Some(message) = read_message(self.tool, request) else {
+        let text = self.tool.request_text(request);
+        let Some(message) = read_message(self.tool, text.as_slice()) else {
             return Err(Lost);
         };
-        let Some(asked) = asked_by(lun, message.as_slice()) else {
+        let Some(asked) = asked_by(request.lun(), message.as_slice()) else {
             return Err(Lost);
         };
         let answer = answer(&mut self.ctl, asked);
