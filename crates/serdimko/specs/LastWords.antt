@@ -1,5 +1,5 @@
 -- What the tool of a lost connection said last, on a line.
-use Rattle.std.specs.Prelude.{◌≡◌, ℕ, codes, filter, IfSome, length, List, [], ◌∷◌, map, nat_lt, None, Option, Some, String, string_bytes, take}
+use Rattle.std.specs.Prelude.{◌≡◌, ◌==◌, ℕ, codes, filter, IfSome, length, List, [], ◌∷◌, map, None, not, Option, Some, String, string_bytes, take}
 use Rattle.std.specs.List.{join_by}
 use Rattle.std.specs.Str.{trim}
 use Rattle.std.specs.Str.Lines.{lines}
@@ -8,7 +8,7 @@ use Rattle.std.specs.declared.alloc.Global.{Global}
 
 -- the first three lines that are not blank
 abbrev pub said_lines : List ℕ → List (List ℕ)
-said_lines text = take 3 (filter (λ line. nat_lt 0 (length line)) (map trim (lines text)))
+said_lines text = take 3 (filter (λ line. not (length line == 0)) (map trim (lines text)))
 
 abbrev pub on_a_line : List (List ℕ) → List ℕ
 on_a_line [] = codes "the tool said nothing"

@@ -1,18 +1,11 @@
 -- What is printed of a live controller, and its tools.
 use Rattle.std.specs.Prelude.{◌≡◌, ◌⊎◌, ◌++◌, ℕ, Bool, true, codes, decimal, List, None}
-use Rattle.ipmi_bus.specs.Prelude.{zero_counts}
-use Rattle.ipmi_bus.specs.Unclaimed.{calls_only}
 use Rattle.ipmi_command_line.specs.declared.request.LiveTool.{LiveTool}
 use Rattle.ipmi_output.specs.Received.{Received}
 use Rattle.ipmi_output.specs.declared.failure.Failure.{Failure}
-use Rattle.ipmi_raw.specs.Controller.{last_words, seen_of}
-use Rattle.ipmi_raw.specs.Handed.{OnlyRequests}
-use Rattle.ipmi_raw.specs.declared.controller.RawController.{RawController}
-use Rattle.ipmi_raw.specs.declared.piped.Open.{Ghosts}
-use Rattle.ipmi_raw.specs.declared.piped.Piped.{Piped}
 use Rattle.ipmi_raw.specs.declared.tool.Tool.{Tool}
 use Rattle.serdimko.specs.Images.{IsReport, ReportsError}
-use Rattle.serdimko.specs.Out.{Out, State, state}
+use Rattle.serdimko.specs.Out.{State}
 use Rattle.serdimko.specs.Printing.{PrintsQuery}
 use Rattle.serdimko.specs.declared.driver.Query.{Query}
 use Rattle.serdimko.specs.declared.report.Report.{Report}
@@ -25,15 +18,6 @@ tool_of LiveTool.FreeIpmi = Tool.FreeIpmi
 
 abbrev pub pipe_name : List ℕ → List ℕ → ℕ → List ℕ
 pipe_name folder stream lun = folder ++ (codes "/" ++ (stream ++ (codes "." ++ decimal lun)))
-
--- ---- what is printed
-
--- all that tools were handed are requests
-abbrev pub HandsOnlyRequests : {O K : Type 0} {open : Ghosts O} → RawController (Piped O open) K → Type 0
-HandsOnlyRequests {open = open} raw = ∥ OnlyRequests open.opens raw.peer.tool raw.peer.is_lost raw.peer.units ∥₁
-
-abbrev pub live_state : {O K : Type 0} {open : Ghosts O} → RawController (Piped O open) K → Out → State
-live_state raw out = state (seen_of (λ piped. calls_only zero_counts) raw) (last_words raw) out
 
 -- memory for the labels ran out; or the query runs over the controller, whatever that holds
 abbrev pub PrintsLive : Settings → Query → State → State → Received → Received → ℕ × Bool → Type 0

@@ -7,8 +7,8 @@ ghost use Rattle.ipmi_image.specs.Rewritten.{image_text_of};
 ghost use Rattle.ipmi_output.specs.Failure.{escaped_name, line_text};
 ghost use Rattle.ipmi_output.specs.Received.{ReceivesText};
 ghost use Rattle.ipmi_raw.specs.Controller.{last_words, seen_of};
+ghost use Rattle.ipmi_raw.specs.Handed.{OnlyRequests};
 ghost use Rattle.serdimko.specs.Captured.{Captures, EndsUnwritten, printed_text, PrintsText, SavesImage, SavesText, SaysLines, SaysLost, status_of_image, WritesText};
-ghost use Rattle.serdimko.specs.Live.{HandsOnlyRequests};
 ghost use Rattle.serdimko.specs.Out.{out_of};
 
 use crate::closable::{Output, is_closed};
@@ -22,7 +22,7 @@ use ipmi_commands::RequestLimits;
 use ipmi_image::image_text;
 use ipmi_output::Part::{Escaped, Text};
 use ipmi_output::{Failure, MessageSink, write_failure, write_message};
-use ipmi_raw::{Open, Piped, RawController};
+use ipmi_raw::{Open, Peer, Piped, RawController};
 use std::alloc::{AllocError, Global};
 use std::fs::{self, File, Files};
 use std::io::{self, Write};
@@ -277,7 +277,7 @@ pub(crate) fn capture_live<
         (seen_of ⟦<Piped<O> as Peer>⟧.seen controller.old) (seen_of ⟦<Piped<O> as Peer>⟧.seen controller.new)
         (last_words controller.new) (option_map (λ word. word.now) output.entry)
         (out_of out.old) (out_of out.new) (E.received err.old) (E.received err.new)) }
-    ensures requests { HandsOnlyRequests controller.new }
+    ensures requests { ∥ OnlyRequests O.opens controller.new.peer.tool controller.new.peer.is_lost controller.new.peer.units ∥₁ }
 {
     let captured = capture(
         rt.alloc(),

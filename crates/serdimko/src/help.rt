@@ -27,15 +27,16 @@ const AFTER_COMMANDS: &str = "
 Options, anywhere, also after the command:
   --image FILE    the image is in this file; - or no option: standard input;
                   several: one after another, texts after a line '== FILE'
-  --live TOOL:DIR a live controller; serdimko-live gives this option
-  --from HEX4     start at this record id (sdr list, elist, hex, get; sensor;
-                  sel list, elist)
+  --live TOOL:FOLDER  a live controller; serdimko-live gives this option
+  --from HEX4     start at this record id, not 0000 or FFFF (sdr list, elist,
+                  hex, get; sensor; sel list, elist)
   --part N        ask for at most N bytes at once, 1 to 254 (default 32)
   --tries N       retries for one record or answer, 0 to 255 (default 5)
   --id HEX        the ID of sel get in hex, as sel list prints it
   --strict        status 1 if a fault or a missing device was printed
   --json          an object in a line for each thing, and one at the end
-  --label KEY=VALUE  adds this text to each object; may come several times
+  --label KEY=VALUE  with --json, adds this text to each object; may come
+                  several times
   --output FILE   capture writes to this file (-o) if the image is whole
   --quiet         capture shows no progress
   -h, --help      print help
@@ -50,7 +51,8 @@ Examples:
   serdimko-live -I lanplus -H HOST -U USER -E -- capture -o server.image
 
 Exit status: 0 all was printed; 1 something is missing, or faulty (--strict);
-2 the command line; 3 the image; 4 a write failed; 5 memory ran out.
+2 the command line; 3 the image; 4 a write failed; 5 memory ran out;
+141 the reader of the output closed it.
 ";
 
 const SDR: &str = "Prints sensor data records.

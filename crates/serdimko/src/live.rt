@@ -1,11 +1,12 @@
 //! Prints what a command asks for from a live controller. A stock tool holds a session with it, and pipes in a folder lead to the tool.
 ghost use Rattle.std.specs.Prelude.{◌≡◌, ◌*◌, None, IfOk, map, string_bytes};
-ghost use Rattle.core.specs.Time.{as_nanos};
-ghost use Rattle.ipmi_raw.specs.Controller.{last_words};
+ghost use Rattle.std.specs.Duration.{as_nanos};
+ghost use Rattle.ipmi_raw.specs.Controller.{last_words, seen_of};
+ghost use Rattle.ipmi_raw.specs.Handed.{OnlyRequests};
 ghost use Rattle.ipmi_raw.specs.Piped.{no_units};
 ghost use Rattle.serdimko.specs.LastWords.{lost_text, said_lines};
-ghost use Rattle.serdimko.specs.Live.{HandsOnlyRequests, live_state, pipe_name, PrintsLive, tool_of};
-ghost use Rattle.serdimko.specs.Out.{out_of};
+ghost use Rattle.serdimko.specs.Live.{pipe_name, PrintsLive, tool_of};
+ghost use Rattle.serdimko.specs.Out.{out_of, state};
 ghost use Rattle.serdimko.specs.Settings.{IsQuery};
 
 use crate::closable::Output;
@@ -105,14 +106,11 @@ impl<'a, R: Files + AllocGlobal> Open for Pipes<'a, R> {
 fn said_lines<'a>(alloc: Global, text: &'a str) -> Result<Vec<&'a str>, AllocError>
     ensures { IfOk result (λ lines. map (λ line. line.now) lines.items ≡ said_lines text.entry.now) }
 {
-    let mut lines = Vec::new(alloc);
-    for line in text.lines() {
-        let line = line.trim();
-        if !line.is_empty() && lines.len() < MOST_LINES {
-            lines.push(line)?;
-        }
-    }
-    Ok(lines)
+    text.lines()
+        .map(|line| line.trim())
+        .filter(|line| !line.is_empty())
+        .take(MOST_LINES)
+        .collect(alloc)
 }
 
 /// The last output of the tool, on one line, cut off if it is long.
@@ -122,7 +120,7 @@ pub(crate) fn lost_line(alloc: Global, text: &[u8]) -> Result<String, AllocError
     let text = String::from_utf8_lossy(alloc, text.get(..MOST_TOLD).unwrap_or(text))?;
     let lines = said_lines(alloc, text.as_str())?;
     if lines.is_empty() {
-        return String::from(alloc, "the tool said nothing");
+        return String::from_str(alloc, "the tool said nothing");
     }
     lines.as_slice().join(alloc, "; ")
 }
@@ -141,8 +139,8 @@ pub(crate) fn controller_of<'a, R: Files + Clock + AllocGlobal>(
     live: Live<'a>,
 ) -> RawController<Piped<Pipes<'a, R>>, &'a R>
     ensures lost { last_words result ≡ None }
-    ensures tool { result.peer.tool ≡ live.tool }
-    ensures folder { result.peer.opener.folder.now ≡ live.folder.now }
+    ensures tool { result.peer.tool ≡ live.entry.tool }
+    ensures folder { result.peer.opener.folder.now ≡ live.entry.folder.now }
     ensures units { result.peer.units ≡ no_units }
     ensures pause { as_nanos result.pause ≡ PAUSE * 1_000_000 }
 {
@@ -166,9 +164,10 @@ pub(crate) fn print_live<O: Open + Drop, K: Clock + Drop, W: Write + Drop, E: Me
 ) -> (u8, bool)
     requires { IsQuery query.now }
     ensures prints { PrintsLive settings.now query.now
-        (live_state controller.old (out_of out.old)) (live_state controller.new (out_of out.new))
+        (state (seen_of ⟦<Piped<O> as Peer>⟧.seen controller.old) (last_words controller.old) (out_of out.old))
+        (state (seen_of ⟦<Piped<O> as Peer>⟧.seen controller.new) (last_words controller.new) (out_of out.new))
         (E.received err.old) (E.received err.new) result }
-    ensures requests { HandsOnlyRequests controller.new }
+    ensures requests { ∥ OnlyRequests O.opens controller.new.peer.tool controller.new.peer.is_lost controller.new.peer.units ∥₁ }
 {
     let Ok(labels) = labels_of(alloc, settings.labels(), None) else {
         let report = settings.report(&[], NAME, true);

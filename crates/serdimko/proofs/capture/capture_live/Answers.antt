@@ -1,5 +1,18 @@
-use Rattle.serdimko.proofs.CapturedLemmas.{captured, captures_of_any}
+use Rattle.serdimko.proofs.CapturedLemmas.{captured}
 use Rattle.serdimko.proofs.capture.capture_live.Goals as goal
 
 pub returns : goal.returns
-returns g c = captured c.capture_from-saved.result c.capture_from-saved.ensures (λ status captures. (_, _, _, captures_of_any captures))
+returns g c = captured c.report_captured-status.result c.report_captured-status.ensures (λ status saves. record {
+  image = c.in_ok-captured.captured.image;
+  left = c.in_ok-captured.captured.left.items;
+  calls = rw c.tries.ensures at c.capture.ensures.calls;
+  asked = rw c.part.ensures.value at c.capture.ensures.asked;
+  lacks = c.in_ok-captured.ensures.lacks;
+  stays = c.capture.ensures.stays;
+  counts = rw c.tries.ensures at c.in_ok-captured.ensures.counts;
+  but = c.in_ok-captured.ensures.honest;
+  all = c.in_ok-captured.ensures.all;
+  told = c.in_ok-captured.ensures.told;
+  plain = c.in_ok-captured.ensures.plain;
+  saves = rw c.lost.ensures at saves;
+})

@@ -1,17 +1,14 @@
 use Rattle.std.proofs.Common.{inl, inr, refl}
 use Rattle.serdimko.proofs.live.print_live.Goals as goal
 
-pub returns-in_default : goal.returns-in_default
-returns-in_default g c =
+pub returns-in_default-clause-prints : goal.returns-in_default-clause-prints
+returns-in_default-clause-prints g c =
     inl (refl, (rw (c.report-report.ensures.name, c.report-report.ensures.input) at c.tell.ensures.tells, c.tell.ensures.open))
 
-pub returns : goal.returns
-returns g c =
+pub returns-clause-prints : goal.returns-clause-prints
+returns-clause-prints g c =
     inr (
       c.report-report-2.result,
-      _,
-      _,
-      _,
       record {
         labels = c.as_slice.result;
         labels_are = rw c.as_slice.ensures.value (rw c.labels.ensures at c.in-Ok.ensures);
@@ -20,5 +17,5 @@ returns g c =
         name_is = c.report-report-2.ensures.name;
         input = c.report-report-2.ensures.input;
       },
-      rw c.controller_of-controller.ensures at c.print_query.ensures,
+      c.print_query.ensures,
     )
