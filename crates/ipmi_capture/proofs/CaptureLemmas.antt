@@ -8,8 +8,8 @@ use Rattle.ipmi_capture.specs.Below.{Cycle, CycleAt, MissingAt, Ended, EndsBy, F
 use Rattle.ipmi_capture.specs.Capture.{devices_of, HasWalk, InventoryOrLeft, IsCaptureBut, IsCaptureOf, NoneOrSame, OwnInventories, OwnReadings, ReadingOrLeft, SameWalk, sensors_of, WalkOrLeft}
 use Rattle.ipmi_capture.specs.Named.{AreMarks, IsSensorKey, Names, sensor_place}
 use Rattle.ipmi_capture.specs.Meanwhile.{IsTrueWhile}
-use Rattle.ipmi_capture.specs.Phases.{Adds, AreRowsOf, AreWalk, CameOf, Captures, HasInventories, HasReadings, IsUnkept, IsUnread, NoneIsFaulty, PlainEnds, Walks, WalksWhile}
-use Rattle.ipmi_capture.specs.Left.{EndIsNoted, IsLeftOut, NotesEnd, LacksInfo, LacksInventory, LacksReading, LacksRecords, leaves_nothing, PlainLeaves, SameOrLeft}
+use Rattle.ipmi_capture.specs.Phases.{Adds, AreRowsOf, AreWalk, CameOf, Captures, HasInventories, HasReadings, IsEndOf, IsUnkept, IsUnread, NoneIsFaulty, PlainEnds, Walks, WalksWhile}
+use Rattle.ipmi_capture.specs.Left.{EndIsNoted, EndsAs, IsLeftOut, NotesEnd, LacksInfo, LacksInventory, LacksReading, LacksRecords, leaves_nothing, PlainLeaves, SameOrLeft}
 use Rattle.ipmi_capture.specs.declared.left.Left.{Left}
 use Rattle.std.specs.List.{Any, list_all}
 use Rattle.std.proofs.lemmas.List.Elements.{All-append, All-cons, All-nil}
@@ -181,7 +181,7 @@ captures_walk {s = s} {s' = s'} shelf rows ended stays walks meanwhile = record 
       (fine ended (walks.plain p) (λ walk end is ends. walks.along (stays.plain_store p) walk end is ends)) (All-nil (PlainLeaves s.store));
 }
   where
-    told : (e : Ended) → NoneIsFaulty shelf s s' (Some e) → WalksWhile shelf s s' rows (Some e) → IsTrueWhile s s' (Left.Records shelf e)
+    told : (e : Ended) → NoneIsFaulty (Some e) → WalksWhile shelf s s' rows (Some e) → IsTrueWhile s s' (Left.Records shelf e)
     told (Cycle n) none came = record {
       kept = λ keeps walk end is ends. (came.kept keeps walk end is ends).1;
       not_grown = λ grown. (came.along grown.0 grown.1 grown.2).2.1;
@@ -327,7 +327,12 @@ assemble left store i0 i1 i2 i3 i4 i5 i6 e1 e2 e3 e4 e5 e6 is_image is_store sen
     (named_inventories (InventoryOrLeft left i6 store) devices (devices_of i6.sdr) named.ids named.devices_are facts.1.named (inl (neither i6 store is_image is_store)))
     has.own facts.1.own
 
--- ---- an item left out is not in the image
+-- ---- an item left out is not in the image, and the rows of a shelf end as is noted
+
+out_end : (shelf : Shelf) (rows : List Row) (image : Store) (l : Left) → IsEndOf shelf rows l → rows_of shelf image ≡ rows
+    → IsLeftOut image l
+out_end shelf rows image l out same =
+    subst (IsLeftOut image) (sym out.is) (subst (λ (r : List Row). EndsAs shelf r out.ended) (sym same) out.ends)
 
 out_info : (shelf : Shelf) (image : Store) (l : Left) → LacksInfo shelf l
     → info_of shelf image ≡ None → IsLeftOut image l
@@ -366,20 +371,22 @@ module _ (image : Store) where
       let more = adds_weaker P (IsLeftOut image) out adds in
       rw more.grows (All-append (IsLeftOut image) left more.more all more.all)
 
-  pub left_out : {l0 l1 l2 l3 l4 l5 l6 : List Left} (i3 i4 i5 : Store)
-      → i4 ≡ with_info Sel (info_of Sel i4) i3 → i5 ≡ record i4 { readings = i5.readings }
+  pub left_out : {l0 l1 l2 l3 l4 l5 l6 : List Left} (i1 i2 i3 i4 i5 : Store)
+      → i2 ≡ with_rows Sel (rows_of Sel i2) i1 → i3 ≡ with_info Sdr (info_of Sdr i3) i2 → i4 ≡ with_info Sel (info_of Sel i4) i3 → i5 ≡ record i4 { readings = i5.readings }
       → image ≡ record i5 { inventories = image.inventories } → l0 ≡ []
-      → Adds (λ l. (i : Store) → IsLeftOut i l) l0 l1 → Adds (λ l. (i : Store) → IsLeftOut i l) l1 l2
+      → Adds (IsEndOf Sdr (rows_of Sdr i1)) l0 l1 → Adds (IsEndOf Sel (rows_of Sel i2)) l1 l2
       → Adds (λ l. LacksInfo Sdr l × (info_of Sdr i3 ≡ None)) l2 l3
       → Adds (λ l. LacksInfo Sel l × (info_of Sel i4 ≡ None)) l3 l4
       → Adds (IsUnread i5) l4 l5 → Adds (IsUnkept image) l5 l6 → All (IsLeftOut image) l6
-  left_out {l0 = l0} i3 i4 i5 e4 e5 e6 empty a b c d e f =
+  left_out {l0 = l0} i1 i2 i3 i4 i5 e2 e3 e4 e5 e6 empty a b c d e f =
+      let sel : rows_of Sel image ≡ rows_of Sel i2 = ap (λ (x : Store). x.sel) e6 ∙ ap (λ (x : Store). x.sel) e5 ∙ ap (λ (x : Store). x.sel) e4 ∙ ap (λ (x : Store). x.sel) e3 in
+      let sdr : rows_of Sdr image ≡ rows_of Sdr i1 = ap (λ (x : Store). x.sdr) e6 ∙ ap (λ (x : Store). x.sdr) e5 ∙ ap (λ (x : Store). x.sdr) e4 ∙ ap (λ (x : Store). x.sdr) e3 ∙ ap (λ (x : Store). x.sdr) e2 in
       let sdr_info : image.sdr_info ≡ i3.sdr_info = ap (λ (x : Store). x.sdr_info) e6 ∙ ap (λ (x : Store). x.sdr_info) e5 ∙ ap (λ (x : Store). x.sdr_info) e4 in
       let sel_info : image.sel_info ≡ i4.sel_info = ap (λ (x : Store). x.sel_info) e6 ∙ ap (λ (x : Store). x.sel_info) e5 in
       let readings : image.readings ≡ i5.readings = ap (λ (x : Store). x.readings) e6 in
       let none : All (IsLeftOut image) l0 = rw empty (All-nil (IsLeftOut image)) in
-      let one = out_more (λ l. (i : Store) → IsLeftOut i l) (λ l out. out image) none a in
-      let two = out_more (λ l. (i : Store) → IsLeftOut i l) (λ l out. out image) one b in
+      let one = out_more (IsEndOf Sdr (rows_of Sdr i1)) (λ l out. out_end Sdr (rows_of Sdr i1) image l out sdr) none a in
+      let two = out_more (IsEndOf Sel (rows_of Sel i2)) (λ l out. out_end Sel (rows_of Sel i2) image l out sel) one b in
       let three = out_more (λ l. LacksInfo Sdr l × (info_of Sdr i3 ≡ None)) (λ l out. out_info Sdr image l out.0 (sdr_info ∙ out.1)) two c in
       let four = out_more (λ l. LacksInfo Sel l × (info_of Sel i4 ≡ None)) (λ l out. out_info Sel image l out.0 (sel_info ∙ out.1)) three d in
       let five = out_more (IsUnread i5) (λ l out. out_reading out.key.0 out.key.1 image l out.lacks (ap (λ (list : List SensorReading). reading_in list out.key.0 out.key.1) readings ∙ out.none)) four e in

@@ -1,5 +1,7 @@
+pub mod AccountedLemmas
 pub mod CaptureLemmas
 pub mod CountLemmas
+pub mod EndLemmas
 pub mod FoundLemmas
 pub mod FromLemmas
 pub mod LawLemmas

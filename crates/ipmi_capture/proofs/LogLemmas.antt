@@ -1,14 +1,13 @@
 -- The steps of a cursor that reads a shelf while the store changes, and the rows that they returned.
-use Rattle.std.proofs.Common.{◌≡◌, ◌≢◌, inl, inr, ℕ, ◌==◌, Bool, true, false, Option, None, Some, Result, Ok, Err, List, [], ◌∷◌, ◌++◌, length, take, refl, sym, ap, subst, ◌∙◌, arith, append-nil}
-use Rattle.std.specs.FinSet as set
+use Rattle.std.proofs.Common.{◌≡◌, ℕ, ◌==◌, Bool, true, false, Option, None, Some, Result, Ok, Err, List, [], ◌∷◌, ◌++◌, length, take, refl, sym, ap, subst, ◌∙◌, arith, append-nil}
 use Rattle.std.proofs.lemmas.Bool.Decides.{nat_tests}
 use Rattle.std.proofs.lemmas.List.Elements.{All-append, All-cons, All-nil, All-weaker}
 use Rattle.ipmi_bus.proofs.GrowthLaws.{growth, Moment, moment}
 use Rattle.ipmi_bus.proofs.HeldLemmas.{held_at_last, keeps_second}
 use Rattle.ipmi_commands.specs.Traced.{IsTraced}
-use Rattle.ipmi_capture.specs.Below.{AllFollowOrStop, AreSteps, asked_at, Cycle, cursor_after, CursorState, End, Ended, First, FollowsOrStops, GaveUp, handed_out, has_id, IsHonest, IsLog, IsStep, look, Malformed, Missing, OnGrowing, OnlyGrew, place_after_rows, Refused, Row, row_with_id, rows_of, Seen, seen_after, Shelf, Stalled, StandsAt, Stepped, stays_refl, stays_trans, StaysHonest, StepAnswers, with_handed}
+use Rattle.ipmi_capture.specs.Below.{AllFollowOrStop, AreSteps, asked_at, Cycle, cursor_after, CursorState, End, Ended, First, FollowsOrStops, GaveUp, handed_out, IsHonest, IsLog, IsStep, look, Malformed, Missing, OnGrowing, OnlyGrew, Refused, Row, row_with_id, rows_of, Seen, seen_after, Shelf, Stalled, StandsAt, Stepped, stays_refl, stays_trans, StaysHonest, StepAnswers, with_handed}
 use Rattle.ipmi_capture.specs.Left.{LacksRecords}
-use Rattle.ipmi_capture.specs.Meanwhile.{OfHeld, OnlyGrewAsLog, OwnRows}
+use Rattle.ipmi_capture.specs.Meanwhile.{OfHeld, OwnRows}
 use Rattle.ipmi_capture.specs.Phases.{CameKept, CameOfLog, WalksWhile}
 use Rattle.ipmi_capture.specs.declared.left.Left.{Left}
 use Rattle.ipmi_capture.proofs.MeanwhileLemmas.{growing_second, kept_value, of_held_first, of_held_second}
@@ -98,18 +97,6 @@ own_second shelf a b c first then_ rows own =
     (λ row. OfHeld a c (λ store. row_with_id row.id (rows_of shelf store) ≡ Some row))
     (λ row held. of_held_second a b c first then_ (λ store is. is) held) rows own
 
--- the cursor returned exactly these rows, and is at the place after them
-pub record IsAfter (rows : List Row) (cursor : CursorState) : Type 0 where
-  pub ids : (n : ℕ) → set.contains cursor.ids n ≡ has_id rows n
-  pub place : cursor.place ≡ place_after_rows First rows
-
-pub is_after : (all walk rows : List Row) (cursor : CursorState) → rows ≡ take (length rows) walk
-    → StandsAt all First walk (length rows) cursor → cursor.place ≢ End → IsAfter rows cursor
-is_after all walk rows cursor are stands not_end = record {
-  ids = λ n. stands.ids n ∙ ap (λ (l : List Row). has_id l n) (sym are);
-  place = elim stands.place [ inl there ↦ there ∙ ap (place_after_rows First) (sym are) | inr ended ↦ absurd (not_end ended.0) ];
-}
-
 -- one more step
 module _ {shelf : Shelf} {s s' s'' : Seen} {now next : CursorState} {rows : List Row} {result : Result (Option Row) Ended}
     (h : IsHonest s) (before : StaysHonest s s') (w : WalkedWhile shelf s s' now rows) (step : IsStep now next s' s'' result) where
@@ -147,18 +134,6 @@ module _ {shelf : Shelf} {s s' s'' : Seen} {now next : CursorState} {rows : List
     without_last = moment w.begun s s'' First first h log (w.stands (rows_of w.begun.shelf s.store) first) w.steps w.traced.are
         (stays_trans (seen_after s w.steps) s' s'' w.traced.stays later) grew
 
-  -- before the end, the cursor is after the rows
-  pub after_grown : OnlyGrewAsLog shelf s s'' → now.place ≢ End → IsAfter rows now
-  after_grown grown not_end = by (subst (λ (x : Shelf). OnlyGrewAsLog x s s'') (sym w.of_shelf) grown)
-    where
-      by : OnlyGrewAsLog w.begun.shelf s s'' → IsAfter rows now
-      by grew =
-          let g = (growth w.begun s s'' First grew.0 h grew.1 (w.stands (rows_of w.begun.shelf s.store) grew.0) w.steps w.traced.are
-          (stays_trans (seen_after s w.steps) s' s'' w.traced.stays later) grew.2).0 in
-          let at = rw (w.traced.cursor, sym w.handed) at g.before_end in
-          let there = at not_end in
-          is_after _ g.now rows now there.0 there.1 not_end
-
   of_begun : (ended : Option Ended) → CameKept shelf s s'' rows ended
       → OnGrowing w.begun.shelf First s s'' (λ log. CameOfLog w.begun.shelf log rows ended) → WalksWhile shelf s s'' rows ended
   of_begun ended kept along = record {
@@ -192,10 +167,6 @@ module _ {shelf : Shelf} {s s' s'' : Seen} {now next : CursorState} {rows : List
       lacks (Missing n) none = absurd none
       lacks (Stalled n) none = absurd none
       lacks (Malformed n) none = absurd none
-
-  -- the record may not follow the others
-  pub while_malformed : (n : ℕ) → CameKept shelf s s'' rows (Some (Malformed n)) → WalksWhile shelf s s'' rows (Some (Malformed n))
-  while_malformed n kept = first_ones (Malformed n) kept (λ first log grew. refl)
 
   -- the record is put after the others
   pub while_more : {row : Row} → now.shelf ≡ shelf → result ≡ Ok (Some row) → WalkedWhile shelf s s'' next (rows ++ row ∷ [])

@@ -1,5 +1,5 @@
 -- What holds over a part of a capture, while the store changes, holds over all of it.
-use Rattle.std.proofs.Common.{◌≡◌, List, [], ◌∷◌, All, Option, None, Some, IsSome, true≢false, sym, ap, ◌∙◌, ◌⊎◌, inl, inr}
+use Rattle.std.proofs.Common.{◌≡◌, List, [], ◌∷◌, All, Option, None, Some, IsSome, true≢false, sym, ap, ◌∙◌, inl, inr}
 use Rattle.std.proofs.lemmas.List.Elements.{All-weaker}
 use Rattle.ipmi_bus.proofs.HeldLemmas.{begins_trans, grew_first, grew_second, grows_over, held_in_first, held_in_second, keeps_first, keeps_same, keeps_second}
 use Rattle.ipmi_capture.specs.Below.{AllGive, Cycle, CycleAt, FruEnded, First, GaveUp, inventory_of, Keeps, Malformed, Missing, MissingAt, OnGrowing, Place, Refused, Row, rows_of, Seen, Shelf, Stalled, StaysHonest, Store, WalkEnd, WasHeld}
@@ -55,16 +55,6 @@ module _ (a b c : Seen) (first : StaysHonest a b) (then_ : StaysHonest b c) wher
       let now = grows_over shelf First a b first.store (grew_first shelf First a b c first.store then_.store grown.2) grown.0 grown.1.walks grown.1.ends in
       (now.0, record { walks = now.2; ends = now.3 }, grew_second shelf First a b c first.store then_.store grown.2)
 
-  faulty_first : (shelf : Shelf) → (Keeps (rows_of shelf) a b ⊎ OnlyGrewAsLog shelf a b → ⊥)
-      → Keeps (rows_of shelf) a c ⊎ OnlyGrewAsLog shelf a c → ⊥
-  faulty_first shelf none (inl keeps) = none (inl (keeps_first (rows_of shelf) a b c first.store then_.store keeps))
-  faulty_first shelf none (inr grown) = none (inr (log_first shelf grown))
-
-  pub faulty_second : (shelf : Shelf) → (Keeps (rows_of shelf) b c ⊎ OnlyGrewAsLog shelf b c → ⊥)
-      → Keeps (rows_of shelf) a c ⊎ OnlyGrewAsLog shelf a c → ⊥
-  faulty_second shelf none (inl keeps) = none (inl (keeps_second (rows_of shelf) a b c first.store then_.store keeps))
-  faulty_second shelf none (inr grown) = none (inr (log_second shelf grown))
-
   -- ---- what the items left out say
 
   ends_in_first : (shelf : Shelf) (by : WalkEnd) → EndsWhile shelf a b by → EndsWhile shelf a c by
@@ -79,7 +69,7 @@ module _ (a b c : Seen) (first : StaysHonest a b) (then_ : StaysHonest b c) wher
   true_in_first (Left.Records shelf (GaveUp n)) is = tt
   true_in_first (Left.Records shelf (Refused n code)) is = tt
   true_in_first (Left.Records shelf (Stalled n)) is = is
-  true_in_first (Left.Records shelf (Malformed n)) is = faulty_first shelf is
+  true_in_first (Left.Records shelf (Malformed n)) is = is
   true_in_first (Left.Info shelf unread) is = tt
   true_in_first (Left.Reading lun number unread) is = tt
   true_in_first (Left.Size id code) is = tt
@@ -108,7 +98,7 @@ module _ (a b c : Seen) (first : StaysHonest a b) (then_ : StaysHonest b c) wher
   true_in_second (Left.Records shelf (GaveUp n)) is = tt
   true_in_second (Left.Records shelf (Refused n code)) is = tt
   true_in_second (Left.Records shelf (Stalled n)) is = is
-  true_in_second (Left.Records shelf (Malformed n)) is = faulty_second shelf is
+  true_in_second (Left.Records shelf (Malformed n)) is = is
   true_in_second (Left.Info shelf unread) is = tt
   true_in_second (Left.Reading lun number unread) is = tt
   true_in_second (Left.Size id code) is = tt
@@ -150,7 +140,7 @@ module _ (s s' : Seen) (stays : StaysHonest s s') (same : s'.stores_added ≡ s.
   true_of_store (Left.Records shelf (GaveUp n)) is = tt
   true_of_store (Left.Records shelf (Refused n code)) is = tt
   true_of_store (Left.Records shelf (Stalled n)) is = is
-  true_of_store (Left.Records shelf (Malformed n)) is = is (inl (keeps_same (rows_of shelf) s s' stays.store same))
+  true_of_store (Left.Records shelf (Malformed n)) is = is
   true_of_store (Left.Info shelf unread) is = tt
   true_of_store (Left.Reading lun number unread) is = tt
   true_of_store (Left.Size id code) is = tt

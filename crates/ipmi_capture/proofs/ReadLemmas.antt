@@ -1,18 +1,22 @@
 -- Putting the readings of marked sensors and the inventories of marked devices into an image, one by one.
-use Rattle.std.proofs.Common.{◌≡◌, ℕ, ◌+◌, ◌*◌, ◌<◌, ◌≤◌, Bool, true, false, cond, IsTrue, ◌&&◌, ◌||◌, ◌==◌, nat_eq, Option, None, Some, Result, Ok, Err, IfOk, IfSome, IsSome, OnOk, MatchOption, List, [], ◌∷◌, ◌++◌, length, slice_index_or, ◌⊎◌, inl, inr, All, refl, sym, ap, subst, ◌∙◌, arith}
+use Rattle.std.proofs.Common.{◌≡◌, ◌≢◌, ℕ, ◌+◌, ◌*◌, ◌<◌, ◌≤◌, Vec, Bool, true, false, cond, IsTrue, ◌&&◌, ◌||◌, ◌==◌, nat_eq, Option, None, Some, Result, Ok, Err, IfErr, IfOk, IfSome, IsSome, OnOk, MatchOption, List, [], ◌∷◌, ◌++◌, length, slice_index_or, ◌⊎◌, inl, inr, All, refl, sym, ap, subst, ◌∙◌, arith}
+use Rattle.std.specs.Bool.{⊤}
 use Rattle.std.specs.declared.alloc.AllocError.{AllocError}
+use Rattle.std.specs.declared.alloc.Global.{Global}
+use Rattle.std.proofs.lemmas.Option.{none-some}
 use Rattle.std.specs.List.{Any}
 use Rattle.std.specs.Option.{option_or, option_to_list}
 use Rattle.std.proofs.lemmas.Bool.Decides.{nat_tests}
 use Rattle.std.proofs.lemmas.List.Elements.{All-append, All-cons, All-nil, All-weaker}
 use Rattle.std.proofs.lemmas.List.{append-nil, append_assoc, get_or-append-add, get_or_append_left, length-append}
 use Rattle.ipmi_bus.proofs.HeldLemmas.{held_at_last, held_in_first, keeps_first, keeps_same, keeps_second}
-use Rattle.ipmi_capture.specs.Below.{AsksAtMost, Cycle, Ended, GaveUp, Malformed, Missing, Refused, Stalled, IsHonest, Inventory, inventory_in, inventory_of, Reading, SensorReading, reading_in, reading_of, FruEnded, InventoryCounts, InventoryIs, Keeps, not_present, ReadsInventory, ReadsValue, Row, Seen, Shelf, stays_refl, stays_trans, StaysHonest, Store, with_inventory, with_reading, WalkEnd, WithinTries}
+use Rattle.ipmi_capture.specs.Accounted.{AtSome, IsAbsent, IsListedOrAbsent, IsReadingAccounted}
+use Rattle.ipmi_capture.specs.Below.{as_inventory, AsksAtMost, Cycle, Ended, GaveUp, Malformed, Missing, Refused, Stalled, IsHonest, Inventory, inventory_in, inventory_of, Reading, SensorReading, reading_in, reading_of, FruEnded, InventoryCounts, InventoryIs, Keeps, LastFruCallSays, not_present, ReadsInventory, ReadsValue, Row, Seen, Shelf, stays_refl, stays_trans, StaysHonest, Store, with_inventory, with_reading, WalkEnd, WithinTries}
 use Rattle.ipmi_capture.specs.Capture.{InventoryOrLeft, NoneOrSame, OwnInventories, OwnReadings, ReadingOrLeft}
 use Rattle.ipmi_capture.specs.Left.{AreCounted, CountsGrow, EndIsNoted, LacksInventory, LacksReading, LacksRecords, NotesEnd, PlainLeaves, SameOrLeft, unread_in, unread_of}
 use Rattle.ipmi_capture.specs.Meanwhile.{IsTrueWhile, OfHeld}
 use Rattle.ipmi_capture.specs.Named.{IsSensorKey, sensor_place}
-use Rattle.ipmi_capture.specs.Phases.{Adds, AreRowsOf, AreWalk, Captures, HasInventories, HasInventoriesWhile, HasInventory, HasRead, HasReadings, HasReadingsWhile, CutOffIsIn, IsLeftBy, IsNotPlain, IsRefusedAgain, IsUnkept, IsUnread, most_for_inventory}
+use Rattle.ipmi_capture.specs.Phases.{Adds, AreInventoriesAccounted, AreReadingsAccounted, AreRowsOf, AreWalk, Captures, HasInventories, HasInventoriesWhile, HasInventory, HasRead, HasReadings, HasReadingsWhile, CutOffIsIn, IsLeftAfter, IsLeftBy, IsNotPlain, IsRefusedAgain, IsUnkept, IsUnread, most_for_inventory, NoneIsLeft}
 use Rattle.ipmi_capture.specs.declared.left.Left.{Left}
 use Rattle.ipmi_capture.specs.declared.left.Unread.{Unread}
 use Rattle.ipmi_capture.proofs.CountLemmas.{counted_inventory, counted_nothing, counted_size, counted_then, counted_value, grown_none, grown_then, grown_within}
@@ -179,6 +183,27 @@ captures_then {S = S} {tries = tries} {s = s} {s' = s'} {s'' = s''} {left = left
       (subst (λ (x : Store). All (PlainLeaves x) left') (sym store) (first.plain p all)));
 }
 
+-- ---- over any controller: listed, or absent
+
+module _ {V : Type 0} (S : Seen → Type 0) (Lacks : Left → Type 0) (left other : List Left) (value : Option V) where
+  pub listed_more : IsListedOrAbsent S Lacks left value → IsListedOrAbsent S Lacks (left ++ other) value
+  listed_more is none = elim (is none) [ inl any ↦ inl (any_more Lacks left other any) | inr absent ↦ inr absent ]
+
+  pub listed_after : IsListedOrAbsent S Lacks other value → IsListedOrAbsent S Lacks (left ++ other) value
+  listed_after is none = elim (is none) [ inl any ↦ inl (any_after Lacks left other any) | inr absent ↦ inr absent ]
+
+module _ {V : Type 0} (S : Seen → Type 0) (Lacks : Left → Type 0) (value : Option V) where
+  -- one item was left out, or none
+  pub listed_one : (o : Option Left) → IfSome o (λ l. Lacks l × (value ≡ None))
+      → MatchOption o (value ≡ None → AtSome S IsAbsent) (λ l. ⊤) → IsListedOrAbsent S Lacks (option_to_list o) value
+  listed_one None lacks absent = λ none. inr (absent none)
+  listed_one (Some l) lacks absent = λ none. inl (any_of_one Lacks l lacks.0)
+
+pub absent_now : {V : Type 0} (S : Seen → Type 0) (value : Option V) (s : Seen) → S s → (o : Option Left)
+    → MatchOption o (value ≡ None → IsAbsent s) (λ l. ⊤) → MatchOption o (value ≡ None → AtSome S IsAbsent) (λ l. ⊤)
+absent_now S value s at None absent = λ none. (s, at, absent none)
+absent_now S value s at (Some l) absent = tt
+
 -- ---- readings
 
 -- `P` holds for each marked sensor before this place
@@ -243,6 +268,7 @@ pub record IsReading (S : Seen → Type 0) (place part tries : ℕ) (marks : Lis
   pub asked : AsksAtMost part s s'
   pub stays : IsHonest s → StaysHonest s s'
   pub lacks : Adds (UnreadTo place new) left left'
+  pub accounted : NamedTo place marks (IsReadingAccounted S left' new)
   pub read : IsHonest s → Captures S tries s s' left left' (ReadTo place marks left' new s.store)
   pub meanwhile : IsHonest s → ReadWhile place marks left' new s s'
 
@@ -256,6 +282,7 @@ reading_begun part tries marks s left image none = record {
   asked = omega arith;
   stays = λ h. stays_refl s h;
   lacks = adds_none (UnreadTo 0 image) left;
+  accounted = λ key is below. absurd (omega (arith, below));
   read = λ h. nothing_left left (grown_none s) (λ same. record {
     named = λ key is below. absurd (omega (arith, below));
     own = λ lun number. inl (ap (λ (l : List SensorReading). reading_in l lun number) none);
@@ -297,19 +324,26 @@ pub reading_lacks : {S : Seen → Type 0} {place part tries : ℕ} {marks : List
     → IsReading S place part tries marks s s' left left' old new → Adds (IsUnread new) left left'
 reading_lacks {place = place} {new = new} so = adds_weaker (UnreadTo place new) (IsUnread new) (λ l unread. unread.0) so.lacks
 
+pub readings_accounted : {S : Seen → Type 0} {place part tries : ℕ} {marks : List Bool} {s s' : Seen}
+    {left left' : List Left} {old new : Store}
+    → IsReading S place part tries marks s s' left left' old new → 1024 ≤ place
+    → AreReadingsAccounted S marks left' new
+readings_accounted so all = λ key is mark. so.accounted key is (omega (arith, all, is.lun, is.number)) mark
+
 -- the next place is not marked
 pub reading_skipped : {S : Seen → Type 0} {place part tries : ℕ} {marks : List Bool} {s s' : Seen}
     {left left' : List Left} {old new : Store}
     → IsReading S place part tries marks s s' left left' old new
     → slice_index_or marks place false ≡ false
     → IsReading S (place + 1) part tries marks s s' left left' old new
-reading_skipped {place = place} {marks = marks} {s = s} {s' = s'} {left' = left'} {new = new} so unmarked = record {
+reading_skipped {S = S} {place = place} {marks = marks} {s = s} {s' = s'} {left' = left'} {new = new} so unmarked = record {
   beside = so.beside;
   below = read_more place new.readings so.below;
   calls = omega (arith, so.calls);
   asked = so.asked;
   stays = so.stays;
   lacks = adds_weaker (UnreadTo place new) (UnreadTo (place + 1) new) (λ l unread. (unread.0, omega (arith, unread.1))) so.lacks;
+  accounted = named_skipped marks (IsReadingAccounted S left' new) unmarked so.accounted;
   read = λ h. record {
     more = (so.read h).more;
     grows = (so.read h).grows;
@@ -385,19 +419,25 @@ pub reading_read : {S : Seen → Type 0} {place part tries : ℕ} {marks : List 
     → sensor_place (lun, number) ≡ place → number < 256
     → HasRead lun number (reading_of lun number more) new more
     → IfSome lacks (λ l. LacksReading lun number l × (reading_of lun number more ≡ None))
+    → MatchOption lacks (reading_of lun number more ≡ None → AtSome S IsAbsent) (λ l. ⊤)
     → s''.calls ≤ s'.calls + (tries + 1) → AsksAtMost part s' s''
     → (IsHonest s' → StaysHonest s' s'')
     → (IsHonest s' → Captures S tries s' s'' [] (option_to_list lacks)
     (ReadingOrLeft (option_to_list lacks) more s'.store (lun, number)))
     → (IsHonest s' → OfHeld s' s'' (λ store. ReadingOrLeft (option_to_list lacks) more store (lun, number)))
     → IsReading S (place + 1) part tries marks s s'' left (left' ++ option_to_list lacks) old more
-reading_read {place = place} {marks = marks} {s = s} {s' = s'} {s'' = s''} {left' = left'} {old = old} {new = new} {more = more} lacks lun number so at fits has none calls asked stays read while_read = record {
+reading_read {S = S} {place = place} {marks = marks} {s = s} {s' = s'} {s'' = s''} {left' = left'} {old = old} {new = new} {more = more} lacks lun number so at fits has none absent calls asked stays read while_read = record {
   beside = read_beside lun number old new more (reading_of lun number more) has so.beside;
   below = rw at at (read_below lun number new more (reading_of lun number more) has (rw (sym at) at so.below));
   calls = omega (arith, so.calls, calls);
   asked = omega (arith, so.asked, asked);
   stays = λ h. stays_trans s s' s'' (so.stays h) (stays (so.stays h).honest);
   lacks = adds_then (UnreadTo place new) (UnreadTo (place + 1) more) lacks still so.lacks (here lacks none);
+  accounted = named_next marks lun number (IsReadingAccounted S left' new) (IsReadingAccounted S (left' ++ option_to_list lacks) more) at fits so.accounted
+      (λ key lt was. listed_more S (LacksReading key.0 key.1) left' (option_to_list lacks) (reading_of key.0 key.1 more)
+      (subst (IsListedOrAbsent S (LacksReading key.0 key.1) left') (sym (others_stay lun number new more (reading_of lun number more) has key (omega (arith, lt, at)))) was))
+      (listed_after S (LacksReading lun number) left' (option_to_list lacks) (reading_of lun number more)
+      (listed_one S (LacksReading lun number) (reading_of lun number more) lacks none absent));
   read = λ h.
       let before = so.stays h in
       captures_then before (stays before.honest) (so.read h)
@@ -497,6 +537,7 @@ pub record IsKeeping (S : Seen → Type 0) (to part tries : ℕ) (marks : List B
   pub asked : AsksAtMost part s s'
   pub stays : IsHonest s → StaysHonest s s'
   pub lacks : Adds (UnkeptTo to new) left left'
+  pub accounted : DevicesTo to marks (λ id. IsListedOrAbsent S (LacksInventory id) left' (inventory_of id new))
   pub read : IsHonest s → Captures S tries s s' left left' (KeptTo to marks left' new s.store)
   pub meanwhile : IsHonest s → KeptWhile to marks left' new s s'
 
@@ -510,6 +551,7 @@ keeping_begun part tries marks s left image none = record {
   asked = omega arith;
   stays = λ h. stays_refl s h;
   lacks = adds_none (UnkeptTo 0 image) left;
+  accounted = λ id below. absurd (omega (arith, below));
   read = λ h. nothing_left left (grown_none s) (λ same. record {
     named = λ id below. absurd (omega (arith, below));
     own = λ id. inl (ap (λ (l : List Inventory). inventory_in l id) none);
@@ -551,19 +593,26 @@ pub keeping_lacks : {S : Seen → Type 0} {to part tries : ℕ} {marks : List Bo
     → IsKeeping S to part tries marks s s' left left' old new → Adds (IsUnkept new) left left'
 keeping_lacks {to = to} {new = new} so = adds_weaker (UnkeptTo to new) (IsUnkept new) (λ l unkept. unkept.0) so.lacks
 
+pub inventories_accounted : {S : Seen → Type 0} {to part tries : ℕ} {marks : List Bool} {s s' : Seen}
+    {left left' : List Left} {old new : Store}
+    → IsKeeping S to part tries marks s s' left left' old new → 255 ≤ to
+    → AreInventoriesAccounted S marks left' new
+inventories_accounted so all = λ id below mark. so.accounted id (omega (arith, all, below)) mark
+
 -- the next device is not marked
 pub keeping_skipped : {S : Seen → Type 0} {to part tries : ℕ} {marks : List Bool} {s s' : Seen}
     {left left' : List Left} {old new : Store}
     → IsKeeping S to part tries marks s s' left left' old new
     → ((to == 0) || slice_index_or marks to false) ≡ false
     → IsKeeping S (to + 1) part tries marks s s' left left' old new
-keeping_skipped {to = to} {tries = tries} {marks = marks} {s = s} {s' = s'} {left' = left'} {new = new} so unmarked = record {
+keeping_skipped {S = S} {to = to} {tries = tries} {marks = marks} {s = s} {s' = s'} {left' = left'} {new = new} so unmarked = record {
   beside = so.beside;
   below = kept_more to new.inventories so.below;
   calls = omega (arith, so.calls);
   asked = so.asked;
   stays = so.stays;
   lacks = adds_weaker (UnkeptTo to new) (UnkeptTo (to + 1) new) (λ l unkept. (unkept.0, omega (arith, unkept.1))) so.lacks;
+  accounted = devices_skipped marks (λ id. IsListedOrAbsent S (LacksInventory id) left' (inventory_of id new)) unmarked so.accounted;
   read = λ h. record {
     more = (so.read h).more;
     grows = (so.read h).grows;
@@ -633,19 +682,26 @@ pub keeping_read : {S : Seen → Type 0} {part tries : ℕ} {marks : List Bool} 
     → IsKeeping S id part tries marks s s' left left' old new
     → HasInventory id (inventory_of id more) new more
     → IfSome lacks (λ l. LacksInventory id l × (inventory_of id more ≡ None))
+    → MatchOption lacks (inventory_of id more ≡ None → AtSome S IsAbsent × (s''.last_failure ≢ None)) (λ l. ⊤)
     → s''.calls ≤ s'.calls + most_for_inventory tries → AsksAtMost part s' s''
     → (IsHonest s' → StaysHonest s' s'')
     → (IsHonest s' → Captures S tries s' s'' [] (option_to_list lacks)
     (InventoryOrLeft (option_to_list lacks) more s'.store id))
     → (IsHonest s' → Keeps (inventory_of id) s' s'' → InventoryOrLeft (option_to_list lacks) more s'.store id)
     → IsKeeping S (id + 1) part tries marks s s'' left (left' ++ option_to_list lacks) old more
-keeping_read {tries = tries} {marks = marks} {s = s} {s' = s'} {s'' = s''} {left' = left'} {old = old} {new = new} {more = more} lacks id so has none calls asked stays read while_read = record {
+keeping_read {S = S} {tries = tries} {marks = marks} {s = s} {s' = s'} {s'' = s''} {left' = left'} {old = old} {new = new} {more = more} lacks id so has none absent calls asked stays read while_read = record {
   beside = kept_beside id old new more (inventory_of id more) has so.beside;
   below = kept_below id new more (inventory_of id more) has so.below;
   calls = let next : (id + 1) * most_for_inventory tries ≡ id * most_for_inventory tries + most_for_inventory tries = omega arith in omega (arith, so.calls, calls, next);
   asked = omega (arith, so.asked, asked);
   stays = λ h. stays_trans s s' s'' (so.stays h) (stays (so.stays h).honest);
   lacks = adds_then (UnkeptTo id new) (UnkeptTo (id + 1) more) lacks still so.lacks (here lacks none);
+  accounted = devices_next marks (λ other. IsListedOrAbsent S (LacksInventory other) left' (inventory_of other new))
+      (λ other. IsListedOrAbsent S (LacksInventory other) (left' ++ option_to_list lacks) (inventory_of other more)) so.accounted
+      (λ other lt was. listed_more S (LacksInventory other) left' (option_to_list lacks) (inventory_of other more)
+      (subst (IsListedOrAbsent S (LacksInventory other) left') (sym (others_kept id new more (inventory_of id more) has other lt)) was))
+      (listed_after S (LacksInventory id) left' (option_to_list lacks) (inventory_of id more)
+      (listed_one S (LacksInventory id) (inventory_of id more) lacks none (said lacks absent)));
   read = λ h.
       let before = so.stays h in
       captures_then before (stays before.honest) (so.read h)
@@ -685,6 +741,11 @@ keeping_read {tries = tries} {marks = marks} {s = s} {s' = s'} {s'' = s''} {left
       },
       omega (arith, unkept.1),
     )
+
+    said : (o : Option Left) → MatchOption o (inventory_of id more ≡ None → AtSome S IsAbsent × (s''.last_failure ≢ None)) (λ l. ⊤)
+        → MatchOption o (inventory_of id more ≡ None → AtSome S IsAbsent) (λ l. ⊤)
+    said None absent = λ none. (absent none).0
+    said (Some l) absent = tt
 
     here : (o : Option Left)
         → IfSome o (λ l. LacksInventory id l × (inventory_of id more ≡ None))
@@ -740,7 +801,7 @@ module _ {V : Type 0} (s s' : Seen) (value : Store → Option V) (Lacks : Left �
       → OfHeld s s' (λ store. SameOrLeft Lacks (lacks ∷ []) in_image (value store))
   left_while lacks in_image none lacks_it = (s'.store, held_at_last s s', inr (none, any_of_one Lacks lacks lacks_it))
 
-read_again : (lun number : ℕ) (reading : Reading) (old new : Store)
+pub read_again : (lun number : ℕ) (reading : Reading) (old new : Store)
     → reading_of lun number old ≡ None → new ≡ with_reading lun number reading old
     → reading_of lun number new ≡ Some reading
 read_again lun number reading old new none is =
@@ -768,7 +829,7 @@ pub reading_while : {tries : ℕ} {s s' : Seen} (lun number : ℕ) (reading : Re
 reading_while lun number reading old new none is reads =
     value_while _ _ (reading_of lun number) (LacksReading lun number) (Some reading) (reading_of lun number new) (read_again lun number reading old new none is) reads
 
-kept_again : (id : ℕ) (bytes : List ℕ) (old new : Store) → inventory_of id old ≡ None
+pub kept_again : (id : ℕ) (bytes : List ℕ) (old new : Store) → inventory_of id old ≡ None
     → new ≡ with_inventory id bytes old → inventory_of id new ≡ Some bytes
 kept_again id bytes old new none is =
     ap (inventory_of id) is
@@ -935,14 +996,51 @@ left_inventory_while {tries} {s} {s'} {s''} id ended failure (Ok None) image non
 left_inventory_while id ended failure (Ok (Some l)) image none reads later left = λ keeps.
     inr (none, any_of_one (LacksInventory id) l (lacks_by id ended failure l left))
 
--- the item left out is of this device, and is not in the image
-pub lacks_left : (id : ℕ) (ended : FruEnded) (failure : Option ℕ) (result : Result (Option Left) AllocError)
+-- what an inventory that was not read leaves out
+pub left_after : (id : ℕ) (ended : FruEnded) (failure : Option ℕ) (result : Result (Option Left) AllocError)
     (image : Store) → inventory_of id image ≡ None
     → IfOk result (λ o. MatchOption o (ended ≡ FruEnded.Refused not_present) (IsLeftBy id ended failure))
-    → IfOk result (λ o. IfSome o (λ l. LacksInventory id l × (inventory_of id image ≡ None)))
-lacks_left id ended failure (Err e) image none left = tt
-lacks_left id ended failure (Ok None) image none left = tt
-lacks_left id ended failure (Ok (Some l)) image none left = (lacks_by id ended failure l left, none)
+    → IfOk result (λ o. MatchOption o (failure ≢ None) (λ l. ⊤))
+    → IfOk result (λ o. MatchOption o (NoneIsLeft (Err ended) failure (inventory_of id image))
+    (λ l. IsLeftAfter id (Err ended) failure l × (inventory_of id image ≡ None)))
+left_after id ended failure (Err e) image none left failed = tt
+left_after id ended failure (Ok None) image none left failed = (left, failed)
+left_after id ended failure (Ok (Some l)) image none left failed = (left, none)
+
+-- the item left out is of this device, and is not in the image
+module _ (read : Result (Vec ℕ Global) FruEnded) (failure : Option ℕ) (result : Result (Option Left) AllocError) (value : Option (List ℕ)) where
+  pub lacks_after : (id : ℕ) → IfOk result (λ o. MatchOption o (NoneIsLeft (as_inventory read) failure value)
+      (λ l. IsLeftAfter id (as_inventory read) failure l × (value ≡ None)))
+      → IfOk result (λ o. IfSome o (λ l. LacksInventory id l × (value ≡ None)))
+  lacks_after id left = by read result left
+    where
+      by : (r : Result (Vec ℕ Global) FruEnded) (out : Result (Option Left) AllocError)
+          → IfOk out (λ o. MatchOption o (NoneIsLeft (as_inventory r) failure value)
+          (λ l. IsLeftAfter id (as_inventory r) failure l × (value ≡ None)))
+          → IfOk out (λ o. IfSome o (λ l. LacksInventory id l × (value ≡ None)))
+      by r (Err e) left = tt
+      by r (Ok None) left = tt
+      by (Ok bytes) (Ok (Some l)) left = (subst (LacksInventory id) (sym left.0.0) refl, left.1)
+      by (Err ended) (Ok (Some l)) left = (lacks_by id ended failure l left.0, left.1)
+
+  -- nothing is left out, and the image lacks it: a call said that it is absent
+  pub absent_after : (S : Seen → Type 0) (s : Seen) (id : ℕ) → S s → IfErr read (λ ended. LastFruCallSays ended s)
+      → IfOk result (λ o. MatchOption o (NoneIsLeft (as_inventory read) failure value)
+      (λ l. IsLeftAfter id (as_inventory read) failure l × (value ≡ None)))
+      → IfOk result (λ o. MatchOption o (value ≡ None → AtSome S IsAbsent × (failure ≢ None)) (λ l. ⊤))
+  absent_after S s id at says left = by read result says left
+    where
+      absent : LastFruCallSays (FruEnded.Refused not_present) s → IsAbsent s
+      absent says = rw says.0 refl
+
+      by : (r : Result (Vec ℕ Global) FruEnded) (out : Result (Option Left) AllocError) → IfErr r (λ ended. LastFruCallSays ended s)
+          → IfOk out (λ o. MatchOption o (NoneIsLeft (as_inventory r) failure value)
+          (λ l. IsLeftAfter id (as_inventory r) failure l × (value ≡ None)))
+          → IfOk out (λ o. MatchOption o (value ≡ None → AtSome S IsAbsent × (failure ≢ None)) (λ l. ⊤))
+      by r (Err e) says left = tt
+      by r (Ok (Some l)) says left = tt
+      by (Ok bytes) (Ok None) says left = λ none. absurd (none-some bytes.items (sym none ∙ left))
+      by (Err ended) (Ok None) says left = λ none. ((s, at, absent (rw left.0 at says)), left.1)
 
 -- ---- all phases
 

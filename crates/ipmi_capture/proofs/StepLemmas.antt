@@ -1,5 +1,5 @@
 -- Putting the records of a shelf into an image, step by step of a cursor.
-use Rattle.std.proofs.Common.{◌≡◌, ◌≢◌, ◌⊎◌, nat_eq, nat_lt, true≢false, ℕ, ◌+◌, ◌*◌, ◌<◌, ◌≤◌, true, false, IsTrue, Option, None, Some, Result, Ok, Err, IfOk, List, [], ◌∷◌, ◌++◌, length, map, take, drop, inl, inr, refl, sym, ap, ◌∙◌, arith, take_all, length-append, take-add}
+use Rattle.std.proofs.Common.{◌≡◌, ◌≢◌, ◌==◌, Bool, subst, nat_eq, nat_lt, true≢false, ℕ, ◌+◌, ◌*◌, ◌<◌, ◌≤◌, true, false, IsTrue, Option, None, Some, Result, Ok, Err, IfOk, List, [], ◌∷◌, ◌++◌, length, map, take, drop, inl, inr, refl, sym, ap, ◌∙◌, arith, take_all, length-append, take-add}
 use Rattle.std.specs.declared.alloc.AllocError.{AllocError}
 use Rattle.std.specs.FinSet as set
 use Rattle.std.specs.Ordering.{nat_cmp}
@@ -11,17 +11,16 @@ use Rattle.std.proofs.lemmas.Nat.{mul-le}
 use Rattle.ipmi_bus.proofs.DigitLemmas.{digits_most}
 use Rattle.ipmi_bus.proofs.HeldLemmas.{keeps_first, keeps_same}
 use Rattle.ipmi_bus.proofs.ShelfLemmas.{look_row}
-use Rattle.ipmi_bus.proofs.WalkLaws.{has_walk}
-use Rattle.ipmi_bus.proofs.WalkLemmas.{walk_law}
-use Rattle.ipmi_capture.specs.Below.{asked_at, AsksAtMost, Cycle, cycle_at, CursorHoldsCurrent, CursorState, digits, End, Id, id_in, has_id, handed_id, may_follow, NotGivenUpOrRefused, Place, place_after, place_after_rows, StepAnswers, StepIsHonest, StepIsPlain, store_shelf, whole_len, Ended, EndsBy, First, first_row, GaveUp, HandsOut, IsHonest, IsStep, IsWalk, Keeps, largest_len, Malformed, Missing, Refused, Row, rows_of, Sdr, Seen, Sel, Shelf, StandsAt, Stalled, stays_refl, stays_trans, StaysHonest, step_call_bound, Store, WalkEnd, WalkStep, with_rows, WithinTries}
-use Rattle.ipmi_capture.specs.Left.{CountsGrow}
-use Rattle.ipmi_capture.specs.Meanwhile.{OnlyGrewAsLog}
+use Rattle.ipmi_bus.proofs.WalkLemmas.{place_after_rows-last, walk_law}
+use Rattle.ipmi_capture.specs.Accounted.{EndsWhole, HasEnded}
+use Rattle.ipmi_capture.specs.Below.{asked_at, AsksAtMost, Cycle, cycle_at, CursorHoldsCurrent, CursorState, digits, End, Id, id_in, has_id, handed_id, may_follow, NotGivenUpOrRefused, Place, place_after, place_after_rows, StepAnswers, StepIsHonest, StepIsPlain, store_shelf, whole_len, Ended, EndsBy, First, first_row, GaveUp, HandsOut, IsHonest, IsStep, IsWalk, Keeps, largest_len, last_next, Malformed, Missing, Refused, Row, rows_of, Sdr, Seen, Sel, Shelf, StandsAt, Stalled, stays_refl, stays_trans, StaysHonest, step_call_bound, Store, WalkEnd, WalkStep, with_rows, WithinTries}
+use Rattle.ipmi_capture.specs.Left.{CountsGrow, EndsAs}
 use Rattle.ipmi_capture.specs.Phases.{CameKept, CameOf, most_on_walk, NoneIsFaulty, PlainEnds, Walks, WalksWhile}
 use Rattle.ipmi_capture.specs.declared.left.Left.{Left}
 use Rattle.std.specs.Option.{option_to_list}
-use Rattle.ipmi_capture.proofs.CountLemmas.{counted_after, counted_nothing, counted_record, grown_by, grown_none, grown_then, grown_within}
-use Rattle.ipmi_capture.proofs.MeanwhileLemmas.{faulty_second}
-use Rattle.ipmi_capture.proofs.LogLemmas.{after_grown, IsAfter, is_after, WalkedWhile, while_again, while_done, while_ended, while_malformed, while_more, while_none}
+use Rattle.ipmi_capture.proofs.EndLemmas.{after_more, after_none, end_or_id, ended_as, IsAfter, whole}
+use Rattle.ipmi_capture.proofs.CountLemmas.{counted_after, counted_record, grown_by, grown_none, grown_then, grown_within}
+use Rattle.ipmi_capture.proofs.LogLemmas.{WalkedWhile, while_again, while_done, while_ended, while_more, while_none}
 
 -- ---- the rows of a shelf
 
@@ -52,7 +51,7 @@ abbrev MayBe : List Row → Row → Type 0
 MayBe [] row = id_in row.bytes ≡ row.id
 MayBe (r ∷ rows) row = row.id ≢ 0
 
-may_follow_these : (shelf : Shelf) (rows : List Row) (row : Row) → row.id < 65535
+may_follow_these : (shelf : Shelf) (rows : List Row) (row : Row) → row.id ≢ 65535
     → length row.bytes ≡ whole_len shelf row.bytes → length row.bytes ≤ largest_len shelf
     → has_id rows row.id ≡ false → MayBe rows row → may_follow shelf rows row ≡ true
 may_follow_these shelf [] row id whole fits unseen may =
@@ -113,6 +112,7 @@ pub record Walked (shelf : Shelf) (part tries : ℕ) (s s' : Seen) (cursor : Cur
   pub asked : AsksAtMost part s s'
   pub stays : IsHonest s → StaysHonest s s'
   pub counts : IsHonest s → CountsGrow s s'
+  pub after : IsAfter (rows_of shelf new) cursor
   pub along : IsHonest s → Along shelf s s' cursor (rows_of shelf new)
   pub meanwhile : IsHonest s → WalkedWhile shelf s s' cursor (rows_of shelf new)
   pub holds : IsHonest s → IsTrue s.plain → CursorHoldsCurrent cursor s'
@@ -143,6 +143,7 @@ walked_none shelf part tries s cursor old some none fresh stands =
       asked = omega arith;
       stays = λ h. stays_refl s h;
       counts = λ h. grown_none s;
+      after = rw none (after_none cursor (ap (λ (x : CursorState). x.ids) fresh) (ap (λ (x : CursorState). x.place) fresh));
       along = λ h kept walk end is ends. rw none (refl, stands (rows_of shelf s.store) walk);
       meanwhile = λ h. rw none (while_none shelf s cursor h (ap (λ (x : CursorState). x.shelf) fresh) stands);
       holds = λ h p. record { held = λ n is. absurd (none-some n (sym (ap (λ (x : CursorState). x.reservation) fresh) ∙ is)) };
@@ -231,13 +232,13 @@ module _ {shelf : Shelf} {part tries : ℕ} {s s' s'' : Seen} {now next : Cursor
     counts = counted_after S tries (Left.Records shelf ended ∷ []) s'' (walked.counts h) (counted_record S tries shelf now ended walked.tries_are from to (rw is at (step_honest h).answers));
   }
     where
-      well : (e : Ended) → StepAnswers now s' s'' (Err e) → NoneIsFaulty shelf s s'' (Some e)
+      well : (e : Ended) → StepAnswers now s' s'' (Err e) → NoneIsFaulty (Some e)
       well (Cycle n) answers = tt
       well (Missing n) answers = tt
       well (GaveUp n) answers = tt
       well (Refused n code) answers = tt
       well (Stalled n) answers = answers
-      well (Malformed n) answers = absurd answers
+      well (Malformed n) answers = answers
 
       fine : (e : Ended) → StepAnswers now s' s'' (Err e) → NotGivenUpOrRefused {V = Option Row} (Err e) → PlainEnds (Some e)
       fine (Cycle n) answers given = tt
@@ -265,9 +266,6 @@ module _ {shelf : Shelf} {part tries : ℕ} {s s' s'' : Seen} {now next : Cursor
   pub done_while : result ≡ Ok None → IsHonest s → WalksWhile shelf s s'' (rows_of shelf new) None
   done_while is h = while_done h (walked.stays h) (walked.meanwhile h) step is (done_kept is h)
 
-  pub malformed_while : (n : ℕ) → IsHonest s → WalksWhile shelf s s'' (rows_of shelf new) (Some (Malformed n))
-  malformed_while n h = while_malformed h (walked.stays h) (walked.meanwhile h) step n (λ kept walk end walks ends. (stepped h kept walk end walks ends).0)
-
   -- the step returned a record
   came_record : {row : Row} → result ≡ Ok (Some row) → IsHonest s → CountsGrow s s''
   came_record {row = row} is h = grown_then (walked.counts h) (grown_within (one (rw is at (step_honest h).answers)))
@@ -275,40 +273,57 @@ module _ {shelf : Shelf} {part tries : ℕ} {s s' s'' : Seen} {now next : Cursor
       one : StepAnswers now s' s'' (Ok (Some row)) → WithinTries now.tries s' s''
       one answers = answers.0
 
-  -- if the rows of the shelf did not change, or its walk only grew, the cursor is after the rows read
-  now_after : IsHonest s → Keeps (rows_of shelf) s s'' ⊎ OnlyGrewAsLog shelf s s'' → now.place ≢ End → IsAfter (rows_of shelf new) now
-  now_after h (inl kept) not_end =
-      let there = has_walk shelf (rows_of shelf s.store) First (store_shelf shelf s.store h.store) in
-      let at = walked.along h (kept_first h kept) there.0 there.1 there.2 there.3 in
-      is_after (rows_of shelf s.store) there.0 (rows_of shelf new) now at.0 at.1 not_end
-  now_after h (inr grown) not_end = after_grown h (walked.stays h) (walked.meanwhile h) step grown not_end
+  -- the walk ends as the step says
+  pub done_whole : result ≡ Ok None → EndsWhole (rows_of shelf new) s''
+  done_whole is = whole walked.after s'' (rw is at step.leaves).1.from (λ first. ((rw is at step.says) first).1)
 
-  -- and then the record may follow them
-  may_put : IsHonest s → Keeps (rows_of shelf) s s'' ⊎ OnlyGrewAsLog shelf s s'' → (row : Row) → result ≡ Ok (Some row)
-      → may_follow shelf (rows_of shelf new) row ≡ true
-  may_put h why row is =
-      let later = step_honest h in
-      let hands = (rw is at step.leaves).1 in
-      let at = now_after h why hands.not_at_end in
-      let none = (rw is at step.leaves).0 in
-      let looked = rw is at later.answers in
-      let row_is = look_row shelf (rows_of shelf s''.store) (asked_at now.place) row (store_shelf shelf s''.store later.stays.honest.store) (rw walked.shelf_is at looked.1) in
-      may_follow_these shelf (rows_of shelf new) row row_is.id row_is.whole row_is.fits (sym (at.ids row.id) ∙ hands.unseen)
-      (id_now now.place now.ids (rows_of shelf new) row at.place hands.not_at_end none hands.id)
+  pub has_ended : (ended : Ended) → result ≡ Err ended → HasEnded shelf (rows_of shelf new) (Some ended) s''
+  has_ended ended is = (
+    subst (λ (x : Shelf). EndsAs x (rows_of shelf new) ended) walked.shelf_is (ended_as walked.after next ended (rw is at step.leaves)),
+    rw is at step.says,
+  )
 
-  -- a record that may not follow is left out
-  pub came_malformed : {S : Seen → Type 0} (n : ℕ) {row : Row} → result ≡ Ok (Some row)
-      → may_follow shelf (rows_of shelf new) row ≡ false
-      → IsHonest s → Walks S shelf tries s s'' (rows_of shelf new) (Some (Malformed n))
-  came_malformed {S = S} n {row = row} is left h = record {
-    along = λ same walk end walks ends. (stepped h (kept_same h same) walk end walks ends).0;
-    none_faulty = λ why. absurd (true≢false (sym (may_put h why row is) ∙ left));
-    plain = λ p.
-        let before = walked.stays h in
-        let same = (step_honest h).stays.plain_store (before.plain p) ∙ before.plain_store p in
-        absurd (true≢false (sym (may_put h (inl (kept_same h same)) row is) ∙ left));
-    counts = counted_nothing S tries (Left.Records shelf (Malformed n)) refl (came_record is h);
-  }
+  -- a record that may not follow is the first one, with the id FFFFh
+  module _ {row : Row} (is : result ≡ Ok (Some row)) (left : may_follow shelf (rows_of shelf new) row ≡ false) where
+    lent : HandsOut now next row
+    lent = (rw is at step.leaves).1
+
+    may_be : MayBe (rows_of shelf new) row
+    may_be = id_now now.place now.ids (rows_of shelf new) row walked.after.place lent.not_at_end (rw is at step.leaves).0 lent.id
+
+    -- its id is FFFFh
+    its_id : row.id ≡ 65535
+    its_id = by (row.id == 65535) refl
+      where
+        by : (b : Bool) → (row.id == 65535) ≡ b → row.id ≡ 65535
+        by true same = grind (arith, nat_tests, same)
+        by false other = absurd (true≢false (sym (may_follow_these shelf (rows_of shelf new) row (λ same. grind (arith, nat_tests, other, same))
+            (rw walked.shelf_is at lent.whole) (rw walked.shelf_is at lent.fits) (sym (walked.after.ids row.id) ∙ lent.unseen) may_be) ∙ left))
+
+    -- no other record was read
+    is_first : rows_of shelf new ≡ []
+    is_first = by (rows_of shelf new) walked.after.place
+      where
+        by : (l : List Row) → now.place ≡ place_after_rows First l → l ≡ []
+        by [] place = refl
+        by (r ∷ l) place = absurd (not_last (last_next r.next l) (place ∙ place_after_rows-last r.next l))
+          where
+            not_last : (n : ℕ) → now.place ≡ place_after n → ⊥
+            not_last n at = elim (end_or_id n) [
+              | inl ended ↦ lent.not_at_end (at ∙ ended.1)
+              | inr other ↦ other.0 (sym (lent.id ∙ ap (λ (p : Place). handed_id p (asked_at p) row.bytes) (at ∙ other.1)) ∙ its_id)
+            ]
+
+    pub is_malformed : HasEnded shelf (rows_of shelf new) (Some (Malformed row.id)) s''
+    is_malformed = (inr (is_first, its_id), rw is at step.says)
+
+    -- an honest controller has none
+    pub never_malformed : IsHonest s → ⊥
+    never_malformed h =
+        let answers = step_honest h in
+        let looked = rw is at answers.answers in
+        let row_is = look_row shelf (rows_of shelf s''.store) (asked_at now.place) row (store_shelf shelf s''.store answers.stays.honest.store) (rw walked.shelf_is at looked.1) in
+        omega (arith, row_is.id, its_id)
 
   -- the record adds one id
   pub ids_next : {row : Row} → result ≡ Ok (Some row)
@@ -363,6 +378,7 @@ module _ {shelf : Shelf} {part tries : ℕ} {s s' s'' : Seen} {now next : Cursor
           asked = asked_on;
           stays = stays_on;
           counts = came_record is;
+          after = rw rows_are (after_more walked.after hands);
           along = along_more;
           meanwhile = λ h. rw rows_are (while_more h (walked.stays h) (walked.meanwhile h) step walked.shelf_is is);
           holds = λ h p. (step_plain h p).holds;
@@ -404,19 +420,10 @@ module _ {shelf : Shelf} {part tries times : ℕ} {s s' s'' : Seen} {old now new
         let parts = between s s' s'' before (stays before.honest) same in
         let rows : rows_of shelf s'.store ≡ rows_of shelf s.store = ap (rows_of shelf) (before.store.stays parts.0) in
         (rw rows at ((walks before.honest).along parts.1 walk end)) is ends;
-    none_faulty = faulty ended (walks (again.stays h).honest).none_faulty;
+    none_faulty = (walks (again.stays h).honest).none_faulty;
     plain = λ p. let before = again.stays h in (walks before.honest).plain (before.plain p);
     counts = counted_after S tries (map (Left.Records shelf) (option_to_list ended)) s'' (again.counts h) (walks (again.stays h).honest).counts;
   }
-    where
-      faulty : (o : Option Ended) → NoneIsFaulty shelf s' s'' o → NoneIsFaulty shelf s s'' o
-      faulty None none = tt
-      faulty (Some (Cycle n)) none = tt
-      faulty (Some (Missing n)) none = tt
-      faulty (Some (GaveUp n)) none = tt
-      faulty (Some (Refused n code)) none = tt
-      faulty (Some (Stalled n)) none = none
-      faulty (Some (Malformed n)) none = let before = again.stays h in faulty_second s s' s'' before (stays before.honest) shelf none
 
   pub walks_all_ok : (S : Seen → Type 0) (result : Result (Option Ended) AllocError)
       → (IsHonest s' → IfOk result (λ ended. Walks S shelf tries s' s'' (rows_of shelf new) ended))

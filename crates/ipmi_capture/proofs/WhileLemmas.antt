@@ -64,7 +64,7 @@ Begins left left' = (more : List Left) × (left' ≡ left ++ more)
 pub begins_adds : {P : Left → Type 0} {left left' : List Left} → Adds P left left' → Begins left left'
 begins_adds adds = (adds.more, adds.grows)
 
-begins_then : (a b c : List Left) → Begins a b → Begins b c → Begins a c
+pub begins_then : (a b c : List Left) → Begins a b → Begins b c → Begins a c
 begins_then a b c first then_ = (
   first.0 ++ then_.0,
   then_.1 ∙ ap (λ (l : List Left). l ++ then_.0) first.1 ∙ append_assoc a first.0 then_.0,

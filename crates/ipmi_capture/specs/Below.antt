@@ -10,16 +10,17 @@ pub use Rattle.ipmi_bus.specs.CursorState.{CursorState, start_of}
 pub use Rattle.ipmi_bus.specs.Grown.{OnlyGrew}
 pub use Rattle.ipmi_bus.specs.Growth.{AllFollowOrStop, FollowsOrStops, IsLog, OnGrowing, WasLog}
 pub use Rattle.ipmi_bus.specs.Held.{AllGive, Keeps, WasHeld}
-pub use Rattle.ipmi_bus.specs.Readers.{InventoryCounts, InventoryIs, PlainMayAnswer, ReadsInventory, ReadsValue, ValueIs}
+pub use Rattle.ipmi_bus.specs.Readers.{as_inventory, InventoryCounts, InventoryIs, PlainMayAnswer, ReadsInventory, ReadsValue, ValueIs}
 pub use Rattle.ipmi_bus.specs.Seen.{AsksAtMost, IsHonest, IsPlain, IsRefused, Seen, stays_refl, stays_trans, StaysHonest}
 pub use Rattle.ipmi_bus.specs.Shelf.{DistinctIds, first_row, FoundIsRow, id_in, IsShelf, largest_len, LacksId, look, Row, row_with_id, whole_len}
 pub use Rattle.ipmi_bus.specs.Standing.{StandsAt, WalkStep}
-pub use Rattle.ipmi_bus.specs.Step.{asked_at, CursorHoldsCurrent, cycle_at, handed_id, HandsOut, IsStep, StepAnswers, StepIsHonest, StepIsPlain}
+pub use Rattle.ipmi_bus.specs.Step.{asked_at, CursorHoldsCurrent, cycle_at, handed_id, HandsOut, IsStep, StepAnswers, StepIsHonest, StepIsPlain, StepLeaves}
 pub use Rattle.ipmi_bus.specs.Steps.{AreSteps, cursor_after, handed_out, seen_after, Stepped, with_handed}
 pub use Rattle.ipmi_bus.specs.Store.{info_of, Inventory, inventory_in, inventory_of, IsInventory, IsStore, reading_in, reading_of, rows_of, SensorReading, Store, store_shelf}
-pub use Rattle.ipmi_bus.specs.Tries.{IsRefusedWith, LastFruCallSays, NotGivenUpOrRefused, WithinTries}
+pub use Rattle.ipmi_bus.specs.Tries.{IsRefusedWith, LastCallSays, LastFailed, LastFruCallSays, NotGivenUpOrRefused, RefusesRecord, WithinTries}
 pub use Rattle.ipmi_bus.specs.Walk.{AllOf, CycleAt, Done, EndsAfter, EndsBy, EndsEmpty, has_id, IsWalk, last_next, Links, MissingAt, place_after, place_after_rows, row_at, WalkEnd, WalkExists, WalkIsUnique}
 pub use Rattle.ipmi_bus.specs.declared.code.Code.{Code}
+pub use Rattle.ipmi_bus.specs.declared.code.CodeClass.TheVariants.{NotPresent}
 pub use Rattle.ipmi_bus.specs.declared.controller.Shelf.{Shelf}
 pub use Rattle.ipmi_bus.specs.declared.controller.Shelf.TheVariants.{Sdr, Sel}
 pub use Rattle.ipmi_bus.specs.declared.inventory_reader.FruEnded.{FruEnded}

@@ -45,9 +45,24 @@ LacksInventory id (Left.CutOff i) = i ≡ id
 LacksInventory id (Left.Inventory i ended) = i ≡ id
 LacksInventory id _ = ⊥
 
--- an item left out is not in the image; of a shelf, the image may have the first records
+-- the next record to read was the first one; or that with the next id of the last row, and no row has it
+abbrev pub StopsAt : List Row → ℕ → Type 0
+StopsAt [] n = n ≡ 0
+StopsAt (row ∷ rows) n = EndsBy (row ∷ rows) First (row ∷ rows) (MissingAt n)
+
+-- The rows end as is noted. A malformed record is a sensor data record; or the first one, with the id FFFFh, which an image
+-- can't hold.
+abbrev pub EndsAs : Shelf → List Row → Ended → Type 0
+EndsAs shelf rows (Cycle n) = EndsBy rows First rows (CycleAt n)
+EndsAs shelf rows (Missing n) = EndsBy rows First rows (MissingAt n)
+EndsAs shelf rows (GaveUp n) = StopsAt rows n
+EndsAs shelf rows (Refused n code) = StopsAt rows n
+EndsAs shelf rows (Stalled n) = StopsAt rows n
+EndsAs shelf rows (Malformed n) = ((shelf ≡ Sdr) × StopsAt rows n) ⊎ ((rows ≡ []) × (n ≡ 0xFFFF))
+
+-- an item left out is not in the image; the image's rows of a shelf end as is noted
 abbrev pub IsLeftOut : Store → Left → Type 0
-IsLeftOut image (Left.Records shelf ended) = Unit {0}
+IsLeftOut image (Left.Records shelf ended) = EndsAs shelf (rows_of shelf image) ended
 IsLeftOut image (Left.Info shelf unread) = info_of shelf image ≡ None
 IsLeftOut image (Left.Reading lun number unread) = reading_of lun number image ≡ None
 IsLeftOut image (Left.Size id code) = inventory_of id image ≡ None

@@ -1,3 +1,4 @@
+pub mod Accounted
 pub mod Below
 pub mod Capture
 pub mod Laws

@@ -56,14 +56,14 @@ pub record EndsWhile (shelf : Shelf) (s s' : Seen) (end : WalkEnd) : Type 0 wher
 abbrev pub WasIn : ℕ → Seen → Seen → Type 0
 WasIn id s s' = OfHeld s s' (λ store. IsSome (inventory_of id store))
 
--- An end is noted of a walk only if it is true, or the rows of the shelf changed otherwise than by growing. A record is malformed only
--- if they changed so. An inventory noted as empty was in a store held meanwhile, and it is empty unless it changed. One that is cut
--- off was in such a store, and was not in another. No record stalls; no inventory stalls, uses words, or is noted as out of memory.
+-- An end is noted of a walk only if it is true, or the rows of the shelf changed otherwise than by growing. An inventory noted as empty
+-- was in a store held meanwhile, and it is empty unless it changed. One that is cut off was in such a store, and was not in another.
+-- No record stalls or is malformed; no inventory stalls, uses words, or is noted as out of memory.
 abbrev pub IsTrueWhile : Seen → Seen → Left → Type 0
 IsTrueWhile s s' (Left.Records shelf (Cycle n)) = EndsWhile shelf s s' (CycleAt n)
 IsTrueWhile s s' (Left.Records shelf (Missing n)) = EndsWhile shelf s s' (MissingAt n)
 IsTrueWhile s s' (Left.Records shelf (Stalled n)) = ⊥
-IsTrueWhile s s' (Left.Records shelf (Malformed n)) = Keeps (rows_of shelf) s s' ⊎ OnlyGrewAsLog shelf s s' → ⊥
+IsTrueWhile s s' (Left.Records shelf (Malformed n)) = ⊥
 IsTrueWhile s s' (Left.Empty id) = WasIn id s s' × (Keeps (inventory_of id) s s' → inventory_of id s.store ≡ Some [])
 IsTrueWhile s s' (Left.CutOff id) = WasIn id s s' × OfHeld s s' (λ store. inventory_of id store ≡ None)
 IsTrueWhile s s' (Left.Inventory id FruEnded.Stalled) = ⊥

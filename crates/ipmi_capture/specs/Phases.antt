@@ -1,11 +1,12 @@
 -- The effect of each phase of a capture, for the contracts of private functions.
-use Rattle.std.specs.Prelude.{◌≡◌, ◌≢◌, ℕ, ◌+◌, ◌*◌, ◌<◌, ◌==◌, ◌||◌, IsSome, IsTrue, Bool, false, true, Option, Some, None, Err, List, ◌++◌, All, map, take, length, slice_index_or, ◌⊎◌}
+use Rattle.std.specs.Prelude.{◌≡◌, ◌≢◌, ℕ, ◌+◌, ◌*◌, ◌<◌, ◌==◌, ◌||◌, IsSome, IsTrue, Bool, false, true, Option, Some, None, Result, Ok, Err, List, [], ◌++◌, All, map, take, length, slice_index_or, ◌⊎◌}
 use Rattle.std.specs.List.{Any}
 use Rattle.std.specs.Option.{option_to_list}
+use Rattle.ipmi_capture.specs.Accounted.{IsListedOrAbsent, IsReadingAccounted}
 use Rattle.ipmi_capture.specs.Below.{Code, Cycle, CycleAt, Done, Ended, EndsBy, First, FruEnded, fru_call_bound, inventory_of, IsRefused, IsWalk, Keeps, largest_len, Malformed, Missing, MissingAt, not_present, OnGrowing, PlainMayAnswer, Reading, reading_of, Row, rows_of, Sdr, Seen, Sel, Shelf, Stalled, step_call_bound, Store, WalkEnd, with_inventory, with_reading}
 use Rattle.ipmi_capture.specs.Capture.{InventoryOrLeft, NoneOrSame, OwnInventories, OwnReadings, ReadingOrLeft}
-use Rattle.ipmi_capture.specs.Left.{AreCounted, EndIsNoted, LacksInventory, LacksReading, LacksRecords, PlainLeaves}
-use Rattle.ipmi_capture.specs.Meanwhile.{IsTrueWhile, OfHeld, OnlyGrewAsLog, OwnRows}
+use Rattle.ipmi_capture.specs.Left.{AreCounted, EndIsNoted, EndsAs, LacksInventory, LacksReading, LacksRecords, PlainLeaves}
+use Rattle.ipmi_capture.specs.Meanwhile.{IsTrueWhile, OfHeld, OwnRows}
 use Rattle.ipmi_capture.specs.Named.{IsSensorKey, sensor_place}
 use Rattle.ipmi_capture.specs.declared.left.Left.{Left}
 
@@ -16,6 +17,12 @@ pub record Adds (P : Left → Type 0) (left left' : List Left) : Type 0 where
   pub more : List Left
   pub grows : left' ≡ left ++ more
   pub all : All P more
+
+-- an end of a shelf with these rows
+pub record IsEndOf (shelf : Shelf) (rows : List Row) (left : Left) : Type 0 where
+  pub ended : Ended
+  pub is : left ≡ Left.Records shelf ended
+  pub ends : EndsAs shelf rows ended
 
 -- a reading that the image lacks
 pub record IsUnread (image : Store) (left : Left) : Type 0 where
@@ -28,6 +35,17 @@ pub record IsUnkept (image : Store) (left : Left) : Type 0 where
   pub id : ℕ
   pub lacks : LacksInventory id left
   pub none : inventory_of id image ≡ None
+
+-- the reading of each marked sensor is in the image, or listed, or absent
+abbrev pub AreReadingsAccounted : (Seen → Type 0) → List Bool → List Left → Store → Type 0
+AreReadingsAccounted IsState marks left image = (key : ℕ × ℕ) → IsSensorKey key
+    → slice_index_or marks (sensor_place key) false ≡ true → IsReadingAccounted IsState left image key
+
+-- the same for the inventory of device 0, and of each marked device
+abbrev pub AreInventoriesAccounted : (Seen → Type 0) → List Bool → List Left → Store → Type 0
+AreInventoriesAccounted IsState marks left image = (id : ℕ) → id < 255
+    → IsTrue ((id == 0) || slice_index_or marks id false)
+    → IsListedOrAbsent IsState (LacksInventory id) left (inventory_of id image)
 
 -- ---- over an honest controller
 
@@ -66,18 +84,18 @@ PlainEnds (Some (Cycle n)) = Unit {0}
 PlainEnds (Some (Missing n)) = Unit {0}
 PlainEnds (Some ended) = ⊥
 
--- no record stalls, and none is malformed if the rows did not change, or the walk only grew
-abbrev pub NoneIsFaulty : Shelf → Seen → Seen → Option Ended → Type 0
-NoneIsFaulty shelf s s' (Some (Stalled n)) = ⊥
-NoneIsFaulty shelf s s' (Some (Malformed n)) = Keeps (rows_of shelf) s s' ⊎ OnlyGrewAsLog shelf s s' → ⊥
-NoneIsFaulty shelf s s' ended = Unit {0}
+-- no record stalls or is malformed
+abbrev pub NoneIsFaulty : Option Ended → Type 0
+NoneIsFaulty (Some (Stalled n)) = ⊥
+NoneIsFaulty (Some (Malformed n)) = ⊥
+NoneIsFaulty ended = Unit {0}
 
 -- a shelf was read; if no store is added, along its walk
 pub record Walks (IsState : Seen → Type 0) (shelf : Shelf) (tries : ℕ) (s s' : Seen) (rows : List Row) (ended : Option Ended) : Type 0 where
   pub along : s'.stores_added ≡ s.stores_added → (walk : List Row) (end : WalkEnd)
       → IsWalk (rows_of shelf s.store) First walk → EndsBy (rows_of shelf s.store) First walk end
       → CameOf walk end rows ended
-  pub none_faulty : NoneIsFaulty shelf s s' ended
+  pub none_faulty : NoneIsFaulty ended
   pub plain : IsTrue s.plain → PlainEnds ended
   pub counts : AreCounted IsState tries (map (Left.Records shelf) (option_to_list ended)) s s'
 
@@ -160,6 +178,16 @@ IsLeftBy id ended failure (Left.Size i code) =
 IsLeftBy id ended failure (Left.CutOff i) = (i ≡ id) × (ended ≡ FruEnded.Refused not_present) × (failure ≡ None)
 IsLeftBy id ended failure (Left.Inventory i e) = (i ≡ id) × IsNotPlain ended × (e ≡ ended)
 IsLeftBy id ended failure left = ⊥
+
+-- the item left out of what was read: an inventory without bytes; or if it was not read, as above
+abbrev pub IsLeftAfter : ℕ → Result (List ℕ) FruEnded → Option ℕ → Left → Type 0
+IsLeftAfter id (Ok bytes) failure left = (left ≡ Left.Empty id) × (bytes ≡ [])
+IsLeftAfter id (Err ended) failure left = IsLeftBy id ended failure left
+
+-- nothing is left out: the image has the bytes; or CBh was answered, and the last call failed
+abbrev pub NoneIsLeft : Result (List ℕ) FruEnded → Option ℕ → Option (List ℕ) → Type 0
+NoneIsLeft (Ok bytes) failure of_image = of_image ≡ Some bytes
+NoneIsLeft (Err ended) failure of_image = (ended ≡ FruEnded.Refused not_present) × (failure ≢ None)
 
 -- the inventory was refused with this code, and its size was not
 abbrev pub IsNotSize : Code → Option ℕ → Left → Type 0

@@ -1,11 +1,12 @@
 //! Captures a controller: reads its contents into an image.
 ghost use Rattle.std.specs.Prelude.{◌≡◌, ◌+◌, ◌<◌, ◌≤◌, All, IfOk, IsTrue, None, OnOk, []};
 ghost use Rattle.std.specs.List.{list_all};
-ghost use Rattle.ipmi_capture.specs.Below.{AsksAtMost, empty_store, info_of, IsHonest, IsPlain, IsStore, rows_of, StaysHonest, Store, with_info, with_rows};
+ghost use Rattle.ipmi_capture.specs.Accounted.{BothEndOrTurn, IsAccountedFor, IsListedOrAbsent, IsShelfRead};
+ghost use Rattle.ipmi_capture.specs.Below.{AsksAtMost, empty_store, info_of, IsHonest, IsPlain, IsStore, rows_of, StaysHonest, with_info, with_rows};
 ghost use Rattle.ipmi_capture.specs.Capture.{IsCaptureBut, IsCaptureOf};
 ghost use Rattle.ipmi_capture.specs.Left.{AreCounted, IsLeftOut, IsStateOf, IsTrueOf, LacksInfo, leaves_nothing, leaves_whole, PlainLeaves, SameOrLeft};
 ghost use Rattle.ipmi_capture.specs.Meanwhile.{IsCaptureWhile, IsTrueWhile, OfHeld};
-ghost use Rattle.ipmi_capture.specs.Phases.{Adds, AreWalk, Captures, HasLog, most_calls, most_on_shelf};
+ghost use Rattle.ipmi_capture.specs.Phases.{Adds, AreWalk, Captures, HasLog, IsEndOf, most_calls, most_on_shelf};
 
 use crate::inventories::capture_inventories;
 use crate::left::{Left, is_whole, note};
@@ -50,7 +51,8 @@ fn note_shelf<C: Controller, P: Progress>(
     requires fits { asking.part < 255 }
     requires none { rows_of shelf image.old ≡ [] }
     ensures beside { image.new ≡ with_rows shelf (rows_of shelf image.new) image.old }
-    ensures lacks { OnOk result (Adds (λ l. (i : Store) → IsLeftOut i l) left.old.items left.new.items) }
+    ensures lacks { OnOk result (Adds (IsEndOf shelf (rows_of shelf image.new)) left.old.items left.new.items) }
+    ensures accounted { OnOk result (IsShelfRead (IsStateOf C.seen) shelf left.new.items (rows_of shelf image.new)) }
     ensures calls { (C.seen ctl.new).calls ≤ (C.seen ctl.old).calls + most_on_shelf shelf asking.tries }
     ensures asked { AsksAtMost asking.part (C.seen ctl.old) (C.seen ctl.new) }
     ensures stays { IsHonest (C.seen ctl.old) → StaysHonest (C.seen ctl.old) (C.seen ctl.new) }
@@ -78,6 +80,7 @@ fn note_info<C: Controller>(
     ensures beside { image.new ≡ with_info shelf (info_of shelf image.new) image.old }
     ensures lacks { OnOk result (Adds (λ l. LacksInfo shelf l × (info_of shelf image.new ≡ None))
         left.old.items left.new.items) }
+    ensures accounted { OnOk result (IsListedOrAbsent (IsStateOf C.seen) (LacksInfo shelf) left.new.items (info_of shelf image.new)) }
     ensures calls { (C.seen ctl.new).calls ≤ (C.seen ctl.old).calls + (asking.tries + 1) }
     ensures asked { AsksAtMost asking.part (C.seen ctl.old) (C.seen ctl.new) }
     ensures stays { IsHonest (C.seen ctl.old) → StaysHonest (C.seen ctl.old) (C.seen ctl.new) }
@@ -105,6 +108,7 @@ fn capture_into<C: Controller, P: Progress>(
     ensures calls { (C.seen ctl.new).calls ≤ (C.seen ctl.old).calls + most_calls asking.tries }
     ensures asked { AsksAtMost asking.part (C.seen ctl.old) (C.seen ctl.new) }
     ensures lacks { OnOk result (All (IsLeftOut image.new) left.new.items) }
+    ensures accounted { OnOk result (IsAccountedFor (IsStateOf C.seen) left.new.items image.new) }
     ensures stays { IsHonest (C.seen ctl.old) → StaysHonest (C.seen ctl.old) (C.seen ctl.new) }
     ensures counts { IsHonest (C.seen ctl.old) →
         OnOk result (AreCounted (IsStateOf C.seen) asking.tries left.new.items (C.seen ctl.old) (C.seen ctl.new)) }
@@ -135,7 +139,10 @@ fn capture_into<C: Controller, P: Progress>(
 /// device 0, and once each the readings of the sensors and the inventories of the devices that records name. A request is
 /// for at most `part` bytes. Each item may have `tries` troubles. After a refusal it continues with the next item.
 ///
-/// Over any controller, an item left out is not in the image; of a shelf, the first records may be. Over an honest controller, each
+/// Over any controller, an item left out is not in the image; of a shelf, the first records may be, and they end as is noted. Nothing
+/// is missing without a note: the records of a shelf end with FFFFh, and an info, or a reading or inventory that a record names, is in
+/// the image, or the controller answered that there is none. In a whole image a shelf may also turn to an id of its own, which is
+/// noted. Over an honest controller, each
 /// item given up or refused has a stretch of the run of its own: with `tries` + 1 troubles and no refusal, or with at most `tries`
 /// troubles and one refusal, with the item's code. A size has two. If it adds no store meanwhile, the image has exactly the
 /// controller's items, except those left out. A walk that does not end with FFFFh is noted with its end. Such an end is true of the
@@ -146,9 +153,9 @@ fn capture_into<C: Controller, P: Progress>(
 /// the capture. A walk and an inventory are the controller's, except those left out, if the rows of the shelf, or that inventory, did
 /// not change. If the walk of a shelf ended with FFFFh at first and then only grew, the image has the whole walk of one such store,
 /// which begins with all records of the first walk; or it has the first records of it, and the others were given up or refused. An
-/// end that is noted is true of the shelf, unless its rows changed otherwise than by growing; only then may a record be malformed. An
-/// inventory noted as empty was there, and is empty unless it changed; one is cut off only if it was there and at another time was
-/// not. Nothing stalls or uses words.
+/// end that is noted is true of the shelf, unless its rows changed otherwise than by growing. An inventory noted as empty was there,
+/// and is empty unless it changed; one is cut off only if it was there and at another time was not. Nothing stalls, is malformed, or
+/// uses words.
 pub fn capture<C: Controller, P: Progress>(
     alloc: Global,
     ctl: &mut C,
@@ -161,7 +168,9 @@ pub fn capture<C: Controller, P: Progress>(
     ensures calls { (C.seen ctl.new).calls ≤ (C.seen ctl.old).calls + most_calls tries }
     ensures asked { AsksAtMost part (C.seen ctl.old) (C.seen ctl.new) }
     ensures lacks { IfOk result (λ c. All (IsLeftOut c.image) c.left.items) }
+    ensures accounted { IfOk result (λ c. IsAccountedFor (IsStateOf C.seen) c.left.items c.image) }
     ensures whole { IfOk result (λ c. c.is_whole ≡ list_all leaves_whole c.left.items) }
+    ensures ends { IfOk result (λ c. IsTrue c.is_whole → BothEndOrTurn (IsStateOf C.seen) c.left.items c.image) }
     ensures stays { IsHonest (C.seen ctl.old) → StaysHonest (C.seen ctl.old) (C.seen ctl.new) }
     ensures counts { IsHonest (C.seen ctl.old) →
         IfOk result (λ c. AreCounted (IsStateOf C.seen) tries c.left.items (C.seen ctl.old) (C.seen ctl.new)) }

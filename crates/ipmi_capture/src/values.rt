@@ -1,11 +1,12 @@
 //! Reads infos and sensor readings into an image.
-ghost use Rattle.std.specs.Prelude.{◌≡◌, ◌+◌, ◌*◌, ◌<◌, ◌≤◌, IfOk, IfSome, OnErr, OnOk, [], None, Some};
+ghost use Rattle.std.specs.Prelude.{◌≡◌, ◌+◌, ◌*◌, ◌<◌, ◌≤◌, IfOk, IfSome, MatchOption, OnErr, OnOk, [], None, Some, ⊤};
 ghost use Rattle.std.specs.Option.{option_to_list};
+ghost use Rattle.ipmi_capture.specs.Accounted.{IsAbsent};
 ghost use Rattle.ipmi_capture.specs.Below.{AsksAtMost, info_of, IsHonest, StaysHonest, reading_of, with_info};
 ghost use Rattle.ipmi_capture.specs.Capture.{ReadingOrLeft};
 ghost use Rattle.ipmi_capture.specs.Left.{IsStateOf, LacksInfo, LacksReading, SameOrLeft};
 ghost use Rattle.ipmi_capture.specs.Meanwhile.{OfHeld};
-ghost use Rattle.ipmi_capture.specs.Phases.{Adds, Captures, HasRead, HasReadings, HasReadingsWhile, IsUnread};
+ghost use Rattle.ipmi_capture.specs.Phases.{Adds, AreReadingsAccounted, Captures, HasRead, HasReadings, HasReadingsWhile, IsUnread};
 
 use crate::capturing::Asking;
 use crate::left::{Left, Unread, note};
@@ -25,6 +26,7 @@ pub(crate) fn capture_info<C: Controller>(
     requires none { info_of shelf image.old ≡ None }
     ensures beside { image.new ≡ with_info shelf (info_of shelf image.new) image.old }
     ensures lacks { IfSome result (λ left. LacksInfo shelf left × (info_of shelf image.new ≡ None)) }
+    ensures none { MatchOption result (info_of shelf image.new ≡ None → IsAbsent (C.seen ctl.new)) (λ left. ⊤) }
     ensures calls { (C.seen ctl.new).calls ≤ (C.seen ctl.old).calls + (asking.tries + 1) }
     ensures asked { AsksAtMost asking.part (C.seen ctl.old) (C.seen ctl.new) }
     ensures stays { IsHonest (C.seen ctl.old) → StaysHonest (C.seen ctl.old) (C.seen ctl.new) }
@@ -59,6 +61,8 @@ fn capture_reading<C: Controller, P: Progress>(
     ensures err { OnErr result (image.new ≡ image.old) }
     ensures lacks { IfOk result (λ o. IfSome o (λ left.
         LacksReading lun number left × (reading_of lun number image.new ≡ None))) }
+    ensures none { IfOk result (λ o. MatchOption o
+        (reading_of lun number image.new ≡ None → IsAbsent (C.seen ctl.new)) (λ left. ⊤)) }
     ensures calls { (C.seen ctl.new).calls ≤ (C.seen ctl.old).calls + (asking.tries + 1) }
     ensures asked { AsksAtMost asking.part (C.seen ctl.old) (C.seen ctl.new) }
     ensures stays { IsHonest (C.seen ctl.old) → StaysHonest (C.seen ctl.old) (C.seen ctl.new) }
@@ -97,6 +101,8 @@ pub(crate) fn capture_readings<C: Controller, P: Progress>(
     requires none { image.old.readings ≡ [] }
     ensures beside { image.new ≡ record image.old { readings = image.new.readings } }
     ensures lacks { OnOk result (Adds (IsUnread image.new) left.old.items left.new.items) }
+    ensures accounted { OnOk result (AreReadingsAccounted (IsStateOf C.seen) named.now.sensors.items
+        left.new.items image.new) }
     ensures calls { (C.seen ctl.new).calls ≤ (C.seen ctl.old).calls + 1024 * (asking.tries + 1) }
     ensures asked { AsksAtMost asking.part (C.seen ctl.old) (C.seen ctl.new) }
     ensures stays { IsHonest (C.seen ctl.old) → StaysHonest (C.seen ctl.old) (C.seen ctl.new) }

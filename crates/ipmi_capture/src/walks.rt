@@ -1,5 +1,6 @@
 //! Reads the records of a shelf into an image.
 ghost use Rattle.std.specs.Prelude.{◌≡◌, ◌+◌, ◌<◌, ◌≤◌, IfOk, [], Some};
+ghost use Rattle.ipmi_capture.specs.Accounted.{HasEnded};
 ghost use Rattle.ipmi_capture.specs.Below.{AsksAtMost, IsHonest, StaysHonest, rows_of, with_rows};
 ghost use Rattle.ipmi_capture.specs.Left.{IsStateOf};
 ghost use Rattle.ipmi_capture.specs.Phases.{most_on_shelf, most_on_walk, Walks, WalksWhile};
@@ -29,6 +30,7 @@ fn walk_shelf<C: Controller, P: Progress>(
     ensures calls { (C.seen ctl.new).calls ≤ (C.seen ctl.old).calls + most_on_walk shelf
         asking.tries }
     ensures asked { AsksAtMost asking.part (C.seen ctl.old) (C.seen ctl.new) }
+    ensures ends { IfOk result (λ ended. HasEnded shelf (rows_of shelf image.new) ended (C.seen ctl.new)) }
     ensures stays { IsHonest (C.seen ctl.old) → StaysHonest (C.seen ctl.old) (C.seen ctl.new) }
     ensures honest { IsHonest (C.seen ctl.old) → IfOk result (λ ended.
         Walks (IsStateOf C.seen) shelf asking.tries (C.seen ctl.old) (C.seen ctl.new) (rows_of shelf image.new) ended) }
@@ -66,6 +68,7 @@ pub(crate) fn capture_shelf<C: Controller, P: Progress>(
     ensures calls { (C.seen ctl.new).calls ≤ (C.seen ctl.old).calls + most_on_shelf shelf
         asking.tries }
     ensures asked { AsksAtMost asking.part (C.seen ctl.old) (C.seen ctl.new) }
+    ensures ends { IfOk result (λ ended. HasEnded shelf (rows_of shelf image.new) ended (C.seen ctl.new)) }
     ensures stays { IsHonest (C.seen ctl.old) → StaysHonest (C.seen ctl.old) (C.seen ctl.new) }
     ensures honest { IsHonest (C.seen ctl.old) → IfOk result (λ ended.
         Walks (IsStateOf C.seen) shelf asking.tries (C.seen ctl.old) (C.seen ctl.new) (rows_of shelf image.new) ended) }

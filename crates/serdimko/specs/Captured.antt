@@ -3,6 +3,7 @@ use Rattle.std.specs.Prelude.{◌≡◌, ◌⊎◌, ◌≤◌, ◌+◌, ◌-◌,
 use Rattle.std.specs.List.{list_all}
 use Rattle.ipmi_bus.specs.Seen.{AsksAtMost, IsHonest, IsPlain, Seen, StaysHonest}
 use Rattle.ipmi_bus.specs.Store.{Store}
+use Rattle.ipmi_capture.specs.Accounted.{BothEndOrTurn, IsAccountedFor}
 use Rattle.ipmi_capture.specs.Capture.{IsCaptureBut, IsCaptureOf}
 use Rattle.ipmi_capture.specs.Left.{AreCounted, IsLeftOut, IsTrueOf, leaves_nothing, leaves_whole, left_text, PlainLeaves}
 use Rattle.ipmi_capture.specs.Phases.{most_calls}
@@ -76,6 +77,8 @@ pub record Captures (IsState : Seen → Type 0) (part tries : ℕ) (seen seen' :
   pub calls : seen'.calls ≤ seen.calls + most_calls tries
   pub asked : AsksAtMost part seen seen'
   pub lacks : All (IsLeftOut image) left
+  pub accounted : IsAccountedFor IsState left image
+  pub ends : IsTrue (list_all leaves_whole left) → BothEndOrTurn IsState left image
   pub stays : IsHonest seen → StaysHonest seen seen'
   pub counts : IsHonest seen → AreCounted IsState tries left seen seen'
   pub but : IsHonest seen → seen'.stores_added ≡ seen.stores_added → IsCaptureBut left image seen.store

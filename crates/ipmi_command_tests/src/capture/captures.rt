@@ -83,7 +83,7 @@ fn left_out_text(rt: &impl Abort, alloc: Global, captured: &Captured) -> String 
 }
 
 /// Asserts the captured image and the items left out.
-fn assert_capture<C: Controller>(
+pub(crate) fn assert_capture<C: Controller>(
     rt: &impl Abort,
     alloc: Global,
     ctl: &mut C,

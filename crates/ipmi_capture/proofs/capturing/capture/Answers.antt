@@ -1,4 +1,5 @@
 use Rattle.std.proofs.Common.{rules}
+use Rattle.ipmi_capture.proofs.AccountedLemmas.{both_end}
 use Rattle.ipmi_capture.proofs.CaptureLemmas.{whole_capture}
 use Rattle.ipmi_capture.proofs.capturing.capture.Goals as goal
 
@@ -17,3 +18,7 @@ returns-clause-whole g c = search rules
 
 pub returns-clause-counts : goal.returns-clause-counts
 returns-clause-counts g c = search rules
+
+pub returns-clause-ends : goal.returns-clause-ends
+returns-clause-ends g c = λ whole.
+    rw c.finish.ensures.is (both_end _ _ _ (rw (returns-clause-whole g c) at whole) c.in_ok-capture_into.ensures.accounted)

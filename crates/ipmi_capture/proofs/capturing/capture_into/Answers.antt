@@ -1,7 +1,8 @@
 use Rattle.std.proofs.Common.{List, ◌++◌, ap, sym, ◌∙◌}
 use Rattle.std.proofs.lemmas.List.Elements.{All-nil}
-use Rattle.ipmi_capture.specs.Left.{PlainLeaves}
+use Rattle.ipmi_capture.specs.Left.{IsStateOf, PlainLeaves}
 use Rattle.ipmi_capture.specs.declared.left.Left.{Left}
+use Rattle.ipmi_capture.proofs.AccountedLemmas.{all_accounted}
 use Rattle.ipmi_capture.proofs.CaptureLemmas.{assemble, captures_parts, left_out, stays_on}
 use Rattle.ipmi_capture.proofs.MeanwhileLemmas.{told_of_store}
 use Rattle.ipmi_capture.proofs.WhileLemmas.{assemble_while, begins_adds, parts_while}
@@ -82,10 +83,20 @@ returns-clause-plain g c = λ plain.
 
 pub returns-clause-lacks : goal.returns-clause-lacks
 returns-clause-lacks g c =
-    left_out c.capture_inventories.new.image c.note_info.new.image c.note_info-2.new.image c.capture_readings.new.image
-    c.note_info-2.ensures.beside c.capture_readings.ensures.beside c.capture_inventories.ensures.beside c.requires.none
+    left_out c.capture_inventories.new.image c.note_shelf.new.image c.note_shelf-2.new.image c.note_info.new.image c.note_info-2.new.image c.capture_readings.new.image
+    c.note_shelf-2.ensures.beside c.note_info.ensures.beside c.note_info-2.ensures.beside c.capture_readings.ensures.beside c.capture_inventories.ensures.beside c.requires.none
     c.in_ok-note_shelf.ensures.lacks c.in_ok-note_shelf-2.ensures.lacks c.in_ok-note_info.ensures.lacks c.in_ok-note_info-2.ensures.lacks
     c.in_ok-capture_readings.ensures.lacks c.in_ok-capture_inventories.ensures.lacks
+
+pub returns-clause-accounted : goal.returns-clause-accounted
+returns-clause-accounted g c =
+    all_accounted (IsStateOf g.C.Controller.seen) c.note_shelf.new.image c.note_shelf-2.new.image c.note_info.new.image c.note_info-2.new.image c.capture_readings.new.image c.capture_inventories.new.image
+    c.in_ok-named.named.sensors.items c.in_ok-named.named.devices.items
+    c.note_shelf-2.ensures.beside c.note_info.ensures.beside c.note_info-2.ensures.beside c.capture_readings.ensures.beside c.capture_inventories.ensures.beside c.in_ok-named.ensures
+    (begins_adds c.in_ok-note_shelf-2.ensures.lacks) (begins_adds c.in_ok-note_info.ensures.lacks) (begins_adds c.in_ok-note_info-2.ensures.lacks)
+    (begins_adds c.in_ok-capture_readings.ensures.lacks) (begins_adds c.in_ok-capture_inventories.ensures.lacks)
+    c.in_ok-note_shelf.ensures.accounted c.in_ok-note_shelf-2.ensures.accounted c.in_ok-note_info.ensures.accounted c.in_ok-note_info-2.ensures.accounted
+    c.in_ok-capture_readings.ensures.accounted c.in_ok-capture_inventories.ensures.accounted
 
 pub returns-in_err-note_shelf-2-clause-stays : goal.returns-in_err-note_shelf-2-clause-stays
 returns-in_err-note_shelf-2-clause-stays g c = λ h. let a0 = c.note_shelf.ensures.stays h in let a1 = stays_trans _ _ _ a0 (c.note_shelf-2.ensures.stays a0.honest) in a1

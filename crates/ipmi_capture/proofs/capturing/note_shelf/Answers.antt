@@ -1,5 +1,6 @@
-use Rattle.std.proofs.Common.{Some, ◌∷◌, []}
-use Rattle.ipmi_capture.proofs.ReadLemmas.{adds_none, adds_some, captures_after, on_ok, walk_after}
+use Rattle.std.proofs.Common.{◌≡◌, None, Some, ◌∷◌, [], refl}
+use Rattle.ipmi_capture.proofs.ReadLemmas.{adds_none, adds_some, any_after, any_of_one, captures_after, on_ok, walk_after}
+use Rattle.ipmi_capture.proofs.CountLemmas.{is_state}
 use Rattle.ipmi_capture.proofs.CaptureLemmas.{captures_walk, captures_whole_walk}
 use Rattle.ipmi_capture.proofs.WhileLemmas.{first_records, whole_log}
 use Rattle.ipmi_capture.specs.declared.left.Left.{Left}
@@ -26,7 +27,25 @@ returns-in-Ok-None-clause-meanwhile g c = λ h.
 
 pub returns-in-Ok-Some-clause-lacks : goal.returns-in-Ok-Some-clause-lacks
 returns-in-Ok-Some-clause-lacks g c =
-    on_ok c.note.result c.note.ensures (λ added. rw added (adds_some _ c.args.left.now.items (Some (Left.Records c.args.shelf c.in-Ok-Some.ended)) (λ i. tt)))
+    let ends = rw c.in-Ok-Some.field-0-is at c.in-Ok-Some.ensures.ends in
+    on_ok c.note.result c.note.ensures (λ added. rw added (adds_some _ c.args.left.now.items (Some (Left.Records c.args.shelf c.in-Ok-Some.ended)) (record { ended = c.in-Ok-Some.ended; is = refl; ends = ends.0 })))
 
 pub returns-in-Ok-None-clause-lacks : goal.returns-in-Ok-None-clause-lacks
 returns-in-Ok-None-clause-lacks g c = adds_none _ c.args.left.now.items
+
+pub returns-in-Ok-Some-clause-accounted : goal.returns-in-Ok-Some-clause-accounted
+returns-in-Ok-Some-clause-accounted g c =
+    let ends = rw c.in-Ok-Some.field-0-is at c.in-Ok-Some.ensures.ends in
+    let item = Left.Records c.args.shelf c.in-Ok-Some.ended in
+    on_ok c.note.result c.note.ensures (λ added. rw added (record {
+      ended = Some c.in-Ok-Some.ended;
+      has = (g.C.Controller.seen c.capture_shelf.new.ctl, is_state g.C.Controller.seen c.capture_shelf.new.ctl, ends);
+      listed = any_after (λ l. l ≡ item) c.args.left.now.items (item ∷ []) (any_of_one (λ l. l ≡ item) item refl);
+    }))
+
+pub returns-in-Ok-None-clause-accounted : goal.returns-in-Ok-None-clause-accounted
+returns-in-Ok-None-clause-accounted g c = record {
+  ended = None;
+  has = (g.C.Controller.seen c.capture_shelf.new.ctl, is_state g.C.Controller.seen c.capture_shelf.new.ctl, rw c.in-Ok-None.field-0-is at c.in-Ok-None.ensures.ends);
+  listed = tt;
+}

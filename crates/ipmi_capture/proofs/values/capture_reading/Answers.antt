@@ -1,10 +1,11 @@
-use Rattle.std.proofs.Common.{[], ◌∷◌, ap, refl}
+use Rattle.std.proofs.Common.{[], ◌∷◌, ap, refl, sym, ◌∙◌}
+use Rattle.std.proofs.lemmas.Option.{none-some}
 use Rattle.ipmi_capture.specs.Below.{reading_of}
 use Rattle.ipmi_capture.specs.Left.{LacksReading}
 use Rattle.ipmi_capture.specs.declared.left.Left.{Left}
 use Rattle.ipmi_capture.specs.declared.left.Unread.{Unread}
 use Rattle.ipmi_capture.proofs.CountLemmas.{is_state}
-use Rattle.ipmi_capture.proofs.ReadLemmas.{has_read, came_reading, left_value, left_while, reading_while}
+use Rattle.ipmi_capture.proofs.ReadLemmas.{has_read, came_reading, left_value, left_while, read_again, reading_while}
 use Rattle.ipmi_capture.proofs.values.capture_reading.Goals as goal
 
 pub returns-in_ok-put_reading-in-Ok-Some-clause-image : goal.returns-in_ok-put_reading-in-Ok-Some-clause-image
@@ -18,6 +19,10 @@ returns-in_ok-put_reading-in-Ok-Some-clause-honest g c = λ h.
 pub returns-in_ok-put_reading-in-Ok-Some-clause-meanwhile : goal.returns-in_ok-put_reading-in-Ok-Some-clause-meanwhile
 returns-in_ok-put_reading-in-Ok-Some-clause-meanwhile g c = λ h.
     reading_while c.args.lun c.args.number c.in-Ok-Some.reading c.args.image.now c.put_reading.new.self c.requires.none c.in_ok-put_reading-in-Ok-Some.ensures.ok (rw c.in-Ok-Some.field-0-is at (c.in-Ok-Some.ensures.honest h))
+
+pub returns-in_ok-put_reading-in-Ok-Some-clause-none : goal.returns-in_ok-put_reading-in-Ok-Some-clause-none
+returns-in_ok-put_reading-in-Ok-Some-clause-none g c = λ none.
+    absurd (none-some c.in-Ok-Some.reading (sym none ∙ read_again c.args.lun c.args.number c.in-Ok-Some.reading c.args.image.now c.put_reading.new.self c.requires.none c.in_ok-put_reading-in-Ok-Some.ensures.ok))
 
 pub returns-in-Err-clause-meanwhile : goal.returns-in-Err-clause-meanwhile
 returns-in-Err-clause-meanwhile g c = λ h.

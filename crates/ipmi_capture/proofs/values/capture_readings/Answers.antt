@@ -1,6 +1,9 @@
 use Rattle.std.proofs.Common.{◌≡◌, ◌+◌, ◌*◌, ◌/◌, ◌%◌, ◌<◌, false, arith, slice_index_or}
+use Rattle.ipmi_capture.specs.Below.{reading_of}
+use Rattle.ipmi_capture.specs.Left.{IsStateOf}
+use Rattle.ipmi_capture.proofs.CountLemmas.{is_state}
 use Rattle.ipmi_capture.proofs.FoundLemmas.{not_read}
-use Rattle.ipmi_capture.proofs.ReadLemmas.{reading_begun, reading_done, reading_lacks, reading_read, reading_skipped, readings_while}
+use Rattle.ipmi_capture.proofs.ReadLemmas.{absent_now, reading_begun, reading_done, reading_lacks, reading_read, reading_skipped, readings_accounted, readings_while}
 use Rattle.ipmi_bus.specs.Seen.{stays_trans}
 use Rattle.ipmi_capture.proofs.values.capture_readings.Goals as goal
 
@@ -27,7 +30,11 @@ places-preserved g c =
     let at : c.places.place / 256 * 256 + c.places.place % 256 ≡ c.places.place = omega arith in
     let small : c.places.place % 256 < 256 = omega arith in
     rw c.in-Ok-note.ensures (reading_read c.in-Ok.lacks (c.places.place / 256) (c.places.place % 256) c.places.invariant at small c.in-Ok.ensures.image c.in-Ok.ensures.lacks
+    (absent_now (IsStateOf g.C.Controller.seen) (reading_of (c.places.place / 256) (c.places.place % 256) c.capture_reading.new.image) (g.C.Controller.seen c.capture_reading.new.ctl) (is_state g.C.Controller.seen c.capture_reading.new.ctl) c.in-Ok.lacks c.in-Ok.ensures.none)
     c.in-Ok.ensures.calls c.in-Ok.ensures.asked c.in-Ok.ensures.stays c.in-Ok.ensures.honest c.in-Ok.ensures.meanwhile)
+
+pub returns-clause-accounted : goal.returns-clause-accounted
+returns-clause-accounted g c = readings_accounted c.places.invariant (omega (arith, c.places-test.false))
 
 pub returns-clause-lacks : goal.returns-clause-lacks
 returns-clause-lacks g c = reading_lacks c.places.invariant
