@@ -5,3 +5,4 @@ pub mod ImagesLemmas
 pub mod LabelLemmas
 pub mod NamesLemmas
 pub mod RunErrorLemmas
+mod LastWordsLemmas

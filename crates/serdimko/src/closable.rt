@@ -36,16 +36,23 @@ fn is_closing(kind: ErrorKind) -> bool
     matches!(kind, ErrorKind::BrokenPipe)
 }
 
+impl<W: Write> Closable<W> {
+    /// Notes whether a write with this result says that the reader has closed the writer.
+    fn note(&mut self, taken: &Result<usize>)
+        ensures { self.new ≡ record self.old { is_closed = self.old.is_closed || says_closed taken.now } }
+    {
+        if let Err(error) = taken {
+            self.is_closed |= is_closing(error.kind());
+        }
+    }
+}
+
 impl<W: Write> Write for Closable<W> {
     ghost contents = { λ closable. W.contents closable.writer };
 
-    fn write(&mut self, buf: &[u8]) -> Result<usize>
-        ensures noted { self.new.is_closed ≡ (self.old.is_closed || says_closed result) }
-    {
+    fn write(&mut self, buf: &[u8]) -> Result<usize> {
         let taken = self.writer.write(buf);
-        if let Err(error) = &taken {
-            self.is_closed |= is_closing(error.kind());
-        }
+        self.note(&taken);
         taken
     }
 

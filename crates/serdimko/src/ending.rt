@@ -79,7 +79,10 @@ fn line_at_end(
 }
 
 /// Writes the text, and flushes it.
-pub(crate) fn write_flushed<W: Write + Drop>(out: &mut Output<W>, text: &[u8]) -> Result<(), SinkFault>
+pub(crate) fn write_flushed<W: Write + Drop>(
+    out: &mut Output<W>,
+    text: &[u8],
+) -> Result<(), SinkFault>
     ensures ok { OnOk result (((out_of out.new).taken ≡ (out_of out.old).taken ++ text.now) × ((out_of out.new).held ≡ [])) }
     ensures err { OnErr result (TakesPart (out_of out.old).taken (out_of out.new).taken text.now) }
     ensures faults { (out_of out.new).faults ≡ (out_of out.old).faults + flush_faults result }

@@ -89,7 +89,7 @@ fn print_store<W: Write + Drop, E: MessageSink>(
     err: &mut E,
 ) -> (u8, bool)
     requires { IsImageQuery query }
-    ensures { PrintsStore limits query report.now image (out_of out.old) (out_of out.new)
+    ensures { PrintsStore limits query.entry report.now image (out_of out.old) (out_of out.new)
         (E.received err.old) (E.received err.new) result }
 {
     let query = match query {
@@ -113,7 +113,7 @@ fn print_bytes<W: Write + Drop, E: MessageSink>(
     err: &mut E,
 ) -> (u8, bool)
     requires { IsImageQuery query }
-    ensures { PrintsBytes limits query report.now bytes.now (out_of out.old) (out_of out.new)
+    ensures { PrintsBytes limits query.entry report.now bytes.now (out_of out.old) (out_of out.new)
         (E.received err.old) (E.received err.new) result }
 {
     match Image::read(alloc, bytes) {
@@ -136,7 +136,7 @@ fn print_input<W: Write + Drop, E: MessageSink>(
     err: &mut E,
 ) -> (u8, bool)
     requires { IsImageQuery query }
-    ensures { PrintsInput limits query report.now input.now (out_of out.old) (out_of out.new)
+    ensures { PrintsInput limits query.entry report.now input.now (out_of out.old) (out_of out.new)
         (E.received err.old) (E.received err.new) result }
 {
     match input {
@@ -163,7 +163,7 @@ fn print_named<W: Write + Drop, E: MessageSink>(
     err: &mut E,
 ) -> (u8, bool)
     requires { IsImageQuery query }
-    ensures { PrintsNamed settings.now query (option_map (λ file. file.now) file.entry) is_only_input
+    ensures { PrintsNamed settings.now query.entry (option_map (λ file. file.now) file.entry) is_only_input
         (out_of out.old) (out_of out.new) (E.received err.old) (E.received err.new) result }
 {
     let alloc = rt.alloc();
@@ -199,7 +199,7 @@ fn print_headed<W: Write + Drop, E: MessageSink>(
     err: &mut E,
 ) -> (u8, bool)
     requires { IsImageQuery query }
-    ensures { PrintsFile true settings.now query (option_map (λ file. file.now) file.entry) is_only_input
+    ensures { PrintsFile true settings.now query.entry (option_map (λ file. file.now) file.entry) is_only_input
         (out_of out.old) (out_of out.new) (E.received err.old) (E.received err.new) result }
 {
     let name = input_name(file);
@@ -224,7 +224,7 @@ fn print_image<W: Write + Drop, E: MessageSink>(
     err: &mut E,
 ) -> (u8, bool)
     requires { IsImageQuery query }
-    ensures { PrintsImage settings.now query is_only_input (option_map (λ image. image.now) image.entry)
+    ensures { PrintsImage settings.now query.entry is_only_input (option_map (λ image. image.now) image.entry)
         (out_of out.old) (out_of out.new) (E.received err.old) (E.received err.new) result }
 {
     let file = file_of(image);
@@ -245,7 +245,7 @@ pub(crate) fn print_images<W: Write + Drop, E: MessageSink>(
     err: &mut E,
 ) -> (u8, bool)
     requires { IsImageQuery query }
-    ensures { PrintsImages settings.now query images.now (out_of out.old) (out_of out.new)
+    ensures { PrintsImages settings.now query.entry images.now (out_of out.old) (out_of out.new)
         (E.received err.old) (E.received err.new) result }
 {
     if images.is_empty() {

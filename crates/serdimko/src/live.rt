@@ -1,10 +1,10 @@
 //! Prints what a command asks for from a live controller. A stock tool holds a session with it, and pipes in a folder lead to the tool.
-ghost use Rattle.std.specs.Prelude.{◌≡◌, ◌*◌, None, IfOk, map, string_bytes};
+ghost use Rattle.std.specs.Prelude.{◌≡◌, ◌*◌, None, IfOk, map, string_bytes, take};
 ghost use Rattle.std.specs.Duration.{as_nanos};
 ghost use Rattle.ipmi_raw.specs.Controller.{last_words, seen_of};
 ghost use Rattle.ipmi_raw.specs.Handed.{OnlyRequests};
 ghost use Rattle.ipmi_raw.specs.Piped.{no_units};
-ghost use Rattle.serdimko.specs.LastWords.{lost_text, said_lines};
+ghost use Rattle.serdimko.specs.LastWords.{lost_text, on_a_line, said_lines};
 ghost use Rattle.serdimko.specs.Live.{pipe_name, PrintsLive, tool_of};
 ghost use Rattle.serdimko.specs.Out.{out_of, state};
 ghost use Rattle.serdimko.specs.Settings.{IsQuery};
@@ -113,16 +113,30 @@ fn said_lines<'a>(alloc: Global, text: &'a str) -> Result<Vec<&'a str>, AllocErr
         .collect(alloc)
 }
 
+/// The first part of a tool's output, which is told.
+fn first_part(text: &[u8]) -> &[u8]
+    ensures { result.now ≡ take MOST_TOLD text.now }
+{
+    &text[..MOST_TOLD.min(text.len())]
+}
+
+/// These lines on one; without any, that there are none.
+fn on_a_line(alloc: Global, lines: &[&str]) -> Result<String, AllocError>
+    ensures { IfOk result (λ line. string_bytes line ≡ on_a_line (map (λ line. line.now) lines.now)) }
+{
+    match lines {
+        [] => String::from_str(alloc, "the tool said nothing"),
+        [_, ..] => lines.join(alloc, "; "),
+    }
+}
+
 /// The last output of the tool, on one line, cut off if it is long.
 pub(crate) fn lost_line(alloc: Global, text: &[u8]) -> Result<String, AllocError>
     ensures { IfOk result (λ line. string_bytes line ≡ lost_text text.now) }
 {
-    let text = String::from_utf8_lossy(alloc, text.get(..MOST_TOLD).unwrap_or(text))?;
+    let text = String::from_utf8_lossy(alloc, first_part(text))?;
     let lines = said_lines(alloc, text.as_str())?;
-    if lines.is_empty() {
-        return String::from_str(alloc, "the tool said nothing");
-    }
-    lines.as_slice().join(alloc, "; ")
+    on_a_line(alloc, lines.as_slice())
 }
 
 impl<P: Peer + Drop, K: Clock + Drop> Connection for RawController<P, K> {
@@ -174,13 +188,5 @@ pub(crate) fn print_live<O: Open + Drop, K: Clock + Drop, W: Write + Drop, E: Me
         return report.tell(&Some(RunError::Failed(Failure::OutOfMemory)), err);
     };
     let report = settings.report(labels.as_slice(), NAME, true);
-    print_query(
-        alloc,
-        controller,
-        settings.limits,
-        query,
-        &report,
-        out,
-        err,
-    )
+    print_query(alloc, controller, settings.limits, query, &report, out, err)
 }

@@ -26,8 +26,8 @@ use driver::Query;
 use help::{SHORT, VERSION, help_on};
 use images::{ImageQuery, print_images};
 use ipmi_command_line::{
-    Action, DEFAULT_PART, Format, Limits, LiveTool, Request, Source, UsageError, UsageFault,
-    Word, Words, request_of,
+    Action, DEFAULT_PART, Format, Limits, LiveTool, Request, Source, UsageError, UsageFault, Word,
+    Words, request_of,
 };
 use ipmi_commands::{RequestLimits, report};
 use ipmi_output::Part::{self, Escaped, Number, Text};
@@ -174,7 +174,13 @@ fn run_query<E: MessageSink>(
     }
     let status = match source {
         Source::Images(images) => {
-            run_images(rt, ImageQuery::Print(query), images.as_slice(), settings, err)?
+            run_images(
+                rt,
+                ImageQuery::Print(query),
+                images.as_slice(),
+                settings,
+                err,
+            )?
         }
         Source::Live(tool, folder) => match live_of(rt, *tool, folder.as_str(), err)? {
             Some(live) => run_live(rt, query, live, settings, err)?,
@@ -294,14 +300,7 @@ fn run_live<E: MessageSink>(
 {
     let mut controller = controller_of(rt, live);
     let mut out = buffered_output(rt)?;
-    let (status, _) = print_live(
-        rt.alloc(),
-        settings,
-        query,
-        &mut controller,
-        &mut out,
-        err,
-    );
+    let (status, _) = print_live(rt.alloc(), settings, query, &mut controller, &mut out, err);
     discard(out);
     Ok(status)
 }

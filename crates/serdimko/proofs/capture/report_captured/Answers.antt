@@ -3,7 +3,7 @@ use Rattle.serdimko.proofs.CapturedLemmas.{captured, none_lost, not_lost}
 use Rattle.serdimko.proofs.capture.report_captured.Goals as goal
 
 pub returns-in-Some : goal.returns-in-Some
-returns-in-Some g c = rw c.in-Some.is (refl, refl, (c.as_str.result.now, c.say_lost.ensures))
+returns-in-Some g c = rw c.in-Some.is (refl, refl, rw (c.as_str.ensures.value, c.in_ok-line.ensures) at c.say_lost.ensures)
 
 pub returns : goal.returns
 returns g c = captured c.write_captured.result c.write_captured.ensures.saves (λ status saves.
