@@ -431,7 +431,7 @@ rows = [
     ('board like a line', 'fru list', 0, 0, 1, '0 | - | present | xy | faulty | - | - | -'),
     ('fields like faults', 'fru print 0', 0, 0, 1, 'Board Serial: ab.not present.'),
     ('fields like faults', 'fru', 0, 0, 1, 'Management Access 0x01: not present'),
-    ('fields like faults', 'fru list', 0, 0, 1, '0 | - | present | "product_fault":"checksum" | ","fault":"header_short | ab.not present.'),
+    ('fields like faults', 'fru list', 0, 0, 1, '0 | - | present | "product_fault":"checksum" | ","fault":"header_short | -'),
     ('events like faults', 'sel list', 0, 0, 2, '0002 | OEM record 0xe0 | 6e6f742070726573656e740a0a'),
     ('events like faults', 'sel elist', 0, 0, 2, '0002 | OEM record 0xe0 | 6e6f742070726573656e740a0a'),
     ('events like faults', 'sel get 2', 0, 0, 1, 'Data: 6e6f742070726573656e740a0a'),

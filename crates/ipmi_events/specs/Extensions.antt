@@ -1,5 +1,5 @@
 -- The extension codes in event data 2 and 3 (IPMI v2.0, table 42-3).
-use Rattle.std.specs.Prelude.{ℕ, ◌/◌, ◌%◌, ◌==◌, ◌&&◌, nat_le, Bool, if◌then◌else◌, List, [], ◌∷◌, ◌++◌, codes, decimal, map, Option, Some, None, option_map, option_to_list, unwrap_or}
+use Rattle.std.specs.Prelude.{ℕ, ◌/◌, ◌%◌, ◌==◌, ◌&&◌, nat_le, Bool, if◌then◌else◌, List, [], ◌∷◌, ◌++◌, codes, decimal, map, Option, Some, None, unwrap_or}
 use Rattle.ipmi_text.specs.Hex.{hex_byte}
 use Rattle.ipmi_events.specs.declared.event_data.Byte.{Byte}
 use Rattle.ipmi_events.specs.declared.event_data.EventData.{EventData}
@@ -7,7 +7,7 @@ use Rattle.ipmi_events.specs.declared.extensions.Bits.{Bits}
 use Rattle.ipmi_events.specs.declared.extensions.Field.{Field}
 use Rattle.ipmi_events.specs.declared.extensions.Form.{Form}
 use Rattle.ipmi_events.specs.Specific.{acpi_states, fru_state}
-use Rattle.ipmi_events.specs.Table.{reserved, silent, words_at}
+use Rattle.ipmi_events.specs.Table.{reserved, words_at}
 
 -- configuration errors of a power supply
 abbrev pub power_supply_errors : List (List ℕ)
@@ -194,10 +194,10 @@ logical_devices =
 abbrev pub unspecified_user : List (List ℕ)
 unspecified_user = codes "unspecified" ∷ []
 
--- why a session was deactivated, if it was
+-- why a session was deactivated
 abbrev pub session_ends : List (List ℕ)
 session_ends =
-    silent ∷
+    codes "Session deactivated by unspecified cause" ∷
     codes "Session deactivated by Close Session command" ∷
     codes "Session deactivated by timeout" ∷
     codes "Session deactivated by configuration change" ∷ []
@@ -261,6 +261,7 @@ pub record ExtensionField : Type 0 where
   pub label : List ℕ
   pub form : Form
   pub words : List (List ℕ)
+  pub code_label : List ℕ
 
 -- what a field of the program's tables says
 abbrev pub said_by : Field → ExtensionField
@@ -272,11 +273,13 @@ said_by f = record {
   label = f.label.now;
   form = f.form;
   words = map (λ s. s.now) f.words.now;
+  code_label = f.code_label.now;
 }
 
-abbrev pub field : ℕ → ℕ → ℕ → Bits → List ℕ → Form → List (List ℕ)
+-- a field with a label for a code without words
+abbrev pub coded_field : ℕ → ℕ → ℕ → Bits → List ℕ → Form → List (List ℕ) → List ℕ
     → ExtensionField
-field type first last bits label form words = record {
+coded_field type first last bits label form words code_label = record {
   sensor_type = type;
   first_offset = first;
   last_offset = last;
@@ -284,9 +287,15 @@ field type first last bits label form words = record {
   label = label;
   form = form;
   words = words;
+  code_label = code_label;
 }
 
--- The fields of event data 2, by sensor type, first and last offset, and bits. Offsets 04h to 07h
+abbrev pub field : ℕ → ℕ → ℕ → Bits → List ℕ → Form → List (List ℕ)
+    → ExtensionField
+field type first last bits label form words = coded_field type first last bits label form words []
+
+-- The fields of event data 2, by sensor type, first and last offset, and bits. Where two codes are
+-- in one byte, each has a label, so that a reserved one is in hex beside the other. Offsets 04h to 07h
 -- of type 23h are reserved. If the previous state is unknown, bits 3:0 of type 2Ch are the event's
 -- own offset.
 abbrev pub fields_of_second : List ExtensionField
@@ -297,8 +306,8 @@ fields_of_second =
     field 0x10 0x00 0x00 Bits.All (codes "memory module ") Form.Decimal [] ∷
     field 0x10 0x01 0x01 Bits.All (codes "event type ") Form.Hex [] ∷
     field 0x10 0x06 0x06 Bits.All (codes "processor ") Form.Decimal [] ∷
-    field 0x12 0x03 0x03 Bits.From7To4 [] Form.Words log_entry_actions ∷
-    field 0x12 0x03 0x03 Bits.From3To0 [] Form.Words log_types ∷
+    coded_field 0x12 0x03 0x03 Bits.From7To4 [] Form.Words log_entry_actions (codes "log entry action ") ∷
+    coded_field 0x12 0x03 0x03 Bits.From3To0 [] Form.Words log_types (codes "log type ") ∷
     field 0x12 0x04 0x04 Bits.Bit5 (codes "Diagnostic Interrupt (NMI)") Form.Flag [] ∷
     field 0x12 0x04 0x04 Bits.Bit4 (codes "OEM action") Form.Flag [] ∷
     field 0x12 0x04 0x04 Bits.Bit3 (codes "power cycle") Form.Flag [] ∷
@@ -306,12 +315,12 @@ fields_of_second =
     field 0x12 0x04 0x04 Bits.Bit1 (codes "power off") Form.Flag [] ∷
     field 0x12 0x04 0x04 Bits.Bit0 (codes "Alert") Form.Flag [] ∷
     field 0x12 0x05 0x05 Bits.Bit7 [] Form.Words of_pair ∷
-    field 0x12 0x05 0x05 Bits.From3To0 [] Form.Words clocks ∷
+    coded_field 0x12 0x05 0x05 Bits.From3To0 [] Form.Words clocks (codes "clock type ") ∷
     field 0x19 0x00 0x00 Bits.All (codes "requested ") Form.Words acpi_states ∷
     field 0x1d 0x07 0x07 Bits.From3To0 (codes "cause ") Form.Words restart_causes ∷
     field 0x21 0x00 0x09 Bits.From6To0 [] Form.Words slot_types ∷
-    field 0x23 0x00 0x08 Bits.From7To4 (codes "interrupt type ") Form.Words watchdog_interrupts ∷
-    field 0x23 0x00 0x08 Bits.From3To0 (codes "timer use ") Form.Words watchdog_uses ∷
+    coded_field 0x23 0x00 0x08 Bits.From7To4 (codes "interrupt type ") Form.Words watchdog_interrupts (codes "interrupt type ") ∷
+    coded_field 0x23 0x00 0x08 Bits.From3To0 (codes "timer use ") Form.Words watchdog_uses (codes "timer use ") ∷
     field 0x28 0x00 0x00 Bits.All (codes "sensor ") Form.Hex [] ∷
     field 0x28 0x04 0x04 Bits.All (codes "sensor ") Form.Hex [] ∷
     field 0x28 0x05 0x05 Bits.Bit7 [] Form.Words logical_devices ∷
@@ -319,8 +328,8 @@ fields_of_second =
     field 0x28 0x05 0x05 Bits.From2To0 (codes "private bus ") Form.Decimal [] ∷
     field 0x2a 0x00 0x03 Bits.From5To0 (codes "user ") Form.Decimal unspecified_user ∷
     field 0x2b 0x00 0x07 Bits.All [] Form.Words version_changes ∷
-    field 0x2c 0x00 0x07 Bits.From7To4 [] Form.Words fru_state_causes ∷
-    field 0x2c 0x00 0x07 Bits.From3To0 (codes "was ") Form.Words fru_state ∷ []
+    coded_field 0x2c 0x00 0x07 Bits.From7To4 [] Form.Words fru_state_causes (codes "cause ") ∷
+    coded_field 0x2c 0x00 0x07 Bits.From3To0 (codes "was ") Form.Words fru_state (codes "was state ") ∷ []
 
 -- The fields of event data 3, by sensor type, first and last offset, and bits. If bit 5 is set for
 -- offset 01h of type 10h, bits 4:0 have no meaning, but they are still printed.
@@ -337,7 +346,7 @@ fields_of_third =
     field 0x1d 0x07 0x07 Bits.All (codes "channel ") Form.Decimal [] ∷
     field 0x21 0x00 0x09 Bits.All (codes "slot ") Form.Decimal [] ∷
     field 0x28 0x05 0x05 Bits.All (codes "FRU device ID or address ") Form.Hex [] ∷
-    field 0x2a 0x00 0x03 Bits.From5To4 [] Form.Words session_ends ∷
+    field 0x2a 0x01 0x01 Bits.From5To4 [] Form.Words session_ends ∷
     field 0x2a 0x00 0x03 Bits.From3To0 (codes "channel ") Form.Decimal [] ∷ []
 
 unfoldable pub fields_of : Byte → List ExtensionField
@@ -381,15 +390,22 @@ text_in_form Form.Flag words value = if value == 0 then None else Some []
 text_in_form Form.Decimal words value = Some (unwrap_or (words_at words value) (decimal value))
 text_in_form Form.Hex words value = Some (codes "0x" ++ hex_byte value)
 
--- the label followed by the words, if there are any
-abbrev pub words_parts : List ℕ → Option (List ℕ) → List (List ℕ)
-words_parts label words = option_to_list (option_map (λ text. label ++ text) words)
+-- a code without words in hex after its label, if there is one
+abbrev pub code_parts : List ℕ → ℕ → List (List ℕ)
+code_parts [] value = []
+code_parts (character ∷ label) value =
+    ((character ∷ label) ++ (codes "0x" ++ hex_byte value)) ∷ []
+
+-- the words after their label
+abbrev pub words_or_code : ExtensionField → ℕ → Option (List ℕ) → List (List ℕ)
+words_or_code field value None = code_parts field.code_label value
+words_or_code field value (Some words) = (field.label ++ words) ∷ []
 
 -- the text of a field of a byte, if the event has that field
 unfoldable pub field_parts : ExtensionField → EventData → ℕ → List (List ℕ)
 field_parts field event byte =
     if is_of field event
-    then words_parts field.label (text_in_form field.form field.words (value_in field byte))
+    then words_or_code field (value_in field byte) (text_in_form field.form field.words (value_in field byte))
     else []
 
 -- the texts of the fields of a byte, in order

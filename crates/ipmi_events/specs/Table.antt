@@ -5,11 +5,7 @@ use Rattle.std.specs.Prelude.{ℕ, ◌-◌, ◌==◌, List, [], ◌∷◌, Optio
 abbrev pub reserved : List ℕ
 reserved = []
 
--- the table entry of a code for which nothing is printed
-abbrev pub silent : List ℕ
-silent = []
-
--- None for a reserved code, or for one for which nothing is printed
+-- None for a reserved code
 abbrev pub unless_reserved : Option (List ℕ) → Option (List ℕ)
 unless_reserved None = None
 unless_reserved (Some []) = None

@@ -2,7 +2,7 @@
 ghost use Rattle.std.specs.Prelude.{◌≡◌, ◌++◌, ◌∷◌, [], OnOk, IfOk, codes, decimal, map, option_map, string_bytes, unwrap_or};
 ghost use Rattle.ipmi_text.specs.Hex.{hex_byte};
 ghost use Rattle.ipmi_events.specs.Discrete.{byte_parts, data_label, discrete_details, extension_parts, raw_part, state_part, states_parts};
-ghost use Rattle.ipmi_events.specs.Extensions.{field_parts, fields_text, said_by, words_parts};
+ghost use Rattle.ipmi_events.specs.Extensions.{code_parts, field_parts, fields_text, said_by, words_or_code};
 ghost use Rattle.ipmi_events.specs.Parts.{has_parts, parts_text};
 
 use crate::event_data::{Byte, EventData, Holding};
@@ -88,26 +88,6 @@ fn push_states(text: &mut String, before: bool, event: &EventData) -> Result<boo
     Ok(has_previous | has_severity)
 }
 
-/// Appends words after their label, if there are any. Returns whether there are.
-fn push_words(
-    text: &mut String,
-    before: bool,
-    label: &str,
-    words: Option<&str>,
-) -> Result<bool, AllocError>
-    ensures text { OnOk result (string_bytes text.new ≡ string_bytes text.old
-        ++ parts_text before (words_parts label.entry.now (option_map (λ s. s.now) words.entry))) }
-    ensures said { IfOk result (λ said. said
-        ≡ has_parts (words_parts label.entry.now (option_map (λ s. s.now) words.entry))) }
-{
-    let Some(words) = words else {
-        return Ok(false);
-    };
-    push_comma(text, before)?;
-    write!(text, "{label}{words}")?;
-    Ok(true)
-}
-
 /// Appends a number after its label: its words if there are any, otherwise the number in decimal.
 fn push_decimal(
     text: &mut String,
@@ -136,6 +116,43 @@ fn push_hex(text: &mut String, before: bool, label: &str, value: u8) -> Result<(
     write!(text, "{label}0x{value}")
 }
 
+/// Appends a code without words in hex after its label. Appends nothing if the label is empty. Returns whether
+/// anything was appended.
+fn push_code(text: &mut String, before: bool, label: &str, value: u8) -> Result<bool, AllocError>
+    ensures text { OnOk result (string_bytes text.new ≡ string_bytes text.old
+        ++ parts_text before (code_parts label.now value)) }
+    ensures said { IfOk result (λ said. said ≡ has_parts (code_parts label.now value)) }
+{
+    if label.is_empty() {
+        return Ok(false);
+    }
+    push_hex(text, before, label, value)?;
+    Ok(true)
+}
+
+/// Appends the words of a field's code after its label, if there are any, otherwise the code as `push_code` does.
+/// Returns whether anything was appended.
+fn push_words(
+    text: &mut String,
+    before: bool,
+    field: &Field,
+    words: Option<&str>,
+    value: u8,
+) -> Result<bool, AllocError>
+    ensures text { OnOk result (string_bytes text.new ≡ string_bytes text.old
+        ++ parts_text before (words_or_code (said_by field.now) value (option_map (λ s. s.now) words.entry))) }
+    ensures said { IfOk result (λ said. said
+        ≡ has_parts (words_or_code (said_by field.now) value (option_map (λ s. s.now) words.entry))) }
+{
+    let Some(words) = words else {
+        return push_code(text, before, field.code_label, value);
+    };
+    let label = field.label;
+    push_comma(text, before)?;
+    write!(text, "{label}{words}")?;
+    Ok(true)
+}
+
 /// Appends the text of a field of a byte, if the event has that field. Returns whether anything was appended.
 #[tactic(auto, unfolding(crate::specs::Extensions::field_parts))]
 fn push_field(
@@ -156,8 +173,8 @@ fn push_field(
     let label = field.label;
     let value = field.value_in(byte);
     match field.form {
-        Form::Words => push_words(text, before, label, words_at(field.words, value)),
-        Form::Flag => push_words(text, before, label, (value != 0).then_some("")),
+        Form::Words => push_words(text, before, field, words_at(field.words, value), value),
+        Form::Flag => push_words(text, before, field, (value != 0).then_some(""), value),
         Form::Decimal => {
             push_decimal(text, before, label, words_at(field.words, value), value)?;
             Ok(true)

@@ -4,7 +4,7 @@ ghost use Rattle.ipmi_events.specs.Extensions.{bits_of, fields_of, fields_of_sec
 
 use crate::event_data::{Byte, EventData};
 use crate::specific::{ACPI_STATES, ACPI_STATES_OR_UNKNOWN, FRU_STATE};
-use crate::table::{RESERVED, SILENT};
+use crate::table::RESERVED;
 
 /// The bits of a field in its byte.
 #[derive(Clone, Copy)]
@@ -29,7 +29,8 @@ pub(crate) enum Bits {
 /// How a field is printed.
 #[derive(Clone, Copy)]
 pub(crate) enum Form {
-    /// As words from a table. A field without words is not printed.
+    /// As words from a table. A code without words is printed in hex after the field's code label, or not at all if that
+    /// is empty.
     Words,
     /// As its label if its bit is set. Otherwise it is not printed.
     Flag,
@@ -51,6 +52,8 @@ pub(crate) struct Field {
     pub(crate) form: Form,
     /// The words of its codes. For most decimal fields there are none.
     pub(crate) words: &'static [&'static str],
+    /// The label of a code without words. Empty for a field that is alone in its byte, which is then printed whole.
+    pub(crate) code_label: &'static str,
 }
 
 /// Configuration errors of a power supply.
@@ -214,9 +217,9 @@ const LOGICAL_DEVICES: [&str; 2] = ["not a logical FRU device", "logical FRU dev
 /// User ids that do not identify a user.
 const UNSPECIFIED_USER: [&str; 1] = ["unspecified"];
 
-/// Why a session was deactivated, if it was.
+/// Why a session was deactivated.
 const SESSION_ENDS: [&str; 4] = [
-    SILENT,
+    "Session deactivated by unspecified cause",
     "Session deactivated by Close Session command",
     "Session deactivated by timeout",
     "Session deactivated by configuration change",
@@ -273,10 +276,14 @@ const FRU_STATE_CAUSES: [&str; 16] = [
 /// The empty table of a flag or a number.
 const NO_WORDS: [&str; 0] = [];
 
-/// A row of the table of fields.
+/// A row of the table of fields. The code label is last, if there is one.
 macro_rules! field {
     ($type:literal, $first:literal, $last:literal, $bits:ident, $label:literal, $form:ident,
         $words:ident) => {
+        field!($type, $first, $last, $bits, $label, $form, $words, "")
+    };
+    ($type:literal, $first:literal, $last:literal, $bits:ident, $label:literal, $form:ident,
+        $words:ident, $code_label:literal) => {
         Field {
             sensor_type: $type,
             first_offset: $first,
@@ -285,6 +292,7 @@ macro_rules! field {
             label: $label,
             form: Form::$form,
             words: &$words,
+            code_label: $code_label,
         }
     };
 }
@@ -305,8 +313,26 @@ const SECOND: &[Field] = &[
     field!(0x10, 0x00, 0x00, All, "memory module ", Decimal, NO_WORDS),
     field!(0x10, 0x01, 0x01, All, "event type ", Hex, NO_WORDS),
     field!(0x10, 0x06, 0x06, All, "processor ", Decimal, NO_WORDS),
-    field!(0x12, 0x03, 0x03, From7To4, "", Words, LOG_ENTRY_ACTIONS),
-    field!(0x12, 0x03, 0x03, From3To0, "", Words, LOG_TYPES),
+    field!(
+        0x12,
+        0x03,
+        0x03,
+        From7To4,
+        "",
+        Words,
+        LOG_ENTRY_ACTIONS,
+        "log entry action "
+    ),
+    field!(
+        0x12,
+        0x03,
+        0x03,
+        From3To0,
+        "",
+        Words,
+        LOG_TYPES,
+        "log type "
+    ),
     field!(
         0x12,
         0x04,
@@ -322,7 +348,7 @@ const SECOND: &[Field] = &[
     field!(0x12, 0x04, 0x04, Bit1, "power off", Flag, NO_WORDS),
     field!(0x12, 0x04, 0x04, Bit0, "Alert", Flag, NO_WORDS),
     field!(0x12, 0x05, 0x05, Bit7, "", Words, OF_PAIR),
-    field!(0x12, 0x05, 0x05, From3To0, "", Words, CLOCKS),
+    field!(0x12, 0x05, 0x05, From3To0, "", Words, CLOCKS, "clock type "),
     field!(0x19, 0x00, 0x00, All, "requested ", Words, ACPI_STATES),
     field!(0x1D, 0x07, 0x07, From3To0, "cause ", Words, RESTART_CAUSES),
     field!(0x21, 0x00, 0x09, From6To0, "", Words, SLOT_TYPES),
@@ -333,7 +359,8 @@ const SECOND: &[Field] = &[
         From7To4,
         "interrupt type ",
         Words,
-        WATCHDOG_INTERRUPTS
+        WATCHDOG_INTERRUPTS,
+        "interrupt type "
     ),
     field!(
         0x23,
@@ -342,7 +369,8 @@ const SECOND: &[Field] = &[
         From3To0,
         "timer use ",
         Words,
-        WATCHDOG_USES
+        WATCHDOG_USES,
+        "timer use "
     ),
     field!(0x28, 0x00, 0x00, All, "sensor ", Hex, NO_WORDS),
     field!(0x28, 0x04, 0x04, All, "sensor ", Hex, NO_WORDS),
@@ -367,8 +395,26 @@ const SECOND: &[Field] = &[
         UNSPECIFIED_USER
     ),
     field!(0x2B, 0x00, 0x07, All, "", Words, VERSION_CHANGES),
-    field!(0x2C, 0x00, 0x07, From7To4, "", Words, FRU_STATE_CAUSES),
-    field!(0x2C, 0x00, 0x07, From3To0, "was ", Words, FRU_STATE),
+    field!(
+        0x2C,
+        0x00,
+        0x07,
+        From7To4,
+        "",
+        Words,
+        FRU_STATE_CAUSES,
+        "cause "
+    ),
+    field!(
+        0x2C,
+        0x00,
+        0x07,
+        From3To0,
+        "was ",
+        Words,
+        FRU_STATE,
+        "was state "
+    ),
 ];
 
 /// The fields of event data 3, by sensor type, first and last offset, and bits.
@@ -416,7 +462,7 @@ const THIRD: &[Field] = &[
         Hex,
         NO_WORDS
     ),
-    field!(0x2A, 0x00, 0x03, From5To4, "", Words, SESSION_ENDS),
+    field!(0x2A, 0x01, 0x01, From5To4, "", Words, SESSION_ENDS),
     field!(0x2A, 0x00, 0x03, From3To0, "channel ", Decimal, NO_WORDS),
 ];
 

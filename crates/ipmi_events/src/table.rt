@@ -5,9 +5,6 @@ ghost use Rattle.ipmi_events.specs.Table.{table_from_one, words_at};
 /// The table entry of a reserved code.
 pub(crate) const RESERVED: &str = "";
 
-/// The table entry of a code for which nothing is printed.
-pub(crate) const SILENT: &str = "";
-
 /// The words at an index of a table, if the standard has any.
 pub(crate) fn words_at(table: &[&'static str], at: u8) -> Option<&'static str>
     ensures { option_map (λ s. s.now) result ≡ words_at (map (λ s. s.now) table.now) at }

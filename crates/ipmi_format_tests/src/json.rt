@@ -2,5 +2,6 @@
 mod entries;
 mod infos;
 mod inventories;
+mod keys;
 mod memory;
 mod records;

@@ -1,10 +1,23 @@
--- A device has exactly one line.
-use Rattle.std.proofs.Common.{◌∙◌, ◌≡◌, ℕ, Option, None, Some, List, refl, sym}
+-- The line of a present device, and that a device has exactly one line.
+use Rattle.std.proofs.Common.{◌∙◌, ◌≡◌, ◌++◌, ℕ, Option, None, Some, List, ap, codes, decimal, refl, string_bytes, sym}
 use Rattle.ipmi_text.specs.Bytes.{AreBytes}
 use Rattle.ipmi_text.specs.Laws.{DecimalExists, DecimalIsUnique, MinutesTextExists, MinutesTextIsUnique}
-use Rattle.ipmi_fru.specs.Prelude.{Board, FruFault, IsFruLine, IsLineByFault, Product, header_fault}
+use Rattle.ipmi_fru.specs.Prelude.{Board, FruFault, IdentityTexts, IsFruLine, IsLineByFault, Product, header_fault, or_dash, present_line, texts_of}
+use Rattle.ipmi_fru.specs.declared.line.Identity.{Identity}
 use Rattle.ipmi_fru.proofs.ExistenceLemmas.{area_text}
 use Rattle.ipmi_fru.proofs.TextLemmas.{one_found}
+
+-- ---- a present device
+
+-- the text that was written is the line with the identity that was found
+pub present : (id : ℕ) (name : List ℕ) (identity : Identity) (found : IdentityTexts) (product part_number serial text : List ℕ)
+    → texts_of identity ≡ found → product ≡ or_dash (string_bytes identity.name)
+    → part_number ≡ or_dash (string_bytes identity.part_number)
+    → serial ≡ or_dash (string_bytes identity.serial)
+    → text ≡ decimal id ++ (codes " | " ++ (name ++ (codes " | present | " ++ (product ++ (codes " | " ++ (part_number ++ (codes " | " ++ (serial ++ codes "\n"))))))))
+    → text ≡ present_line id name found
+present id name identity found product part_number serial text found_is product_is part_number_is serial_is text_is =
+    text_is ∙ rw (product_is, part_number_is, serial_is) (ap (present_line id name) found_is)
 
 -- ---- at most one line
 

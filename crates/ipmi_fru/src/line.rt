@@ -1,8 +1,9 @@
 //! The line of a FRU device.
 ghost use Rattle.std.specs.Prelude.{◌≡◌, IfOk, option_map, string_bytes};
-ghost use Rattle.ipmi_fru.specs.Prelude.{IsFruLine, IsPresentLine, bare_line, elsewhere_line, field_text, or_dash, told_text};
+ghost use Rattle.ipmi_fru.specs.Prelude.{IsFruLine, IsPresentLine, bare_line, elsewhere_line, field_of, identity_in, is_blank, language_of, or_dash, product_or_board, text_of, texts_of};
 
 use crate::area::{AreaFault, AreaView};
+use crate::field::Field;
 use crate::header::FruView;
 use ipmi_text::fru_text;
 use std::alloc::{AllocError, Global};
@@ -10,46 +11,70 @@ use std::alloc::{AllocError, Global};
 /// The capacity for most lines.
 const LINE_CAPACITY: usize = 96;
 
-/// The index of a field in the product area and in the board area, counted from 0.
-#[derive(Clone, Copy)]
-struct Place {
-    product: usize,
-    board: usize,
+/// What a line shows of an area. A text is empty if there is no area, no such field, or a fault.
+#[derive(Drop)]
+struct Identity {
+    /// The name of the product.
+    name: String,
+    /// The part number.
+    part_number: String,
+    /// The serial number.
+    serial: String,
 }
 
-/// The name of the product.
-const PRODUCT: Place = Place {
-    product: 1,
-    board: 1,
-};
-
-/// The part number.
-const PART_NUMBER: Place = Place {
-    product: 2,
-    board: 3,
-};
-
-/// The serial number.
-const SERIAL: Place = Place {
-    product: 4,
-    board: 2,
-};
-
-/// The text of the field at an index of an area. Empty if there is no area, no such field, or a fault.
-fn field_text(
-    alloc: Global,
-    found: &Option<Result<AreaView, AreaFault>>,
-    place: usize,
-) -> Result<String, AllocError>
-    ensures { IfOk result (λ text. string_bytes text ≡ field_text found.now place) }
+/// The text of a field of the area. Empty if there is no field.
+fn text_of(alloc: Global, area: &AreaView, field: Option<Field>) -> Result<String, AllocError>
+    ensures { IfOk result (λ text. string_bytes text ≡
+        text_of (language_of area.now.kind area.now.bytes) (option_map field_of field.entry)) }
 {
-    let Some(Ok(area)) = found else {
-        return Ok(String::new(alloc));
-    };
-    match area.field(place) {
+    match field {
         Some(field) => fru_text(alloc, field.code, area.language(), field.bytes),
         None => Ok(String::new(alloc)),
     }
+}
+
+/// What a line shows of a product or a board area.
+fn identity_in(
+    alloc: Global,
+    found: &Option<Result<AreaView, AreaFault>>,
+) -> Result<Identity, AllocError>
+    ensures { IfOk result (λ identity. texts_of identity ≡ identity_in found.now) }
+{
+    let Some(Ok(area)) = found else {
+        return Ok(Identity {
+            name: String::new(alloc),
+            part_number: String::new(alloc),
+            serial: String::new(alloc),
+        });
+    };
+    Ok(Identity {
+        name: text_of(alloc, area, area.product_name())?,
+        part_number: text_of(alloc, area, area.part_number())?,
+        serial: text_of(alloc, area, area.serial_number())?,
+    })
+}
+
+/// Whether there is nothing to show.
+fn is_blank(identity: &Identity) -> bool
+    ensures { result ≡ is_blank (texts_of identity.now) }
+{
+    identity.name.is_empty() && identity.part_number.is_empty() && identity.serial.is_empty()
+}
+
+/// What a line shows of a product area, or of a board area if there is nothing to show of the product area.
+fn identity_of(
+    alloc: Global,
+    product: &Option<Result<AreaView, AreaFault>>,
+    board: &Option<Result<AreaView, AreaFault>>,
+) -> Result<Identity, AllocError>
+    ensures { IfOk result (λ identity. texts_of identity ≡
+        product_or_board (identity_in product.now) (identity_in board.now)) }
+{
+    let identity = identity_in(alloc, product)?;
+    if is_blank(&identity) {
+        return identity_in(alloc, board);
+    }
+    Ok(identity)
 }
 
 /// The text, or a dash if it is empty.
@@ -57,24 +82,6 @@ fn or_dash(text: &str) -> &str
     ensures { result.now ≡ or_dash text.now }
 {
     if text.is_empty() { "-" } else { text }
-}
-
-/// The text from the product area, or else from the board area. A dash if both are empty.
-fn told_text(
-    alloc: Global,
-    product: &Option<Result<AreaView, AreaFault>>,
-    board: &Option<Result<AreaView, AreaFault>>,
-    place: Place,
-) -> Result<String, AllocError>
-    ensures { IfOk result (λ text. string_bytes text ≡ told_text
-        (field_text product.now place.product) (field_text board.now place.board)) }
-{
-    let text = field_text(alloc, product, place.product)?;
-    if !text.is_empty() {
-        return Ok(text);
-    }
-    let text = field_text(alloc, board, place.board)?;
-    String::from_str(alloc, or_dash(&text))
 }
 
 /// The line of a device without a readable inventory.
@@ -97,9 +104,10 @@ fn present_line(
 {
     let found = inventory.product();
     let board = inventory.board();
-    let product = told_text(alloc, &found, &board, PRODUCT)?;
-    let part_number = told_text(alloc, &found, &board, PART_NUMBER)?;
-    let serial = told_text(alloc, &found, &board, SERIAL)?;
+    let identity = identity_of(alloc, &found, &board)?;
+    let product = or_dash(&identity.name);
+    let part_number = or_dash(&identity.part_number);
+    let serial = or_dash(&identity.serial);
     let mut line = String::with_capacity(alloc, LINE_CAPACITY)?;
     write!(
         line,
@@ -109,8 +117,8 @@ fn present_line(
 }
 
 /// The line of a FRU device: its id, its name, its state, and the name, part number and serial number of the product,
-/// joined by ` | `. Each of the last three is from the product area, or from the board area if the product area has
-/// none. A dash replaces an empty text. `inventory` holds the bytes of the inventory, and is None if the device is
+/// joined by ` | `. The last three are of the product area, or of the board area if the product area has none of them.
+/// A dash replaces an empty text. `inventory` holds the bytes of the inventory, and is None if the device is
 /// not present. The state is `present`, `not present`, or `faulty` if `print_fru` reports a fault of the header.
 pub fn fru_line(
     alloc: Global,

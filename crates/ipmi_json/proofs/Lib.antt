@@ -2,6 +2,8 @@ pub mod AreaLemmas
 pub mod DigitLemmas
 pub mod FruLemmas
 pub mod InventoryLawLemmas
+pub mod KeyLemmas
+pub mod LineFeedLemmas
 pub mod LineLawLemmas
 pub mod MultirecordLemmas
 pub mod NumberLemmas

@@ -1,15 +1,17 @@
 -- The statements of the laws of lines, for laws that build on them.
-use Rattle.std.specs.Prelude.{◌≡◌, ◌<◌, ℕ, List, Option, length}
+use Rattle.std.specs.Prelude.{◌≡◌, ◌≢◌, ◌<◌, ℕ, ◌++◌, List, Option, codes, length}
+use Rattle.std.specs.List.{All}
 use Rattle.ipmi_text.specs.Bytes.{AreBytes}
 use Rattle.ipmi_text.specs.declared.reading.Reading.{Reading}
 use Rattle.ipmi_records.specs.Prelude.{entry_bytes}
+use Rattle.ipmi_records.specs.declared.sdr.SdrFault.{SdrFault}
 use Rattle.ipmi_records.specs.declared.sdr.SdrView.{SdrView}
 use Rattle.ipmi_records.specs.declared.sel.SelView.{SelView}
 use Rattle.ipmi_json.specs.declared.object.Label.{Label}
-use Rattle.ipmi_json.specs.Fru.{IsFruLine}
-use Rattle.ipmi_json.specs.Info.{IsInfoLine}
+use Rattle.ipmi_json.specs.Fru.{IsFruLine, elsewhere_members}
+use Rattle.ipmi_json.specs.Info.{IsInfoLine, end_members}
 use Rattle.ipmi_json.specs.Object.{IsLineOf, Pair}
-use Rattle.ipmi_json.specs.Sdr.{IsSdrLine}
+use Rattle.ipmi_json.specs.Sdr.{IsSdrLine, bytes_members, fault_members}
 use Rattle.ipmi_json.specs.Sel.{IsSelLine}
 
 -- ---- at most one
@@ -68,3 +70,31 @@ abbrev pub NoDeviceLineIsEmpty : Type 0
 NoDeviceLineIsEmpty =
     (id : ℕ) (name inventory : Option (List ℕ)) (labels : List Label) (text : List ℕ)
     → IsFruLine id name inventory labels text → 0 < length text
+
+-- ---- each line
+
+-- its last byte is its only line feed
+pub record IsOneLine (text : List ℕ) : Type 0 where
+  pub line : List ℕ
+  pub text_is : text ≡ line ++ codes "\n"
+  pub no_line_feed : All (λ (byte : ℕ). byte ≢ 10) line
+
+-- what holds for each line of this crate, and the labels in it
+pub record ForEachLine (Holds : List Label → List ℕ → Type 0) : Type 0 where
+  pub sdr_record : (id : ℕ) (view : SdrView) (reading : Option Reading) (labels : List Label)
+      (text : List ℕ) → IsSdrLine id view reading labels text → Holds labels text
+  pub sdr_fault : (id : ℕ) (fault : SdrFault) (bytes : List ℕ) (labels : List Label)
+      (text : List ℕ) → IsLineOf (fault_members id fault bytes) labels text → Holds labels text
+  pub sdr_raw : (id next : ℕ) (bytes : List ℕ) (labels : List Label) (text : List ℕ)
+      → IsLineOf (bytes_members id next bytes) labels text → Holds labels text
+  pub entry : (id : ℕ) (view : SelView) (records : Option (List (List ℕ))) (labels : List Label)
+      (text : List ℕ) → IsSelLine id view records labels text → Holds labels text
+  pub info : (name bytes : List ℕ) (labels : List Label) (text : List ℕ)
+      → IsInfoLine name bytes labels text → Holds labels text
+  pub device : (id : ℕ) (name inventory : Option (List ℕ)) (labels : List Label) (text : List ℕ)
+      → IsFruLine id name inventory labels text → Holds labels text
+  pub elsewhere : (name : Option (List ℕ)) (labels : List Label) (text : List ℕ)
+      → IsLineOf (elsewhere_members name) labels text → Holds labels text
+  pub end : (status : ℕ) (message : Option (List ℕ)) (count : ℕ) (labels : List Label)
+      (text : List ℕ) → IsLineOf (end_members status message count) labels text
+      → Holds labels text

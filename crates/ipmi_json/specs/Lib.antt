@@ -1,6 +1,7 @@
 pub mod Areas
 pub mod Fru
 pub mod Info
+pub mod Keys
 pub mod Laws
 pub mod Multirecords
 pub mod Object

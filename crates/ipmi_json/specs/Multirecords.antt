@@ -10,7 +10,7 @@ use Rattle.ipmi_fru.specs.declared.record_text.RecordForm.{RecordForm}
 use Rattle.ipmi_json.specs.Object.{array_in, integer, object_in, Pair, text_or_null}
 use Rattle.ipmi_json.specs.Record.{raw_members}
 
--- the names of record types, starting with 00h (table 16-2); C0h to FFh are OEM types
+-- the names of record types, starting with 00h (table 16-2); 0Bh to BFh are reserved, and C0h to FFh are OEM types
 abbrev pub record_types : List (List ℕ)
 record_types =
     codes "power_supply" ∷
@@ -18,7 +18,12 @@ record_types =
     codes "dc_load" ∷
     codes "management_access" ∷
     codes "base_compatibility" ∷
-    codes "extended_compatibility" ∷ []
+    codes "extended_compatibility" ∷
+    codes "asf_fixed_smbus_device" ∷
+    codes "asf_legacy_device_alerts" ∷
+    codes "asf_remote_control" ∷
+    codes "extended_dc_output" ∷
+    codes "extended_dc_load" ∷ []
 
 abbrev pub record_type_name : ℕ → Option (List ℕ)
 record_type_name type =

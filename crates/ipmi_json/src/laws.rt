@@ -1,5 +1,6 @@
 //! Laws of lines. They follow from the definitions, so they hold for any code that writes such a text.
-ghost use Rattle.ipmi_json.specs.Laws.{DeviceLineIsUnique, EntryLineIsUnique, InfoLineIsUnique, NoDeviceLineIsEmpty, NoEntryLineIsEmpty, NoInfoLineIsEmpty, NoObjectLineIsEmpty, NoRecordLineIsEmpty, ObjectLineIsUnique, RecordLineIsUnique};
+ghost use Rattle.ipmi_json.specs.Keys.{IsLineOfObjectKeys};
+ghost use Rattle.ipmi_json.specs.Laws.{DeviceLineIsUnique, EntryLineIsUnique, ForEachLine, InfoLineIsUnique, IsOneLine, NoDeviceLineIsEmpty, NoEntryLineIsEmpty, NoInfoLineIsEmpty, NoObjectLineIsEmpty, NoRecordLineIsEmpty, ObjectLineIsUnique, RecordLineIsUnique};
 
 /// An object has at most one line for labels, so the results of `sdr_fault_line`, `sdr_raw_line`, `fru_elsewhere_line` and
 /// `end_line` are the only ones.
@@ -46,4 +47,14 @@ pub fn no_line_is_empty()
     ensures entry { NoEntryLineIsEmpty }
     ensures info { NoInfoLineIsEmpty }
     ensures device { NoDeviceLineIsEmpty }
+{}
+
+/// Each key of an object is one that `is_object_key` knows, so a label with another key makes no key stand twice.
+pub fn each_key_is_an_object_key()
+    ensures { ForEachLine IsLineOfObjectKeys }
+{}
+
+/// Each line has exactly one line feed, its last byte, whatever the texts in it are.
+pub fn each_line_has_one_line_feed()
+    ensures { ForEachLine (λ labels text. IsOneLine text) }
 {}

@@ -14,13 +14,19 @@ use json::Writer;
 use std::alloc::{AllocError, Global};
 
 /// The names of record types, starting with 00h (Platform Management FRU Information Storage Definition v1.0, table 16-2).
-const RECORD_TYPES: [&str; 6] = [
+/// 0Bh to BFh are reserved.
+const RECORD_TYPES: [&str; 11] = [
     "power_supply",
     "dc_output",
     "dc_load",
     "management_access",
     "base_compatibility",
     "extended_compatibility",
+    "asf_fixed_smbus_device",
+    "asf_legacy_device_alerts",
+    "asf_remote_control",
+    "extended_dc_output",
+    "extended_dc_load",
 ];
 
 /// The capacity for most decimals.

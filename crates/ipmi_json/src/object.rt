@@ -34,7 +34,8 @@ const DECIMALS: [&str; 256] = [
     "254", "255",
 ];
 
-/// A member with a text that a caller adds to an object, after its own members. Its key must differ from theirs.
+/// A member with a text that a caller adds to an object, after its own members. Its key must differ from theirs, which
+/// `is_object_key` knows.
 #[derive(Clone, Copy, Debug, PartialEq, Eq)]
 pub struct Label<'a> {
     /// The key.

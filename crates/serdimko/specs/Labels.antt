@@ -1,9 +1,9 @@
 -- The labels of objects: the name of an image that is one of several, and those of `--label`.
-use Rattle.std.specs.Prelude.{ℕ, ◌==◌, ◌∷◌, [], ◌++◌, List, Option, Some, None, codes, fold, length, nat_lt, option_map, if◌then◌else◌, bytes_eq}
+use Rattle.std.specs.Prelude.{ℕ, ◌==◌, ◌||◌, Bool, ◌∷◌, [], ◌++◌, List, Option, Some, None, codes, fold, length, nat_lt, option_map, if◌then◌else◌, bytes_eq}
 use Rattle.std.specs.List.{after_first, before_first, list_any, position_or_len}
+use Rattle.ipmi_json.specs.Keys.{is_object_key}
 use Rattle.ipmi_json.specs.declared.object.Label.{Label}
 use Rattle.ipmi_output.specs.Failure.{escaped_name}
-use Rattle.serdimko.specs.declared.labels.TheConstants.{KEYS}
 
 pub record KeyValue : Type 0 where
   pub key : List ℕ
@@ -41,10 +41,14 @@ labels_of image texts = fold (λ labels text. with_label labels (label_of text))
 
 -- ---- what is wrong with a label, given those before it
 
--- a key of an object, or of an earlier label
+-- the key of the image's name, or one of an object
+abbrev pub is_taken : List ℕ → Bool
+is_taken key = bytes_eq key (codes "image") || is_object_key key
+
+-- a key that is taken, or that of an earlier label
 abbrev pub key_fault : List ℕ → List KeyValue → Option (List ℕ)
 key_fault key before =
-    if list_any (λ own. bytes_eq own.now key) KEYS then Some (codes "': --json has a key of its own with this name")
+    if is_taken key then Some (codes "': --json has a key of its own with this name")
     else (if list_any (λ label. bytes_eq label.key key) before then Some (codes "': an earlier label has this key")
     else None)
 

@@ -6,85 +6,12 @@ ghost use Rattle.serdimko.specs.Labels.{fault_of_label, key_value, label_of, lab
 
 use crate::mistake::{Line, line};
 use ipmi_command_line::Word;
-use ipmi_json::Label;
+use ipmi_json::{Label, is_object_key};
 use ipmi_output::Part::{Escaped, Text};
 use std::alloc::{AllocError, Global};
 
 /// The key of the image's name, if there are several images.
 const IMAGE: &str = "image";
-
-/// The keys that a label can't have: those of all objects, and that of the image's name.
-const KEYS: [&str; 69] = [
-    "object",
-    "record_id",
-    "record_type",
-    "kind",
-    "fault",
-    "name",
-    "owner_id",
-    "owner_lun",
-    "sensor_number",
-    "entity_id",
-    "entity_name",
-    "entity_instance",
-    "sensor_type",
-    "sensor_type_name",
-    "event_type",
-    "reading",
-    "unit",
-    "reading_raw",
-    "states",
-    "state_words",
-    "status",
-    "status_words",
-    "upper_non_recoverable",
-    "upper_critical",
-    "upper_non_critical",
-    "lower_non_recoverable",
-    "lower_critical",
-    "lower_non_critical",
-    "device_access_address",
-    "device_slave_address",
-    "fru_device_id",
-    "is_logical",
-    "access_lun",
-    "raw",
-    "next_record_id",
-    "timestamp",
-    "timestamp_raw",
-    "generator_id",
-    "event_revision",
-    "sensor_name",
-    "event",
-    "event_words",
-    "direction",
-    "event_data",
-    "event_details",
-    "manufacturer_id",
-    "oem_data",
-    "state",
-    "chassis",
-    "chassis_fault",
-    "board",
-    "board_fault",
-    "product",
-    "product_fault",
-    "records",
-    "records_fault",
-    "size",
-    "version",
-    "record_count",
-    "free_space",
-    "last_addition",
-    "last_addition_raw",
-    "last_erase",
-    "last_erase_raw",
-    "overflow",
-    "operation_support",
-    "message",
-    "count",
-    "image",
-];
 
 /// A key and the value after `=`, if there is one.
 fn name_and_value(word: &str) -> (&str, Option<&str>)
@@ -127,7 +54,7 @@ fn fault_of(label: Option<Label<'_>>, before: &[Label<'_>]) -> Option<&'static s
     let Some(label) = label else {
         return Some("' is not KEY=VALUE");
     };
-    if KEYS.contains(&label.key) {
+    if label.key == IMAGE || is_object_key(label.key) {
         return Some("': --json has a key of its own with this name");
     }
     if has_key(before, label.key) {

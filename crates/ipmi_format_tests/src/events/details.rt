@@ -96,28 +96,42 @@ const EXTENSIONS: &str = "05 c402ff|network controller 2
 10 f60180|processor 1, Vendor-specific processor number
 10 f60200|processor 2, Entity Instance number
 12 c331ff|log cleared, OEM 1
-12 c30fff|entry added
+12 c30fff|entry added, log type 0x0f
+12 c362ff|log entry action 0x06, OEM 2
+12 c3f3ff|log entry action 0x0f, log type 0x03
 12 c429ff|Diagnostic Interrupt (NMI), power cycle, Alert
 12 c416ff|OEM action, reset, power off
 12 c400ff|data 2 0x00
 12 c581ff|second of pair, SDR Timestamp Clock updated
+12 c502ff|first of pair, clock type 0x02
 19 f0050d|requested S5 / G2 soft-off, at the time unknown
 19 f00d0e|data 2 0x0d, data 3 0x0e
 1d f70102|cause Chassis Control command, channel 2
 21 f2870c|DIMM/memory device, slot 12
 23 c024ff|interrupt type NMI, timer use SMS/OS
 23 c8f1ff|interrupt type unspecified, timer use BIOS FRB2
-23 c846ff|data 2 0x46
+23 c846ff|interrupt type 0x04, timer use 0x06
+23 c816ff|interrupt type SMI, timer use 0x06
+23 c042ff|interrupt type 0x04, timer use BIOS/POST
+23 c942ff|data 2 0x42
 28 c020ff|sensor 0x20
 28 c43aff|sensor 0x3a
 28 f59342|logical FRU device, LUN 2, private bus 3, FRU device ID or address 0x42
 2a f10321|user 3, Session deactivated by timeout, channel 1
+2a f10301|user 3, Session deactivated by unspecified cause, channel 1
+2a f1041f|user 4, Session deactivated by Close Session command, channel 15
+2a f10032|user unspecified, Session deactivated by configuration change, channel 2
 2a f0c40e|user 4, channel 14
-2a f00001|user unspecified, channel 1
+2a f00021|user unspecified, channel 1
+2a f2053f|user 5, channel 15
+2a f30531|user 5, channel 1
+2a f40531|data 2 0x05, data 3 0x31
 2b c109ff|system firmware (EFI / BIOS) change
 2b c118ff|data 2 0x18
 2c c437ff|State Change due to operator pressing the hot swap push button, was FRU Communication Lost
-2c c4f9ff|State Change, Cause Unknown
+2c c4f9ff|State Change, Cause Unknown, was state 0x09
+2c c4b1ff|cause 0x0b, was FRU Inactive
+2c c4e8ff|cause 0x0e, was state 0x08
 01 f05c5a|data 2 0x5c, data 3 0x5a
 01 f0ffff|data 2 0xff, data 3 0xff";
 

@@ -20,6 +20,14 @@ const LINES: &str = "01000000000000ff|present | - | - | -
 02000000000000fe|faulty | - | - | -
 01000000000000fe|faulty | - | - | -";
 
+/// The same of inventories with both areas. The board's fields are MF, BN, BS and BP, in the last case MF alone. The
+/// product has a name; a serial number; a manufacturer and a version; the same two.
+const BOTH_AREAS: &str =
+    "01000001040000fa010300000000c24d46c2424ec24253c24250c0c100000029010200c0c2504ec0c0c0c100000000dc|present | PN | - | -
+01000001040000fa010300000000c24d46c2424ec24253c24250c0c100000029010200c0c0c0c0c25358c100000000cf|present | - | - | SX
+01000001040000fa010300000000c24d46c2424ec24253c24250c0c100000029010200c2504dc0c0c25631c0c1000054|present | BN | BP | BS
+01000001030000fb010200000000c24d46c0c0c0c10000a7010200c2504dc0c0c25631c0c1000054|present | - | - | -";
+
 /// Asserts the line of device 7, PSU 1, with this inventory.
 fn assert_line(rt: &impl Abort, alloc: Global, inventory: &str, wanted: &str) {
     let bytes = bytes_of(rt, alloc, inventory);
@@ -41,14 +49,18 @@ fn each_inventory_has_its_line(rt: HostRuntime) {
     }
 }
 
+// The columns are of one area, so the name and the serial number are never of two devices.
 #[test]
-fn the_product_is_told_before_the_board(rt: HostRuntime) {
-    let line = "7 | PSU 1 | present | 123- | PQ | SX";
+fn the_columns_are_of_the_product_or_of_the_board(rt: HostRuntime) {
+    let line = "7 | PSU 1 | present | - | PQ | SX";
     assert_line(&rt, rt.alloc(), BOARD_AND_PRODUCT, line);
+    for case in BOTH_AREAS.lines() {
+        assert_line_of_case(&rt, rt.alloc(), case);
+    }
 }
 
 #[test]
-fn the_board_is_told_where_there_is_no_product(rt: HostRuntime) {
+fn the_board_is_shown_where_there_is_no_product(rt: HostRuntime) {
     let line = "7 | PSU 1 | present | 123- | - | A\u{e9}";
     assert_line(&rt, rt.alloc(), BOARD, line);
     assert_line(&rt, rt.alloc(), FAULTY_PRODUCT, line);

@@ -1,6 +1,8 @@
 //! Inventories.
-use crate::cases::{assert_line, bytes_of};
+use crate::cases::{assert_line, byte_of, bytes_of, parts};
 use ipmi_json::{Label, fru_elsewhere_line, fru_line};
+use std::alloc::Global;
+use std::process::Abort;
 
 /// An inventory with each kind of area and record, and each fault except those of the header.
 pub(crate) const MIXED: &str =
@@ -24,6 +26,23 @@ const ABSENT_LINE: &str =
 /// With a label.
 pub(crate) const ELSEWHERE_LINE: &str =
     r#"{"object":"fru","fru_device_id":null,"name":"PSU1","state":"elsewhere","fault":null,"chassis":null,"chassis_fault":null,"board":null,"board_fault":null,"product":null,"product_fault":null,"records":null,"records_fault":null,"size":null,"raw":null,"host":"web17"}"#;
+
+/// `type|name` of multirecords, by table 16-2. 0Bh to BFh are reserved.
+const RECORD_TYPES: &str = r#"00|"power_supply"
+01|"dc_output"
+02|"dc_load"
+03|"management_access"
+04|"base_compatibility"
+05|"extended_compatibility"
+06|"asf_fixed_smbus_device"
+07|"asf_legacy_device_alerts"
+08|"asf_remote_control"
+09|"extended_dc_output"
+0a|"extended_dc_load"
+0b|null
+bf|null
+c0|"oem"
+ff|"oem""#;
 
 pub(crate) const HOST: Label = Label {
     key: "host",
@@ -67,4 +86,26 @@ fn devices_that_tell_nothing(rt: HostRuntime) {
         fru_elsewhere_line(alloc, Some("PSU1"), &[HOST]),
         ELSEWHERE_LINE,
     );
+}
+
+/// Asserts the name of the type of a record without data, which is the last one of an inventory without areas.
+fn assert_type_name(rt: &impl Abort, alloc: Global, case: &str) {
+    let (digits, name) = parts(rt, case);
+    let kind = byte_of(rt, digits);
+    let sum = 0u8.wrapping_sub(kind).wrapping_sub(0x82);
+    let bytes = [1, 0, 0, 0, 0, 1, 0, 0xfe, kind, 0x82, 0, 0, sum];
+    let line = fru_line(alloc, 0, None, Some(&bytes), &[]).expect(rt, case);
+    let line = std::str::from_utf8(&line).expect(rt, case);
+    let wanted = format!(in alloc;
+        "\"records\":[{{\"kind\":\"other\",\"type\":{kind},\"type_name\":{name},\"raw\":\"\"}}],\"records_fault\":null"
+    );
+    let wanted = wanted.expect(rt, case);
+    assert!(rt; line.contains(wanted.as_str()), "{case}: got {line}");
+}
+
+#[test]
+fn each_record_type_has_its_name(rt: HostRuntime) {
+    for case in RECORD_TYPES.lines() {
+        assert_type_name(&rt, rt.alloc(), case);
+    }
 }
