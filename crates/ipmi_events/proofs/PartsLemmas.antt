@@ -1,5 +1,5 @@
 -- Appending lists of parts to a text.
-use Rattle.std.proofs.Common.{◌≡◌, ◌∙◌, ℕ, ◌+◌, ◌<◌, Bool, true, false, ◌||◌, List, [], ◌∷◌, ◌++◌, append_assoc, ap, sym, refl, length, get_or, drop, map}
+use Rattle.std.proofs.Common.{◌≡◌, ℕ, ◌+◌, ◌<◌, Bool, true, false, ◌||◌, List, [], ◌∷◌, ◌++◌, append_assoc, ap, refl, length, get_or, drop, map}
 use Rattle.std.proofs.lemmas.List.{drop_more}
 use Rattle.ipmi_events.specs.declared.event_data.EventData.{EventData}
 use Rattle.ipmi_events.specs.declared.event_data.Byte.{Byte}
