@@ -4,7 +4,7 @@ pub use Rattle.ipmi_commands.specs.Asking.{InfoSays, LacksInventory, PieceErrorI
 pub use Rattle.ipmi_commands.specs.Calls.{calls_for_point, calls_for_points, calls_for, most_after, most_for_one, most_on_walk, walk_call_bound}
 pub use Rattle.ipmi_commands.specs.Job.{entries_in, entries_job, IsFrom, IsJob, IsNamed, IsPlace, job_in, job_of, job_with, listing, listing_in, lists_all, searches, shelf_of}
 pub use Rattle.ipmi_commands.specs.Laws.{AreInText, AreOfBytes, FinishedRunsAreOne, ItemsHaveAText, IsInText, IsOfBytes, IsOfText, IsRowInText, ItemsHaveOneText}
-pub use Rattle.ipmi_commands.specs.Listing.{CallsAlong, Counted, CountsEntries, end_of, IsOnWalk, is_reached, KeepsListing, ListingCalls, Lists, ListsAfter, ListsAll, ListsAlong, ListsHonestly, OnEachWalk}
+pub use Rattle.ipmi_commands.specs.Listing.{CallsAlong, Counted, CountsEntries, end_of, IsOnWalk, is_reached, KeepsListing, ListingCalls, Lists, ListsAfter, ListsAll, ListsAlong, ListsHonestly, OnEachWalk, ReachesEnd}
 pub use Rattle.ipmi_commands.specs.Meanwhile.{IsTextWhile, KeepsAt, KeepsFor, OnGrowingListing}
 pub use Rattle.ipmi_commands.specs.Output.{and_then, count_if, IsCut, no_output, OnBytes, Output, piece_of}
 pub use Rattle.ipmi_commands.specs.PagedRun.{entries_with, PagesAfter, ReadsThenPages, RunsNamedInPages, RunsPaged, RunsPagedCommand}
