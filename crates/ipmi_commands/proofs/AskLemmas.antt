@@ -1,8 +1,8 @@
 -- The state after a request for a reading, an info or an inventory.
-use Rattle.std.proofs.Common.{◌≡◌, ℕ, Bool, false, Result, Err, List, refl, arith, IsErrAnd}
-use Rattle.ipmi_commands.specs.Below.{CodeClass, CursorState, Failure, RefusesRecord, RefusesValue, IsStep, StepLeaves, Ended, Seen, IsHonest}
+use Rattle.std.proofs.Common.{◌≡◌, ◌⊎◌, inl, inr, ℕ, Bool, false, Option, Some, Result, Err, List, refl, arith, IsErrAnd}
+use Rattle.ipmi_commands.specs.Below.{CodeClass, CursorState, End, Failure, RefusesRecord, RefusesValue, IsStep, StepLeaves, Ended, Seen, IsHonest}
 use Rattle.ipmi_commands.specs.Run.{MayEndOn}
-use Rattle.ipmi_commands.specs.Prelude.{end_of, ending_of, EndsListing, failure_of, Form, PieceErrorIsTrue, shelf_of, ReadError, AtEnd, Cause, CountsSo, FindsNone, IsFine, AsksAt, NoMemory, ReadPoint}
+use Rattle.ipmi_commands.specs.Prelude.{end_of, ending_of, EndsListing, failure_of, Form, PieceErrorIsTrue, ReachesEnd, shelf_of, ReadError, AtEnd, Cause, CountsSo, FindsNone, IsFine, AsksAt, NoMemory, ReadPoint}
 use Rattle.ipmi_commands.proofs.CountLemmas.{ends_as, ends_here}
 
 -- the reason for the failure is returned unchanged
@@ -56,3 +56,13 @@ step_ends_listing form {now} {next} ended shelf step = (step.says, rw (← shelf
     on : (now next : CursorState) (ended : Ended) → StepLeaves now next (Err ended)
         → MayEndOn now.shelf ended
     on now next ended leaves = grind arith
+
+-- a listing that reached its limit or the end of the shelf
+pub reaches_end : (form : Form) (wrote : Bool) (count : ℕ) (most : Option ℕ) (now : CursorState)
+    → (most ≡ Some count) ⊎ (now.place ≡ End) → ReachesEnd most now (end_of form wrote count)
+reaches_end (Form.Block wording name) false count most now (inl limit) = inl (rw limit refl)
+reaches_end (Form.Block wording name) false count most now (inr end) = inr end
+reaches_end form wrote count most now at = grind arith
+
+pub unread_reaches : (unread : ReadError) (most : Option ℕ) (now : CursorState) → ReachesEnd most now (Err (failure_of unread))
+unread_reaches unread most now = grind arith

@@ -1,13 +1,15 @@
 -- The blocks of found sensors, printed one after another.
-use Rattle.std.proofs.Common.{◌≡◌, ℕ, ◌+◌, ◌<◌, Bool, true, cond, Ok, Err, Result, List, [], ◌∷◌, ◌++◌, length, take, drop, get_or, refl, sym, ap, subst, ◌∙◌, false, take-append-drop}
+use Rattle.std.proofs.Common.{◌≡◌, ℕ, ◌+◌, ◌<◌, Bool, true, cond, Ok, Err, Result, List, [], ◌∷◌, ◌++◌, length, take, drop, get_or, refl, sym, ap, subst, ◌∙◌, ◌==◌, arith, false, take-append-drop}
 use Rattle.std.specs.List.{Contains}
+use Rattle.std.proofs.lemmas.Bool.Decides.{nat_tests}
 use Rattle.std.proofs.lemmas.List.{at_drop_more, take_more}
 use Rattle.std.proofs.lemmas.List.Folds.{list_any_at}
 use Rattle.ipmi_records.specs.Sdr.{name_of}
-use Rattle.ipmi_commands.specs.Below.{Failure, Place, place_after, Row, SdrFault, SdrView, sdr_view_of, Store}
+use Rattle.ipmi_commands.specs.Below.{Done, Failure, Place, place_after, Row, SdrFault, SdrView, sdr_view_of, Store}
 use Rattle.ipmi_commands.specs.Output.{and_then, no_output, Output, piece_of}
-use Rattle.ipmi_commands.specs.Prelude.{AreTexts, Form, IfChosen, IsBlockIn, IsBlockOfName, is_name, IsPieceOver, reading_for, row_items, Wording, WritesPiece}
+use Rattle.ipmi_commands.specs.Prelude.{AreTexts, Form, IfChosen, IsBlockIn, IsBlockOfName, is_name, IsPieceOver, reading_for, row_items, rows_end, some_has_name, Wording, WritesPiece}
 use Rattle.ipmi_commands.specs.Sensors.{AreBlocks, BlocksAreOfListing, Found, found_among, found_row, has_one_of, IsBlockOfFound, IsPieceOfFound, reading_in, PrintsBlocks, PrintsFirst, PrintsFound}
+use Rattle.ipmi_commands.proofs.NameLemmas.{HasItems, name_counted}
 use Rattle.ipmi_commands.proofs.OutputLemmas.{nothing_then, then_assoc, then_nothing}
 
 module _ (wording : Wording) (name : List ℕ) where
@@ -123,9 +125,15 @@ module _ (wording : Wording) (names : List (List ℕ)) (name : List ℕ) (among 
   texts_of_blocks start (row ∷ walk) text are =
       row_texts start row walk (λ rest. texts_of_blocks (place_after row.next) walk rest) (has_one_of names (sdr_view_of row.bytes)) refl text are
 
+-- whether anything was counted decides the end
+end_by_count : (wording : Wording) (name : List ℕ) (walk : List Row) (old new text : Output) → new ≡ and_then old text
+    → HasItems (some_has_name name walk) text.pieces
+    → cond (new.pieces == old.pieces) (Err (Failure.NoName name)) (Ok tt) ≡ rows_end (Form.Block wording name) walk Done
+end_by_count wording name walk old new text is has = grind (arith, nat_tests, ap (λ (o : Output). o.pieces) is)
+
 pub blocks_of_listing : BlocksAreOfListing
-blocks_of_listing wording names name store start walk old new among printed = record {
-  text = printed.text;
-  are = texts_of_blocks wording names name among store start walk printed.text printed.are;
-  new_is = printed.new_is;
-}
+blocks_of_listing wording names name store start walk old new among printed =
+    let texts = texts_of_blocks wording names name among store start walk printed.text printed.are in (
+      record { text = printed.text; are = texts; new_is = printed.new_is },
+      end_by_count wording name walk old new printed.text printed.new_is (name_counted wording name store start walk printed.text texts),
+    )

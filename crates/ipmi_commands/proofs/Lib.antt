@@ -1,3 +1,4 @@
+mod AlongLemmas
 mod AskLemmas
 mod BlockLemmas
 mod CallLemmas

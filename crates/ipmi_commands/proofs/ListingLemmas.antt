@@ -1,15 +1,16 @@
 -- A listing, step by step of its cursor, with the piece of each record.
-use Rattle.std.proofs.Common.{◌≡◌, ◌≢◌, ◌⊎◌, inl, inr, ℕ, ◌+◌, ◌<◌, ◌≤◌, true, false, IsTrue, Option, None, Some, IfOk, Result, Ok, Err, List, [], ◌∷◌, ◌==◌, ◌||◌, not, length, take, drop, refl, sym, ap, ◌∙◌, arith, take_all, length-drop, length-take-le, take-add, take-append-drop, Bool}
-use Rattle.std.proofs.lemmas.List.{drop-drop, take-take}
+use Rattle.std.proofs.Common.{◌≡◌, ◌≢◌, ◌⊎◌, ℕ, ◌+◌, ◌<◌, ◌≤◌, true, false, IsTrue, Option, None, Some, IfOk, Result, Ok, Err, List, [], ◌∷◌, ◌==◌, ◌||◌, not, length, take, drop, refl, sym, ap, ◌∙◌, arith, take_all, length-drop, length-take-le, take-add, take-append-drop, Bool}
+use Rattle.std.proofs.lemmas.List.{take-take}
 use Rattle.std.specs.FinSet as set
 use Rattle.std.specs.FinSet.{len-empty}
 use Rattle.std.specs.Ordering.{nat_cmp}
-use Rattle.ipmi_commands.specs.Below.{step_call_bound, digits, End, First, first_row, KeepsReservations, len_of, look, Shelf, current, Place, Ended, Row, Store, rows_of, MayFail, WalkEnd, WalkStep, Done, CycleAt, MissingAt, place_after, place_after_rows, Seen, IsHonest, AsksNothing, CursorState, CursorHoldsCurrent, StandsAt, FailsAt, IsStep, NotGivenUpOrRefused, StepAnswers, StepIsHonest, StepLeaves, asked_at, Ending, Failure, start_of}
+use Rattle.ipmi_commands.specs.Below.{End, First, first_row, KeepsReservations, Shelf, current, Place, Ended, Row, Store, rows_of, MayFail, WalkEnd, Done, CycleAt, MissingAt, place_after, place_after_rows, Seen, IsHonest, CursorState, CursorHoldsCurrent, FailsAt, IsStep, NotGivenUpOrRefused, StepAnswers, StepIsHonest, asked_at, Ending, Failure, start_of}
 use Rattle.ipmi_commands.specs.declared.limits.RequestLimits.{RequestLimits}
-use Rattle.ipmi_commands.specs.Prelude.{AsksAt, AtEnd, AtRecord, CallsAlong, calls_for, Cause, cause_of, cause_of_unread, Change, change, CountsSo, end_of, points_at_walk_end, ending_of, EndsFor, failure_of, FindsIt, FindsNone, first_end, first_rows, Form, HasFirstItems, IsAllowed, IsAmong, IsFine, IsFresh, IsOnWalk, is_reached, OnWalk, walk_call_bound, IsPieceOver, listing, listing_plan, Lists, ListsAlong, ListsHonestly, Item, IsStopAmong, most_after, most_for_one, IsWithin, OnEachWalk, Plan, Printed, row_items, rows_end, OfRow, shelf_of, ReadPoint, points_because_of, StopsAt, TracesListing, ReadError}
+use Rattle.ipmi_commands.specs.Prelude.{AsksAt, AtEnd, AtRecord, Cause, cause_of, cause_of_unread, Change, change, CountsSo, end_of, points_at_walk_end, ending_of, EndsFor, failure_of, FindsIt, FindsNone, first_end, first_rows, Form, HasFirstItems, IsAllowed, IsAmong, IsFine, IsFresh, IsOnWalk, is_reached, OnWalk, walk_call_bound, IsPieceOver, listing, listing_plan, Lists, ListsAlong, ListsHonestly, Item, IsStopAmong, most_after, most_for_one, IsWithin, OnEachWalk, Plan, Printed, row_items, rows_end, OfRow, shelf_of, ReadPoint, points_because_of, StopsAt, TracesListing, ReadError}
 use Rattle.ipmi_commands.specs.Output.{and_then, IsCut, Output, piece_of}
+use Rattle.ipmi_commands.proofs.AlongLemmas.{in_all, IsAlong, left_rows, one_more, row_is, stepped, StepsAlong, stopped_along, used}
 use Rattle.ipmi_commands.proofs.AskLemmas.{asks_as}
-use Rattle.ipmi_commands.proofs.CallLemmas.{HasCalled, at_limit, called_ended, called_more, called_stopped, calls_ended, digits_some, first_end-all, first_end-none, first_row-first_rows, first_rows-all, next_calls, next_one, none_left, not_at_limit, place_after_rows-append, within_more}
+use Rattle.ipmi_commands.proofs.CallLemmas.{HasCalled, at_limit, called_ended, called_more, called_stopped, calls_ended, first_end-all, first_end-none, first_rows-all, none_left, not_at_limit, place_after_rows-append, within_more}
 use Rattle.ipmi_commands.proofs.CountLemmas.{between, ends_since}
 use Rattle.ipmi_commands.proofs.ItemLemmas.{cut_after, one_printed, printed_joined, row_item, row_items-next, row_items-split, stops_after}
 use Rattle.ipmi_commands.proofs.MeanwhileLemmas.{keeps_at_same}
@@ -22,9 +23,6 @@ use Rattle.ipmi_commands.proofs.PointLemmas.{asked_first, end_point, points_at_w
 -- the place of the first of them, and the rows
 abbrev from_here : Place → List Row → ℕ → Place
 from_here start walk k = place_after_rows start (take k walk)
-
-abbrev used : Option ℕ → List Row → ℕ → List Row
-used most walk k = first_rows most (drop k walk)
 
 -- the first of them
 pub take_used : (most : Option ℕ) (count : ℕ) (rows : List Row) → IsWithin most count
@@ -41,18 +39,12 @@ place_here most count start walk k within =
 
 -- ---- the state so far
 
--- along a walk: the number of rows passed, the number printed of them, and the number of calls left
-pub record WentAlong (form : Form) (tries : ℕ) (most : Option ℕ) (passed printed calls_left : ℕ)
-    (begun now : CursorState) (c : Change) (start : Place) (walk : List Row) (k : ℕ) : Type 0 where
-  pub stands : StandsAt (rows_of (shelf_of form) c.seen.store) start walk (k + passed) now
-  pub calls : c.seen'.calls + digits now.part + calls_left
-      ≤ c.seen.calls + calls_for form c.seen.store tries (used most walk k) + digits begun.part
+-- along a walk: the cursor, and the rows printed
+pub record WentAlong (form : Form) (tries : ℕ) (most : Option ℕ) (count : ℕ) (begun now : CursorState)
+    (c : Change) (start : Place) (walk : List Row) (k : ℕ) : Type 0 where
+  pub along : IsAlong form tries most count begun now c.seen c.seen' start walk k
   pub are_printed : Printed (IsPieceOver c.seen.store)
-      (row_items form (from_here start walk k) (take printed (used most walk k))) c.old c.new
-
--- the rows within the limit that were not returned yet
-abbrev left_rows : Option ℕ → ℕ → List Row → ℕ → List Row
-left_rows most count walk k = drop count (used most walk k)
+      (row_items form (from_here start walk k) (take count (used most walk k))) c.old c.new
 
 -- over an honest controller
 pub record Went (form : Form) (tries : ℕ) (most : Option ℕ) (count : ℕ) (begun now : CursorState)
@@ -62,8 +54,7 @@ pub record Went (form : Form) (tries : ℕ) (most : Option ℕ) (count : ℕ) (b
   pub holds : IsTrue c.seen.plain → CursorHoldsCurrent begun c.seen → CursorHoldsCurrent now c.seen'
   pub along : c.seen'.stores_added ≡ c.seen.stores_added
       → OnEachWalk (shelf_of form) begun c.seen.store
-      (λ start walk end k. WentAlong form tries most count count
-      (calls_for form c.seen.store tries (left_rows most count walk k)) begun now c start walk k)
+      (λ start walk end k. WentAlong form tries most count begun now c start walk k)
   pub tracing : Tracing form count begun now c
 
 -- a listing that continues
@@ -100,11 +91,6 @@ step_ends tries old new s s' result tries_are step = let counts = step_counts ol
   where
     fine : (r : Result (Option Row) Ended) → NotGivenUpOrRefused r → IsFine (step_cause r)
     fine r is = grind arith
-
--- a step that returned a record made a call
-asks_something : (now next : CursorState) (row : Row) → StepLeaves now next (Ok (Some row))
-    → AsksNothing now → ⊥
-asks_something now next row leaves asks = grind arith
 
 -- the place at which a step failed is on the walk
 on_walk : (rows : List Row) (start now there : Place)
@@ -190,13 +176,13 @@ module _ {form : Form} {tries : ℕ} {most : Option ℕ} {count : ℕ} {wrote : 
           holds = ok_end _ form wrote count went.holds;
           along = λ same start walk end k on.
               let there = went.along same start walk end k on in
-              let fits : count ≤ length (drop k walk) = omega (arith, there.stands.within, length-drop k walk) in
+              let fits : count ≤ length (drop k walk) = omega (arith, there.along.stands.within, length-drop k walk) in
               let count_is : count ≡ length (used most walk k) = rw limit (sym (length-take-le count (drop k walk) fits)) in
               let end_is : first_end most (drop k walk) end ≡ Done = rw limit (first_end-none count (drop k walk) end fits) in
               record {
                 leaves = all_listed s.store start walk end k Done (end_of form wrote count) count_is end_is (end_cause form wrote count) (ends_by_name s.store (from_here start walk k)) there.are_printed;
-                calls = λ part. omega (arith, there.calls, digits_some now.part (kept.called.keeps.part part));
-                all = ok_end _ form wrote count (record { count_is = count_is; stands = there.stands; calls = λ limited. omega (arith, there.calls) });
+                calls = λ part. stopped_along there.along (kept.called.keeps.part part) part;
+                all = ok_end _ form wrote count (record { count_is = count_is; stands = there.along.stands; calls = λ limited. omega (arith, there.along.calls) });
               };
           traces = traced_full wrote most went.tracing limit kept.within kept.has_written;
         };
@@ -226,43 +212,23 @@ module _ {form : Form} {tries : ℕ} {most : Option ℕ} {count : ℕ} {wrote : 
       parts : (s'.stores_added ≡ s.stores_added) × (s''.stores_added ≡ s'.stores_added)
       parts = between s s' s'' (kept.went h).ends.stays (honest_step h).stays same
 
-      there : WentAlong form tries most count count
-          (calls_for form s.store tries (left_rows most count walk k)) begun now (change s s' old new) start walk k
+      there : WentAlong form tries most count begun now (change s s' old new) start walk k
       there = (kept.went h).along parts.0 start walk end k on
 
-      same_rows : rows_of now.shelf s'.store ≡ rows_of (shelf_of form) s.store
-      same_rows = rw kept.shelf (ap (rows_of (shelf_of form)) ((kept.went h).ends.stays.store.stays parts.0))
-
       -- the step along the walk
-      stepped : WalkStep (rows_of (shelf_of form) s.store) start walk end
-          (k + count) now next result
-      stepped = (rw same_rows at ((step.walks (kept.went h).ends.stays.honest).follows parts.1 start walk end (k + count))) on.walks on.ends there.stands
-
-      -- the step requests the next row or no row, or makes no call
-      asks_next : AsksNothing now
-          ⊎ (len_of (look (rows_of (shelf_of form) s.store) (asked_at now.place))
-          ≡ len_of (first_row (drop (k + count) walk)))
-      asks_next = (rw same_rows at (step.asks (kept.went h).ends.stays.honest start walk end (k + count))) on.walks on.ends there.stands
-
-      -- its calls are within the bound for the next row, or for no row
-      for_next : len_of (look (rows_of (shelf_of form) s.store) (asked_at now.place))
-          ≡ len_of (first_row (drop (k + count) walk))
-          → s''.calls + digits next.part ≤ s'.calls
-          + step_call_bound tries (len_of (first_row (drop (k + count) walk))) + digits now.part
-      for_next is = rw (same_rows, kept.tries_are, is) at ((honest_step h).calls parts.1)
-
-      next_row : first_row (left_rows most count walk k) ≡ first_row (drop (k + count) walk)
-      next_row = first_row-first_rows most count (drop k walk) below ∙ ap first_row (drop-drop count k walk)
-
-      -- so all calls of the listing are within the bound
-      in_all : CallsAlong form tries (used most walk k) begun s s''
-      in_all part =
-          let calls = there.calls in
-          let bound = rw next_row at (next_calls form s.store tries (left_rows most count walk k)) in
-          elim asks_next [
-            | inl nothing ↦ omega (arith, bound, calls, ap (λ (x : Seen). x.calls) (step.no_call nothing), digits_some now.part (kept.called.keeps.part part))
-            | inr is ↦ omega (arith, bound, calls, for_next is, digits_some next.part step.same.part_not_zero)
-          ]
+      here : StepsAlong form tries most count begun now next s s' s'' result start walk end k
+      here = record {
+        shelf = kept.shelf;
+        tries_are = kept.tries_are;
+        some = kept.called.keeps.part;
+        below = below;
+        stays = (kept.went h).ends.stays;
+        first = parts.0;
+        then_ = parts.1;
+        on = on;
+        there = there.along;
+        step = step;
+      }
 
       -- at the end of the walk
       count_all : k + count ≡ length walk → count ≡ length (used most walk k)
@@ -285,11 +251,11 @@ module _ {form : Form} {tries : ℕ} {most : Option ℕ} {count : ℕ} {wrote : 
           let rows = rows_of (shelf_of form) s.store in
           let at = from_here start walk k in
           let rest = drop k walk in
-          let now_is = on_walk rows start now.place (place_after_rows start (take (k + count) walk)) there.stands.place fails.not_at_end in
+          let now_is = on_walk rows start now.place (place_after_rows start (take (k + count) walk)) there.along.stands.place fails.not_at_end in
           let place = place_here most count start walk k kept.within in
           let past : left_rows most count walk k ≡ [] → IsAmong (points_at_walk_end at rest (first_end most rest end)) (AtRecord (asked_at (place_after_rows at (take count (used most walk k))))) = λ none.
           let least = none_left most count rest below none in
-          let all : k + count ≡ length walk = omega (arith, least, there.stands.within, length-drop k walk) in
+          let all : k + count ≡ length walk = omega (arith, least, there.along.stands.within, length-drop k walk) in
           let beyond : IsWithin most (length rest + 1) = let size : length rest ≡ count = omega (arith, all, length-drop k walk) in rw size below in
           let whole = take_all (k + count) walk (omega (arith, all)) in
           let joined : points_at_walk_end at rest end ≡ points_at_walk_end start walk end = points_at_walk_end-joined start (take k walk) rest end ∙ ap (λ (l : List Row). points_at_walk_end start l end) (take-append-drop k walk) in
@@ -310,7 +276,7 @@ module _ {form : Form} {tries : ℕ} {most : Option ℕ} {count : ℕ} {wrote : 
       honest = λ h. record {
         ends = all_ends wanted step h;
         holds = tt;
-        along = λ same start walk end k on. record { leaves = leaves h same on ended step; calls = in_all wanted step h same on; all = tt };
+        along = λ same start walk end k on. record { leaves = leaves h same on ended step; calls = in_all (here wanted step h same on); all = tt };
         traces = traced_ended most (kept.went h).tracing ended step (kept.went h).ends.stays.honest (below wanted step);
       };
     }
@@ -320,10 +286,10 @@ module _ {form : Form} {tries : ℕ} {most : Option ℕ} {count : ℕ} {wrote : 
             → IsOnWalk (rows_of (shelf_of form) s.store) start walk end k begun → (e : Ended)
             → IsStep now next s' s'' (Err e)
             → LeavesHere s.store form most start walk end k old new (Err (Failure.Ended e))
-        leaves h same on (Ended.Cycle n) step = let at = stepped wanted step h same on in at_its_end wanted step h same on (CycleAt n) (Err (Failure.Ended (Ended.Cycle n))) at.0 at.1 refl (λ rows printed. refl)
-        leaves h same on (Ended.Missing n) step = let at = stepped wanted step h same on in at_its_end wanted step h same on (MissingAt n) (Err (Failure.Ended (Ended.Missing n))) at.0 at.1 refl (λ rows printed. refl)
-        leaves h same on (Ended.GaveUp n) step = where_asked wanted step h same on n step.leaves.1 (stepped wanted step h same on).1
-        leaves h same on (Ended.Refused n code) step = where_asked wanted step h same on n step.leaves.1 (stepped wanted step h same on).1
+        leaves h same on (Ended.Cycle n) step = let at = stepped (here wanted step h same on) in at_its_end wanted step h same on (CycleAt n) (Err (Failure.Ended (Ended.Cycle n))) at.0 at.1 refl (λ rows printed. refl)
+        leaves h same on (Ended.Missing n) step = let at = stepped (here wanted step h same on) in at_its_end wanted step h same on (MissingAt n) (Err (Failure.Ended (Ended.Missing n))) at.0 at.1 refl (λ rows printed. refl)
+        leaves h same on (Ended.GaveUp n) step = where_asked wanted step h same on n step.leaves.1 (stepped (here wanted step h same on)).1
+        leaves h same on (Ended.Refused n code) step = where_asked wanted step h same on n step.leaves.1 (stepped (here wanted step h same on)).1
         leaves h same on _ step = absurd ((honest_step wanted step h).answers)
 
     pub listing_done : IsStep now next s' s'' (Ok None)
@@ -335,10 +301,10 @@ module _ {form : Form} {tries : ℕ} {most : Option ℕ} {count : ℕ} {wrote : 
         ends = rw (end_cause form wrote count) (all_ends wanted step h);
         holds = ok_end _ form wrote count (holds_on wanted step h);
         along = λ same start walk end k on.
-            let at = stepped wanted step h same on in
+            let at = stepped (here wanted step h same on) in
             record {
               leaves = at_its_end wanted step h same on Done (end_of form wrote count) at.0 at.1 (end_cause form wrote count) (ends_by_name s.store (from_here start walk k));
-              calls = in_all wanted step h same on;
+              calls = in_all (here wanted step h same on);
               all = ok_end _ form wrote count (record { count_is = count_all wanted step h same on at.0; stands = at.2; calls = λ limit. absurd (not_at_limit most count wanted limit) });
             };
         traces = traced_done wrote most (kept.went h).tracing step (kept.went h).ends.stays.honest kept.within kept.has_written;
@@ -370,19 +336,11 @@ module _ {form : Form} {tries : ℕ} {most : Option ℕ} {count : ℕ} {wrote : 
         module _ (same : last.stores_added ≡ s.stores_added) {start : Place} {walk : List Row}
             {end : WalkEnd}
             {k : ℕ} (on : IsOnWalk (rows_of (shelf_of form) s.store) start walk end k begun) where
-          row_is : left_rows most count walk k ≡ row ∷ left_rows most (count + 1) walk k
-          row_is = next_one (used most walk k) count row (next_row wanted step h (apart same).0 on ∙ (stepped wanted step h (apart same).0 on).0)
+          from_row : StepsAlong form tries most count begun now next s s' s'' (Ok (Some row)) start walk end k
+          from_row = here wanted step h (apart same).0 on
 
-          calls_on : last.calls + digits next.part + calls_for form s.store tries
-              (left_rows most (count + 1) walk k)
-              ≤ s.calls + calls_for form s.store tries (used most walk k) + digits begun.part
-          calls_on =
-              let first = (apart same).0 in
-              let piece = rw (store_is same) at (piece_asked.calls (keeps_at_same (points_because_of form row) s'' last piece_asked.ends.stays.store (apart same).1)) in
-              elim (asks_next wanted step h first on) [
-                | inl nothing ↦ absurd (asks_something now next row step.leaves nothing)
-                | inr is ↦ omega (arith, piece, rw row_is at (there wanted step h first on).calls, rw (stepped wanted step h first on).0 at (for_next wanted step h first on is))
-              ]
+          on_more : IsAlong form tries most (count + 1) begun next s last start walk k
+          on_more = one_more from_row last (rw (store_is same) at (piece_asked.calls (keeps_at_same (points_because_of form row) s'' last piece_asked.ends.stays.store (apart same).1)))
 
           -- the output before it
           abbrev before : HasFirstItems (IsPieceOver s.store)
@@ -392,7 +350,7 @@ module _ {form : Form} {tries : ℕ} {most : Option ℕ} {count : ℕ} {wrote : 
           at_item : before.rest ≡ row_item form
               (place_after_rows (from_here start walk k) (take count (used most walk k))) row
               ∷ row_items form (place_after row.next) (left_rows most (count + 1) walk k)
-          at_item = rw row_is refl
+          at_item = rw (row_is from_row) refl
 
       -- the listing stops at it
       stopped : (failure : Failure) (text : Output) → (IsHonest s''
@@ -412,7 +370,7 @@ module _ {form : Form} {tries : ℕ} {most : Option ℕ} {count : ℕ} {wrote : 
           along = λ same start walk end k on. record {
             leaves = leaves h same (plan_here form most start walk end k) (before asks h same on) (place_after_rows (from_here start walk k) (take count (used most walk k)))
                 (row_items form (place_after row.next) (left_rows most (count + 1) walk k)) (at_item asks h same on);
-            calls = λ part. omega (arith, calls_on asks h same on, digits_some next.part step.same.part_not_zero);
+            calls = stopped_along (on_more asks h same on) step.same.part_not_zero;
             all = tt;
           };
           traces = traces h;
@@ -470,12 +428,10 @@ module _ {form : Form} {tries : ℕ} {most : Option ℕ} {count : ℕ} {wrote : 
                 holds = λ p held. record { held = λ n is. current-kept next.shelf s'' last ((piece_asked asks h).keeps ((all_ends wanted step h).stays.plain p)) ∙ (holds_on wanted step h p held).held n is };
                 along = λ same start walk end k on.
                     let first = (apart asks h same).0 in
-                    let on_more : k + count + 1 ≡ k + (count + 1) = omega arith in
                     let at = from_here start walk k in
                     record {
-                      stands = rw on_more at (stepped wanted step h first on).1;
-                      calls = calls_on asks h same on;
-                      are_printed = rw (row_items-next form at (used most walk k) count row _ (row_is asks h same on))
+                      along = on_more asks h same on;
+                      are_printed = rw (row_items-next form at (used most walk k) count row _ (row_is (from_row asks h same on)))
                           (printed_joined (IsPieceOver s.store) (row_items form at (take count (used most walk k))) _ old new text
                           (there wanted step h first on).are_printed
                           (one_printed (IsPieceOver s.store) (row_item form (place_after_rows at (take count (used most walk k))) row) piece_text new text (is_text h same) is));

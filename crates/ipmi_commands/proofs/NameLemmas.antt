@@ -1,8 +1,8 @@
 -- A record with the name was found if and only if something was written.
-use Rattle.std.proofs.Common.{◌≡◌, ℕ, ◌<◌, ◌≤◌, ◌==◌, ◌||◌, not, Bool, true, false, Option, Result, Ok, Err, List, [], ◌∷◌, ◌++◌, length, refl, ap, ◌∙◌, arith, length-append}
+use Rattle.std.proofs.Common.{◌≡◌, ℕ, ◌+◌, ◌<◌, ◌≤◌, ◌==◌, ◌||◌, not, Bool, true, false, Option, Result, Ok, Err, List, [], ◌∷◌, ◌++◌, length, refl, ap, ◌∙◌, arith, length-append}
 use Rattle.ipmi_commands.specs.Below.{Failure, Place, Reading, Row, SdrFault, Seen, SdrView, sdr_view_of, Store, Done, place_after}
 use Rattle.ipmi_commands.specs.Prelude.{AreTexts, end_of, ending_of, Form, IfChosen, IsBlockIn, IsBlockOfName, IsPieceOver, IsTextWhile, OfRow, Printed, reading_for, row_items, rows_end, some_has_name, Subject, view_has_name, Wording}
-use Rattle.ipmi_commands.specs.Output.{and_then, Output, piece_of}
+use Rattle.ipmi_commands.specs.Output.{and_then, count_if, Output, piece_of}
 use Rattle.ipmi_commands.proofs.OutputLemmas.{then_nothing}
 use Rattle.ipmi_commands.specs.Traced.{IsFound}
 
@@ -52,6 +52,34 @@ module _ (wording : Wording) (name : List ℕ) (store : Store) where
       → IsBlockOfName wording name store id view text → HasText (view_has_name name view) text
   row_wrote id (Ok view) text is = chosen_wrote _ id view text is
   row_wrote id (Err fault) text is = is
+
+-- the number of items with a text is not 0, or it is
+abbrev pub HasItems : Bool → ℕ → Type 0
+HasItems true n = 0 < n
+HasItems false n = n ≡ 0
+
+counted_text : (b : Bool) (text : List ℕ) → HasText b text → HasItems b (count_if true text)
+counted_text true [] has = absurd (omega (arith, has))
+counted_text true (byte ∷ text) has = omega arith
+counted_text false [] has = refl
+counted_text false (byte ∷ text) has = cc has
+
+both_counted : (a b : Bool) (m n : ℕ) → HasItems a m → HasItems b n → HasItems (a || b) (m + n)
+both_counted true b m n x y = omega (arith, x)
+both_counted false true m n x y = omega (arith, y)
+both_counted false false m n x y = omega (arith, x, y)
+
+-- something is counted if a row has the name
+pub name_counted : (wording : Wording) (name : List ℕ) (store : Store) (start : Place) (rows : List Row) (text : Output)
+    → AreTexts (IsPieceOver store) (row_items (Form.Block wording name) start rows) text
+    → HasItems (some_has_name name rows) text.pieces
+name_counted wording name store start [] text are = ap (λ (o : Output). o.pieces) are
+name_counted wording name store start (row ∷ rows) text are =
+    let has = view_has_name name (sdr_view_of row.bytes) in
+    let wrote = row_wrote wording name store row.id (sdr_view_of row.bytes) are.first.bytes are.is_first.is_text in
+    let one : HasItems has are.first.pieces = rw (ap (λ (o : Output). o.pieces) are.is_first.counted) (counted_text has are.first.bytes wrote) in
+    rw are.joined (both_counted has (some_has_name name rows) are.first.pieces are.rest.pieces one
+    (name_counted wording name store (place_after row.next) rows are.rest are.is_rest))
 
 -- each text is over some store
 abbrev AreOverStores : (Subject → Output → Type 0) → Type 0

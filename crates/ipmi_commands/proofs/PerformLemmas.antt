@@ -1,7 +1,7 @@
 -- Tasks that print one text, and the task of all inventories: one text, then a listing.
 use Rattle.std.proofs.Common.{◌≡◌, false, ℕ, ◌+◌, ◌≤◌, IsTrue, Option, None, Some, Result, Ok, Err, Vec, Global, List, [], ◌∷◌, ◌++◌, option_map, refl, arith}
 use Rattle.ipmi_commands.specs.Below.{Done, fru_call_bound, LastFailed, NotPresent, Sdr, Shelf, Place, First, Seen, IsHonest, Row, Store, info_of, WalkEnd, Ending, Failure}
-use Rattle.ipmi_commands.specs.Run.{EndsInfo, EndsInventory}
+use Rattle.ipmi_commands.specs.Run.{EndsInfo, EndsInventory, ShowsInventory}
 use Rattle.ipmi_commands.specs.Prelude.{LacksInventory, LacksValue, AtEnd, AtRecord, cause_of, Change, change, ending_of, points_at_walk_end, EndsFor, EndsListing, failure_of, Finds, Form, info_plan, inventories_plan, AtInventory, inventory_item, inventory_plan, most_on_walk, IsAllowed, IsAmong, IsInfoText, IsPage, IsPieceOver, IsTextWhile, Item, Job, Listing, listing, listing_plan, IsStopAmong, OfInfo, OfInventory, Plan, row_items, Runs, ReadPoint, next_points, Subject, text_plan, ReadError, Wording, WritesPiece, shown}
 use Rattle.ipmi_commands.specs.Output.{Output, piece_of}
 use Rattle.ipmi_commands.specs.declared.piece.Piece.{Piece}
@@ -122,17 +122,30 @@ module _ (wording : Wording) (shelf : Shelf) (tries : ℕ) (s s' : Seen) (calls 
 
 -- ---- one inventory
 
+inventory_written : (wording : Wording) (id : ℕ) (name : Option (List ℕ)) (c : Change) (text : Output) (ending : Ending)
+    → ShowsInventory wording id name c.seen' text → WritesPiece text c.old c.new ending → EndsInventory wording id name c ending
+inventory_written wording id name c text (Ok done) shows writes = record { text = text; shows = shows; writes = writes }
+inventory_written wording id name c text (Err Failure.WriteFault) shows writes = record { text = text; shows = shows; writes = writes }
+inventory_written wording id name c text (Err _) shows writes = absurd writes
+
+inventory_lost : (wording : Wording) (id : ℕ) (name : Option (List ℕ)) (s s' : Seen) (text : Output) (unread : ReadError)
+    → LacksInventory unread s' → EndsInventory wording id name (change s s' text text) (Err (failure_of unread))
+inventory_lost wording id name s s' text (ReadError.Inventory device ended) says = (says, refl)
+inventory_lost wording id name s s' text ReadError.Memory says = refl
+inventory_lost wording id name s s' text (ReadError.Ended ended) says = absurd says
+
 module _ (wording : Wording) (id : ℕ) (name : Option (List ℕ)) (tries : ℕ) (s s' : Seen) (calls : s'.calls ≤ s.calls + fru_call_bound tries 65535) where
   abbrev FoundInventory : Result Piece ReadError → Type 0
   FoundInventory result = IsHonest s → Finds (λ store piece. IsPieceOver store (OfInventory wording id name) (shown piece)) (AtInventory id ∷ []) tries s s' result
 
   pub inventory_found : (old new : Output) (piece : Piece) (ending : Ending)
+      → ShowsInventory wording id name s' (shown piece)
       → FoundInventory (Ok piece)
       → WritesPiece (shown piece) old new ending
       → Runs (Job.Inventory wording id name) tries (change s s' old new) ending
-  inventory_found old new piece ending finds writes = record {
+  inventory_found old new piece ending shows finds writes = record {
     calls = calls;
-    ends = grind arith;
+    ends = inventory_written wording id name (change s s' old new) (shown piece) ending shows writes;
     why = λ h. text_ends tries (IsTrue s.plain) s s' (shown piece) old new ending (finds h).asks.ends writes;
     prints = λ h same. (
       let stays = (finds h).asks.ends.stays.store in
@@ -150,7 +163,7 @@ module _ (wording : Wording) (id : ℕ) (name : Option (List ℕ)) (tries : ℕ)
       → Runs (Job.Inventory wording id name) tries (change s s' text text) (Err (failure_of unread))
   inventory_unread text unread says none = record {
     calls = calls;
-    ends = grind arith;
+    ends = inventory_lost wording id name s s' text unread says;
     why = λ h. (none h).asks.ends;
     prints = λ h same. (
       none_leaves (IsPieceOver s.store) (inventory_plan wording id name) text (Err (failure_of unread)) (none h).there,
@@ -190,10 +203,12 @@ first_run wording name tries s s' old new failure runs = record {
   traces = λ h. tt;
 }
   where
-    of_device : (failure : Failure) → EndsInventory s' (Err failure)
+    of_device : (failure : Failure) → EndsInventory wording 0 name (change s s' old new) (Err failure)
         → EndsListing (Form.Device wording) s' (Err failure)
-    of_device (Failure.Inventory id ended) ends = (wording, (refl, ends))
-    of_device failure ends = grind arith
+    of_device (Failure.Inventory id ended) ends = (wording, (refl, ends.0))
+    of_device Failure.OutOfMemory ends = tt
+    of_device Failure.WriteFault ends = tt
+    of_device _ ends = absurd ends.writes
 
 -- the inventory of device 0, then the output of a listing of the locators
 pub inventories_run : (wording : Wording) (name : Option (List ℕ)) (tries : ℕ) (s s' s'' : Seen) (old text new : Output)

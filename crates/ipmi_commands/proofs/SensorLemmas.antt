@@ -1,5 +1,5 @@
 -- A search for sensors, step by step of its cursor.
-use Rattle.std.proofs.Common.{◌≡◌, inl, inr, ℕ, ◌+◌, ◌≤◌, IsTrue, Option, None, Some, Result, Ok, Err, List, [], ◌∷◌, ◌++◌, length, take, refl, sym, ap, subst, ◌∙◌, arith, append-nil, append_assoc, take_all, length-append, Bool, true, false}
+use Rattle.std.proofs.Common.{◌≡◌, inl, inr, ℕ, ◌+◌, ◌≤◌, IsTrue, Option, None, Some, Result, Ok, Err, List, [], ◌∷◌, ◌++◌, length, take, refl, sym, ap, subst, ◌∙◌, arith, append-nil, append_assoc, take_all, length-append, Bool, true, false, cond}
 use Rattle.std.specs.FinSet as set
 use Rattle.std.specs.List.{list_any}
 use Rattle.std.proofs.lemmas.Bool.Decides.{nat_tests}
@@ -9,12 +9,13 @@ use Rattle.ipmi_bus.proofs.GrowthLaws.{moment, steps_stay}
 use Rattle.ipmi_bus.proofs.HeldLemmas.{held_at_last, held_in_first}
 use Rattle.ipmi_bus.proofs.StepsLaws.{steps_follow}
 use Rattle.ipmi_bus.proofs.WalkLemmas.{all_at_end}
-use Rattle.ipmi_commands.specs.Below.{AreSteps, cursor_after, CursorHoldsCurrent, CursorState, Done, CycleAt, MissingAt, End, Ended, EndsBy, Ending, Failure, First, first_row, handed_out, Id, IsHonest, IsLog, IsStep, IsWalk, last_next, OnGrowing, OnlyGrew, Place, place_after, place_after_rows, Reading, Row, rows_of, Sdr, SdrView, sdr_view_of, Seen, seen_after, Shelf, StandsAt, start_of, StaysHonest, StepIsHonest, Stepped, stays_refl, stays_trans, store_shelf, Store, WalkEnd, WalkStep, WasHeld, WasLog, with_handed}
-use Rattle.ipmi_commands.specs.Prelude.{AsksAt, AtEnd, Cause, cause_of, cause_of_unread, EndsFor, failure_of, FindsIt, FindsNone, Form, IsFresh, is_name, most_after, most_for_one, NoMemory, OnWalk, reading_for, reading_points, shelf_of, ReadPoint, ReadError}
+use Rattle.ipmi_commands.specs.Below.{AreSteps, cursor_after, CursorHoldsCurrent, CursorState, Done, CycleAt, MissingAt, End, Ended, EndsBy, Ending, Failure, First, first_row, handed_out, Id, IsHonest, IsLog, IsStep, IsWalk, last_next, OnGrowing, OnlyGrew, Place, place_after, place_after_rows, Reading, Row, rows_of, Sdr, SdrFault, SdrView, sdr_view_of, Seen, seen_after, Shelf, StandsAt, start_of, StaysHonest, StepIsHonest, Stepped, stays_refl, stays_trans, store_shelf, Store, WalkEnd, WalkStep, WasHeld, WasLog, with_handed}
+use Rattle.ipmi_commands.specs.Prelude.{AsksAt, AtEnd, calls_for_points, Cause, cause_of, cause_of_unread, EndsFor, failure_of, FindsIt, FindsNone, Form, IsFresh, is_name, IsOnWalk, KeepsAt, most_after, most_for_one, NoMemory, OnEachWalk, OnWalk, points_because_of, walk_call_bound, reading_for, reading_points, shelf_of, ReadPoint, ReadError}
 use Rattle.ipmi_records.specs.Sdr.{name_of}
 use Rattle.ipmi_commands.specs.Sensors.{AddsNamed, AreFoundWhile, AreNamed, FindsAlong, FindsBy, FindsWhile, Found, found_among, found_by, found_of, found_of_result, found_points, has_one_of, SearchCalls, Searches, SearchesBy, StopsAtResult, with_readings}
 use Rattle.ipmi_commands.specs.Traced.{IsStopAmong, IsTraced, seen_next}
 use Rattle.ipmi_commands.specs.declared.limits.RequestLimits.{RequestLimits}
+use Rattle.ipmi_commands.proofs.AlongLemmas.{in_all, IsAlong, one_more, StepsAlong, stopped_along}
 use Rattle.ipmi_commands.proofs.AskLemmas.{asks_nothing, then_no_memory}
 use Rattle.ipmi_commands.proofs.CallLemmas.{called_more, called_stopped, calls_ended, HandsNothing, HasCalled}
 use Rattle.ipmi_commands.proofs.CountLemmas.{between, ends_here, ends_since}
@@ -68,6 +69,25 @@ module _ (names : List (List ℕ)) (tries : ℕ) (row : Row) {view : SdrView} (i
       is = λ keeps. rw (whether ∙ named, is) (kept ∙ ap (λ (r : Option Reading). old ++ record { id = row.id; bytes = row.bytes; reading = r } ∷ []) (found.is (rw points_are at keeps)));
     }
 
+-- a reading has no inventory that may change
+reading_kept : (names : List (List ℕ)) (row : Row) (s s' : Seen) → KeepsAt (found_points names row) s s'
+reading_kept names row s s' =
+    if_keeps (has_one_of names (sdr_view_of row.bytes)) (reading_points row.id (sdr_view_of row.bytes)) s s' (reading_keeps row.id (sdr_view_of row.bytes) s s')
+
+-- its calls are among those of a listing with readings
+found_calls : (names : List (List ℕ)) (row : Row) (tries : ℕ) (a b : Store)
+    → calls_for_points tries a (found_points names row) ≤ calls_for_points tries b (points_because_of with_readings row)
+found_calls names row tries a b = if_found (has_one_of names (sdr_view_of row.bytes))
+  where
+    of_reading : (id : ℕ) (view : Result SdrView SdrFault)
+        → calls_for_points tries a (reading_points id view) ≡ calls_for_points tries b (reading_points id view)
+    of_reading id view = grind arith
+
+    if_found : (one : Bool) → calls_for_points tries a (cond one (reading_points row.id (sdr_view_of row.bytes)) [])
+        ≤ calls_for_points tries b (reading_points row.id (sdr_view_of row.bytes))
+    if_found true = omega (arith, of_reading row.id (sdr_view_of row.bytes))
+    if_found false = omega arith
+
 -- ---- over any controller
 
 pub adds_none : (names : List (List ℕ)) (old : List Found) → AddsNamed names old old
@@ -97,13 +117,15 @@ found_more names (one ∷ steps) step last =
 -- ---- a search that goes on
 
 -- over an honest controller
-pub record Searched (names : List (List ℕ)) (tries : ℕ) (begun now : CursorState) (s s' : Seen)
+pub record Searched (names : List (List ℕ)) (tries count : ℕ) (begun now : CursorState) (s s' : Seen)
     (old new : List Found) : Type 0 where
   pub ends : EndsFor tries (IsTrue s.plain × CursorHoldsCurrent begun s) s s' AtEnd
   pub holds : IsTrue s.plain → CursorHoldsCurrent begun s → CursorHoldsCurrent now s'
   pub steps : List Stepped
   pub traced : IsTraced begun now s s' steps
   pub found : new ≡ old ++ found_by names steps s'
+  pub along : s'.stores_added ≡ s.stores_added → OnEachWalk Sdr begun s.store
+      (λ start walk end k. IsAlong with_readings tries None count begun now s s' start walk k)
 
 pub record Searching (names : List (List ℕ)) (tries : ℕ) (begun now : CursorState) (s s' : Seen)
     (old new : List Found) : Type 0 where
@@ -111,7 +133,7 @@ pub record Searching (names : List (List ℕ)) (tries : ℕ) (begun now : Cursor
   pub tries_are : now.tries ≡ tries
   pub count : ℕ
   pub called : HasCalled (most_for_one with_readings tries) count begun now s s'
-  pub went : IsHonest s → Searched names tries begun now s s' old new
+  pub went : IsHonest s → Searched names tries count begun now s s' old new
 
 pub search_begun : (names : List (List ℕ)) (tries : ℕ) (begun : CursorState) (s : Seen) (old : List Found)
     → begun.shelf ≡ Sdr → begun.tries ≡ tries → set.len begun.ids ≤ 65536
@@ -131,6 +153,7 @@ search_begun names tries begun s old shelf tries_are room = record {
     steps = [];
     traced = record { are = tt; cursor = refl; stays = stays_refl s h };
     found = sym (append-nil old);
+    along = λ same start walk end k on. record { stands = let here : k ≡ k + 0 = omega arith in rw here at on.stands; calls = omega arith };
   };
 }
 
@@ -170,6 +193,26 @@ module _ {names : List (List ℕ)} {tries : ℕ} {begun now : CursorState} {s s'
         is ∙ ap (λ (l : List Found). l ++ of_step) went.found ∙ append_assoc old (found_by names went.steps s') of_step
         ∙ ap (λ (l : List Found). old ++ l) (sym (found_more names went.steps last_step last))
 
+    -- the step along a walk
+    from_here : (h : IsHonest s) → s''.stores_added ≡ s.stores_added → {start : Place} {walk : List Row} {end : WalkEnd}
+        {k : ℕ} → IsOnWalk (rows_of Sdr s.store) start walk end k begun
+        → StepsAlong with_readings tries None kept.count begun now next s s' s'' result start walk end k
+    from_here h same {start} {walk} {end} {k} on =
+        let stays = (kept.went h).ends.stays in
+        let parts = between s s' s'' stays (honest_step h).stays same in
+        record {
+          shelf = kept.shelf;
+          tries_are = kept.tries_are;
+          some = kept.called.keeps.part;
+          below = tt;
+          stays = stays;
+          first = parts.0;
+          then_ = parts.1;
+          on = on;
+          there = (kept.went h).along parts.0 start walk end k on;
+          step = step;
+        }
+
     search_calls : HandsNothing result → SearchCalls tries begun s s''
     search_calls none = λ some.
         (calls_ended (most_after with_readings tries) refl kept.shelf kept.tries_are kept.called step None (Err Failure.OutOfMemory) none tt).all some
@@ -186,6 +229,7 @@ module _ {names : List (List ℕ)} {tries : ℕ} {begun now : CursorState} {s s'
         traced = all_traced step h s'' (stays_refl s'' (honest_step step h).stays.honest);
         ends = (step.leaves.1.place, all_found step h s'' new (sym (append-nil new)));
       };
+      calls = λ same start walk end k on. in_all (from_here step h same on);
     }
 
     pub done_calls : SearchCalls tries begun s s''
@@ -201,6 +245,7 @@ module _ {names : List (List ℕ)} {tries : ℕ} {begun now : CursorState} {s s'
         traced = all_traced step h s'' (stays_refl s'' (honest_step step h).stays.honest);
         ends = record { done = (kept.went h).steps; step = last_step step; are = refl; stops = refl; found = (kept.went h).found };
       };
+      calls = λ same start walk end k on. in_all (from_here step h same on);
     }
 
     pub ended_calls : SearchCalls tries begun s s''
@@ -219,6 +264,16 @@ module _ {names : List (List ℕ)} {tries : ℕ} {begun now : CursorState} {s s'
         → EndsFor tries (IsTrue s.plain × CursorHoldsCurrent begun s) s last cause
     row_ends h asks = ends_since (all_ends step h) (λ p. (all_ends step h).stays.plain p.0) asks.ends
 
+    -- the walk after it
+    along_more : {cause : Cause} → (h : IsHonest s) → AsksAt (found_points names row) tries s'' last cause
+        → last.stores_added ≡ s.stores_added → (start : Place) (walk : List Row) (end : WalkEnd) (k : ℕ)
+        → IsOnWalk (rows_of Sdr s.store) start walk end k begun
+        → IsAlong with_readings tries None (kept.count + 1) begun next s last start walk k
+    along_more h asks same start walk end k on =
+        let apart = between s s'' last (all_ends step h).stays asks.ends.stays same in
+        one_more (from_here step h apart.0 on) last
+        (omega (arith, asks.calls (reading_kept names row s'' last), found_calls names row tries s''.store s.store))
+
     -- its reading was not found
     pub search_lost : (unread : ReadError)
         → (IsHonest s'' → FindsNone (found_points names row) tries s'' last (cause_of_unread unread))
@@ -231,6 +286,7 @@ module _ {names : List (List ℕ)} {tries : ℕ} {begun now : CursorState} {s s'
             traced = all_traced step h last lost.asks.ends.stays;
             ends = record { done = (kept.went h).steps; step = last_step step; are = refl; stops = lost.there; found = (kept.went h).found };
           };
+          calls = λ same start walk end k on. stopped_along (along_more h lost.asks same start walk end k on) step.same.part_not_zero;
         }
 
     -- it was searched
@@ -251,7 +307,8 @@ module _ {names : List (List ℕ)} {tries : ℕ} {begun now : CursorState} {s s'
                 record { held = λ n is. current-kept next.shelf s'' last (found.asks.keeps (ends.stays.plain p)) ∙ on.held n is };
             steps = all_steps step h;
             traced = all_traced step h last found.asks.ends.stays;
-            found = all_found step h last more (found.is (if_keeps (has_one_of names (sdr_view_of row.bytes)) (reading_points row.id (sdr_view_of row.bytes)) s'' last (reading_keeps row.id (sdr_view_of row.bytes) s'' last)));
+            found = all_found step h last more (found.is (reading_kept names row s'' last));
+            along = along_more h found.asks;
           };
     }
 
@@ -443,7 +500,7 @@ pub search_by_cursor : {limits : RequestLimits} {form : Form} {from : Option ℕ
     → IsFresh limits form from begun → shelf_of form ≡ Sdr → IsHonest s
     → SearchesBy names tries begun now s s' old new ending
     → Searches names (start_of from) tries s s' old new ending
-search_by_cursor {form = form} {from = from} {names} {begun = begun} {now = now} {s = s} {s' = s'} {old = old} {new = new} {ending = ending} fresh on honest by_cursor =
+search_by_cursor {form = form} {from = from} {names} {tries} {begun = begun} {now = now} {s = s} {s' = s'} {old = old} {new = new} {ending = ending} fresh on honest by_cursor =
     let shelf : begun.shelf ≡ Sdr = ap (λ (c : CursorState). c.shelf) fresh.is ∙ on in
     record {
       why = record { stays = by_cursor.why.stays; grows = by_cursor.why.grows; counts = by_cursor.why.counts; plain = λ p. by_cursor.why.plain (p, holds_none fresh s) };
@@ -455,11 +512,20 @@ search_by_cursor {form = form} {from = from} {names} {begun = begun} {now = now}
         ids = ap (λ (c : CursorState). c.ids) fresh.is;
         finds = by_cursor.finds;
       });
-      along = λ same. subst (λ (x : Shelf). OnWalk x (start_of from) s.store (λ walk end. FindsAlong names s.store walk end old new ending)) shelf
-          (λ walk end w ends. along names begun now s s' old new (start_of from) honest same walk end w ends (fresh.stands (rows_of begun.shelf s.store) walk) ending by_cursor.finds);
+      along = λ same. subst (λ (x : Shelf). OnWalk x (start_of from) s.store (λ walk end. FindsAlong names s.store walk end old new ending
+          × (s'.calls ≤ s.calls + walk_call_bound with_readings s.store tries walk))) shelf
+          (λ walk end w ends. (
+            along names begun now s s' old new (start_of from) honest same walk end w ends (fresh.stands (rows_of begun.shelf s.store) walk) ending by_cursor.finds,
+            calls_on same walk end (subst (λ (x : Shelf). IsOnWalk (rows_of x s.store) (start_of from) walk end 0 begun) shelf (record { walks = w; ends = ends; stands = fresh.stands (rows_of begun.shelf s.store) walk })),
+          ));
       grows = subst (λ (x : Shelf). OnGrowing x (start_of from) s s' (λ log. FindsWhile names log s s' old new ending)) shelf
           (λ first log grew. grown names begun now s s' old new (start_of from) honest first log (fresh.stands (rows_of begun.shelf s.store) first) grew ending by_cursor.finds);
     }
+  where
+    calls_on : s'.stores_added ≡ s.stores_added → (walk : List Row) (end : WalkEnd)
+        → IsOnWalk (rows_of Sdr s.store) (start_of from) walk end 0 begun
+        → s'.calls ≤ s.calls + walk_call_bound with_readings s.store tries walk
+    calls_on same walk end on = omega (arith, by_cursor.calls same (start_of from) walk end 0 on fresh.some, fresh.falls)
 
 -- without memory for one
 pub search_without_memory : {names : List (List ℕ)} {start : Place} {tries : ℕ} {s : Seen} {old : List Found} → IsHonest s
@@ -467,6 +533,6 @@ pub search_without_memory : {names : List (List ℕ)} {start : Place} {tries : �
 search_without_memory {s = s} {old = old} honest = record {
   why = ends_here honest refl tt;
   traces = inl (refl, refl, refl);
-  along = λ same walk end w ends. (0, sym (append-nil old));
+  along = λ same walk end w ends. ((0, sym (append-nil old)), omega arith);
   grows = λ first log grew. (first, log_now s s (stays_refl s honest).store honest first log, (0, [], sym (append-nil old), refl));
 }

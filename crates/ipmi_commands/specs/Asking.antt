@@ -1,7 +1,7 @@
 -- Requests for a reading, an info or an inventory, and their results: for the contracts of private
 -- functions.
 use Rattle.std.specs.Prelude.{◌≡◌, ℕ, ◌+◌, ◌≤◌, ◌==◌, Bool, false, IsTrue, Option, None, Some, Result, Ok, Err, List}
-use Rattle.ipmi_commands.specs.Below.{FruEnded, KeepsReservations, LastFailed, LastFruCallSays, NotPresent, Store, Shelf, Seen, Failure}
+use Rattle.ipmi_commands.specs.Below.{FruEnded, KeepsReservations, LastFruCallSays, Store, Shelf, Seen, Failure}
 use Rattle.ipmi_commands.specs.declared.job.Form.{Form}
 use Rattle.ipmi_commands.specs.declared.job.Wording.{Wording}
 use Rattle.ipmi_commands.specs.declared.piece.Piece.{Piece}
@@ -11,7 +11,7 @@ use Rattle.ipmi_commands.specs.Allowed.{AtEnd, Cause, cause_of, EndsFor}
 use Rattle.ipmi_commands.specs.Calls.{calls_for_points}
 use Rattle.ipmi_commands.specs.Meanwhile.{KeepsAt}
 use Rattle.ipmi_commands.specs.Plan.{ReadPoint}
-use Rattle.ipmi_commands.specs.Run.{LacksValue}
+use Rattle.ipmi_commands.specs.Run.{LacksValue, NoneIsTrue}
 use Rattle.ipmi_commands.specs.Output.{Output, piece_of}
 use Rattle.ipmi_commands.specs.Texts.{IsDevicePiece, IsInfoIn, is_faulty_there}
 use Rattle.ipmi_commands.specs.Traced.{IsStopAmong}
@@ -99,6 +99,5 @@ PieceErrorIsTrue _ unread seen = unread ≡ ReadError.Memory
 
 -- an info was read, or the last call says that there is none or why it was not read
 abbrev pub InfoSays : {T : Type 0} → Result (Option T) ReadError → Seen → Type 0
-InfoSays (Ok (Some found)) seen = Unit {0}
-InfoSays (Ok None) seen = LastFailed (λ class. class ≡ NotPresent) seen
+InfoSays (Ok found) seen = NoneIsTrue found seen
 InfoSays (Err unread) seen = LacksValue unread seen

@@ -1,8 +1,8 @@
 -- The results of a listing by a cursor, and of the two walks for the last entries: for the
 -- contracts of private functions.
-use Rattle.std.specs.Prelude.{◌≡◌, Bool, false, ℕ, ◌+◌, ◌-◌, ◌*◌, ◌<◌, ◌≤◌, ◌==◌, IsTrue, Option, None, Some, IfOk, Result, Ok, Err, List, length, take, drop}
+use Rattle.std.specs.Prelude.{◌≡◌, Bool, false, ℕ, ◌+◌, ◌-◌, ◌*◌, ◌<◌, ◌≤◌, ◌==◌, ◌⊎◌, IsTrue, Option, None, Some, IsSome, IfOk, Result, Ok, Err, List, length, take, drop}
 use Rattle.std.specs.FinSet as set
-use Rattle.ipmi_commands.specs.Below.{step_call_bound, digits, IsLog, OnGrowing, OnlyGrew, WasLog, Place, Row, Shelf, Sel, Store, rows_of, IsWalk, WalkEnd, Done, EndsBy, place_after_rows, Seen, IsHonest, CursorState, StandsAt, CursorHoldsCurrent, Ending, Failure}
+use Rattle.ipmi_commands.specs.Below.{step_call_bound, digits, IsLog, OnGrowing, OnlyGrew, WasLog, End, Place, Row, Shelf, Sel, Store, rows_of, IsWalk, WalkEnd, Done, EndsBy, place_after_rows, Seen, IsHonest, CursorState, StandsAt, CursorHoldsCurrent, Ending, Failure}
 use Rattle.ipmi_commands.specs.declared.job.Entries.{Entries}
 use Rattle.ipmi_commands.specs.declared.job.Form.{Form}
 use Rattle.ipmi_commands.specs.Allowed.{ending_of, IsAllowed, EndsFor, cause_of, Change}
@@ -26,6 +26,12 @@ is_reached (Some n) count = n == count
 abbrev pub end_of : {T : Type 0} → Form → Bool → T → Result T Failure
 end_of (Form.Block wording name) false with_ = Err (Failure.NoName name)
 end_of _ wrote with_ = Ok with_
+
+-- the limit is reached, or the cursor is at the end of the shelf; so it is if no record had the name
+abbrev pub ReachesEnd : Option ℕ → CursorState → Result ℕ Failure → Type 0
+ReachesEnd most now (Ok count) = (most ≡ Some count) ⊎ (now.place ≡ End)
+ReachesEnd most now (Err (Failure.NoName name)) = IsSome most ⊎ (now.place ≡ End)
+ReachesEnd most now (Err failure) = Unit {0}
 
 -- the cursor can continue the listing
 pub record KeepsListing (begun now : CursorState) : Type 0 where

@@ -10,12 +10,12 @@ use Rattle.ipmi_commands.specs.declared.job.Wording.{Wording}
 use Rattle.ipmi_commands.specs.declared.read_error.ReadError.{ReadError}
 use Rattle.ipmi_commands.specs.Allowed.{NoMemory, cause_of, ending_of, EndsFor, IsAllowed, IsFine, Change}
 use Rattle.ipmi_commands.specs.Calls.{calls_for_point, walk_call_bound, most_on_walk}
-use Rattle.ipmi_commands.specs.Job.{entries_in, shelf_of, job_in, job_of, listing}
+use Rattle.ipmi_commands.specs.Job.{entries_in, shelf_of, job_of, listing}
 use Rattle.ipmi_commands.specs.Meanwhile.{IsTextWhile, OnGrowingListing}
-use Rattle.ipmi_commands.specs.Output.{and_then, IsCut, Output}
+use Rattle.ipmi_commands.specs.Output.{and_then, IsCut, Output, piece_of}
 use Rattle.ipmi_commands.specs.Pages.{ArePages, IsOneListing, pages_made}
 use Rattle.ipmi_commands.specs.Plan.{OnWalk, AtInventory, Plan, after_names, bytes_of_rows, first_rows, last_rows, listing_plan, last_plan, inventory_plan, inventories_plan, info_plan, rewrite_plan}
-use Rattle.ipmi_commands.specs.Texts.{IsPieceOver}
+use Rattle.ipmi_commands.specs.Texts.{is_faulty_device, IsInventoryIn, IsPieceOver}
 use Rattle.ipmi_commands.specs.Traced.{Traces}
 
 -- ---- over any controller
@@ -70,6 +70,12 @@ EndsNamed wording named seen (Err (Failure.NamesMissing n)) = Unit {0}
 EndsNamed wording (NameLookup.Events count from) seen ending = EndsListing Form.Bytes seen ending
 EndsNamed wording NameLookup.Devices seen ending = EndsListing (Form.Device wording) seen ending
 
+-- the result of writing an item
+abbrev pub WritesPiece : Output → Output → Output → Ending → Type 0
+WritesPiece piece old new (Ok done) = new ≡ and_then old piece
+WritesPiece piece old new (Err Failure.WriteFault) = (0 < length piece.bytes) × IsCut old new piece
+WritesPiece piece old new (Err failure) = ⊥
+
 -- a reading or an info was given up or refused, or out of memory
 abbrev pub LacksValue : ReadError → Seen → Type 0
 LacksValue (ReadError.Ended (Ended.GaveUp n)) seen =
@@ -88,12 +94,33 @@ EndsInfo seen (Err Failure.WriteFault) = Unit {0}
 EndsInfo seen (Err Failure.OutOfMemory) = Unit {0}
 EndsInfo seen _ = ⊥
 
-abbrev pub EndsInventory : Seen → Ending → Type 0
-EndsInventory seen (Ok done) = Unit {0}
-EndsInventory seen (Err (Failure.Inventory id ended)) = LastFruCallSays ended seen
-EndsInventory seen (Err Failure.WriteFault) = Unit {0}
-EndsInventory seen (Err Failure.OutOfMemory) = Unit {0}
-EndsInventory seen _ = ⊥
+-- if there is none, the last call says so
+abbrev pub NoneIsTrue : {T : Type 0} → Option T → Seen → Type 0
+NoneIsTrue (Some found) seen = Unit {0}
+NoneIsTrue None seen = LastFailed (λ class. class ≡ NotPresent) seen
+
+-- a text of a device with any inventory, and what is counted for it; if there is no inventory, the last
+-- call says so
+pub record ShowsInventory (wording : Wording) (id : ℕ) (name : Option (List ℕ)) (seen : Seen)
+    (text : Output) : Type 0 where
+  pub inventory : Option (List ℕ)
+  pub is_text : IsInventoryIn wording id name inventory text.bytes
+  pub counted : text ≡ piece_of text.bytes (is_faulty_device wording inventory)
+  pub none : NoneIsTrue inventory seen
+
+-- such a text was written, or a part of it
+pub record WritesInventory (wording : Wording) (id : ℕ) (name : Option (List ℕ)) (c : Change)
+    (ending : Ending) : Type 0 where
+  pub text : Output
+  pub shows : ShowsInventory wording id name c.seen' text
+  pub writes : WritesPiece text c.old c.new ending
+
+-- the possible ends for an inventory: its text was written, or the last call says why it was not read
+abbrev pub EndsInventory : Wording → ℕ → Option (List ℕ) → Change → Ending → Type 0
+EndsInventory wording id name c (Err (Failure.Inventory device ended)) =
+    LastFruCallSays ended c.seen' × (c.new ≡ c.old)
+EndsInventory wording id name c (Err Failure.OutOfMemory) = c.new ≡ c.old
+EndsInventory wording id name c ending = WritesInventory wording id name c ending
 
 -- the possible ends of a run
 abbrev pub MayEnd : Job → Change → Ending → Type 0
@@ -101,7 +128,7 @@ MayEnd (Job.Records l) c ending = EndsListing l.form c.seen' ending
 MayEnd (Job.Last entries n from) c ending = EndsListing (Form.EntryLine entries) c.seen' ending
 MayEnd (Job.NameLookup wording named) c ending = EndsNamed wording named c.seen' ending
 MayEnd (Job.Info wording shelf) c ending = EndsInfo c.seen' ending
-MayEnd (Job.Inventory wording id name) c ending = EndsInventory c.seen' ending
+MayEnd (Job.Inventory wording id name) c ending = EndsInventory wording id name c ending
 MayEnd (Job.AllInventories wording name) c ending = EndsListing (Form.Device wording) c.seen' ending
 
 -- ---- over an honest controller
@@ -232,7 +259,7 @@ TracesJob job c ending = Unit {0}
 -- one: why it ended; its output, if records are only appended (`grows`), and exactly, with the number
 -- of calls, if no store was added (`prints`); whatever its store does, the records that a listing's
 -- cursor returned and their texts (`traces`). If the controller is not honest, this says nothing about
--- the output.
+-- the output, except of one inventory (`ends`).
 pub record Runs (job : Job) (tries : ℕ) (c : Change) (ending : Ending) : Type 0 where
   pub calls : c.seen'.calls ≤ c.seen.calls + most_calls job tries
   pub ends : MayEnd job c ending
@@ -242,12 +269,9 @@ pub record Runs (job : Job) (tries : ℕ) (c : Change) (ending : Ending) : Type 
   pub grows : IsHonest c.seen → PrintsWhile job c ending
   pub traces : IsHonest c.seen → TracesJob job c ending
 
--- the job of a command, in codes and in a wording
+-- the job of a command, in codes
 abbrev pub job_of_command : CommandState → Option Job
 job_of_command command = job_of command.task command.from
-
-abbrev pub job_of_command_in : Wording → CommandState → Option Job
-job_of_command_in wording command = job_in wording command.task command.from
 
 -- the run of a command over a controller: `image rewrite`, which has no job, makes no call, prints nothing
 -- and fails
@@ -267,12 +291,6 @@ pub record RunsInPages (form : Form) (start : Place) (tries : ℕ) (sizes : List
   pub pages : IsHonest c.seen → ArePages form tries start sizes c ending
   pub prints : IsHonest c.seen → c.seen'.stores_added ≡ c.seen.stores_added
       → IsOneListing form start tries sizes c ending
-
--- the result of writing an item
-abbrev pub WritesPiece : Output → Output → Output → Ending → Type 0
-WritesPiece piece old new (Ok done) = new ≡ and_then old piece
-WritesPiece piece old new (Err Failure.WriteFault) = (0 < length piece.bytes) × IsCut old new piece
-WritesPiece piece old new (Err failure) = ⊥
 
 -- ---- over an image
 

@@ -1,5 +1,5 @@
 -- Sensors that one walk of the sensor data records finds by their names, and the blocks that are printed of them.
-use Rattle.std.specs.Prelude.{◌≡◌, ◌⊎◌, ℕ, ◌+◌, ◌*◌, ◌<◌, ◌≤◌, Bool, true, false, IsTrue, if◌then◌else◌, Option, None, Some, Result, Ok, Err, List, [], ◌∷◌, ◌++◌, length, take}
+use Rattle.std.specs.Prelude.{◌≡◌, ◌⊎◌, ℕ, ◌+◌, ◌*◌, ◌<◌, ◌≤◌, ◌==◌, Bool, true, false, IsTrue, if◌then◌else◌, Option, None, Some, Result, Ok, Err, List, [], ◌∷◌, ◌++◌, length, take, drop}
 use Rattle.std.specs.FinSet as set
 use Rattle.std.specs.List.{Contains, list_any}
 use Rattle.ipmi_commands.specs.Below.{CursorState, CursorHoldsCurrent, CycleAt, digits, Done, End, Ended, Ending, Failure, Kind, LastCallSays, MissingAt, OnGrowing, Place, Reading, RefusesRecord, Row, Sdr, SdrFault, SdrView, sdr_view_of, Seen, Stepped, Store, WalkEnd, WasHeld}
@@ -8,9 +8,10 @@ use Rattle.ipmi_commands.specs.declared.job.Detail.{Detail}
 use Rattle.ipmi_commands.specs.declared.job.Form.{Form}
 use Rattle.ipmi_commands.specs.declared.job.Wording.{Wording}
 use Rattle.ipmi_commands.specs.Allowed.{cause_of, EndsFor, Printed, TextsJoined}
-use Rattle.ipmi_commands.specs.Calls.{most_for_one}
+use Rattle.ipmi_commands.specs.Calls.{most_for_one, walk_call_bound}
+use Rattle.ipmi_commands.specs.Listing.{CallsAlong, OnEachWalk}
 use Rattle.ipmi_commands.specs.Output.{and_then, IsCut, no_output, Output, piece_of}
-use Rattle.ipmi_commands.specs.Plan.{OnWalk, reading_points, row_items, ReadPoint}
+use Rattle.ipmi_commands.specs.Plan.{OnWalk, reading_points, row_items, rows_end, ReadPoint}
 use Rattle.ipmi_commands.specs.Texts.{IfChosen, IsBlockIn, is_name, IsPieceOver, reading_for}
 use Rattle.ipmi_commands.specs.Traced.{IsStopAmong, IsTraced, seen_next}
 
@@ -168,14 +169,15 @@ FindsWhile names log s s' old new (Ok done) =
 FindsWhile names log s s' old new (Err failure) =
     (count : ℕ) × (more : List Found) × (new ≡ old ++ more) × AreFoundWhile names s s' (take count log) more
 
--- a search over an honest controller: why it ended; what was found, whatever the store does; along the walk, if
--- no store was added; and along the log as it was meanwhile, if records were only appended
+-- a search over an honest controller: why it ended; what was found, whatever the store does; along the walk, with
+-- the number of calls, if no store was added; and along the log as it was meanwhile, if records were only appended
 pub record Searches (names : List (List ℕ)) (start : Place) (tries : ℕ) (s s' : Seen)
     (old new : List Found) (ending : Ending) : Type 0 where
   pub why : EndsFor tries (IsTrue s.plain) s s' (cause_of ending)
   pub traces : HasNoMemory s s' old new ending ⊎ FindsFrom names start s s' old new ending
   pub along : s'.stores_added ≡ s.stores_added
-      → OnWalk Sdr start s.store (λ walk end. FindsAlong names s.store walk end old new ending)
+      → OnWalk Sdr start s.store (λ walk end. FindsAlong names s.store walk end old new ending
+      × (s'.calls ≤ s.calls + walk_call_bound with_readings s.store tries walk))
   pub grows : OnGrowing Sdr start s s' (λ log. FindsWhile names log s s' old new ending)
 
 -- ---- for the contracts of private functions
@@ -185,6 +187,8 @@ pub record SearchesBy (names : List (List ℕ)) (tries : ℕ) (begun now : Curso
     (old new : List Found) (ending : Ending) : Type 0 where
   pub why : EndsFor tries (IsTrue s.plain × CursorHoldsCurrent begun s) s s' (cause_of ending)
   pub finds : FindsBy names begun now s s' old new ending
+  pub calls : s'.stores_added ≡ s.stores_added → OnEachWalk Sdr begun s.store
+      (λ start walk end k. CallsAlong with_readings tries (drop k walk) begun s s')
 
 -- the calls of a search by a cursor, over any controller
 abbrev pub SearchCalls : ℕ → CursorState → Seen → Seen → Type 0
@@ -246,9 +250,12 @@ PrintsFound wording name found old new (Err failure) = ⊥
 -- ---- a law
 
 -- what is printed of a walk's rows that a search for several names found is, for each of the names, what a
--- listing of this name prints of the walk
+-- listing of this name prints of the walk; and nothing is counted if and only if that listing fails, as no row
+-- has the name
 abbrev pub BlocksAreOfListing : Type 0
 BlocksAreOfListing = (wording : Wording) (names : List (List ℕ)) (name : List ℕ) (store : Store) (start : Place)
     (walk : List Row) (old new : Output) → Contains names name
     → PrintsBlocks wording name (found_among names store walk) old new
     → Printed (IsPieceOver store) (row_items (Form.Block wording name) start walk) old new
+    × ((if new.pieces == old.pieces then Err (Failure.NoName name) else Ok tt)
+    ≡ rows_end (Form.Block wording name) walk Done)

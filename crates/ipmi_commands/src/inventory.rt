@@ -1,8 +1,8 @@
 //! Prints the inventories of FRU devices.
-ghost use Rattle.std.specs.Prelude.{◌≡◌, ℕ, ◌+◌, ◌≤◌, ◌∷◌, [], Some, Err, IfErr, IfOk, OnOk, option_map, string_bytes, ◌++◌};
-ghost use Rattle.ipmi_commands.specs.Below.{Appends, AsksAtMost, LastFruCallSays, fru_call_bound, row_of_record, ReadsInventory, Seen, IsHonest, inventory_of, fru_of, printed_name, sdr_view_of};
+ghost use Rattle.std.specs.Prelude.{◌≡◌, ℕ, ◌+◌, ◌≤◌, ◌∷◌, [], None, Some, Err, IfErr, IfOk, OnOk, option_map, string_bytes, ◌++◌};
+ghost use Rattle.ipmi_commands.specs.Below.{Appends, AsksAtMost, LastFailed, NotPresent, LastFruCallSays, fru_call_bound, row_of_record, ReadsInventory, Seen, IsHonest, inventory_of, fru_of, printed_name, sdr_view_of};
 ghost use Rattle.ipmi_commands.specs.declared.job.Form.{Form};
-ghost use Rattle.ipmi_commands.specs.Prelude.{LacksInventory, in_parentheses, is_absent, Finds, IsCountedDevice, IsElsewhereIn, is_faulty_device, IsInventoryIn, IsInventoryPiece, IsInventoryText, IsPieceOver, AtInventory, device_points, locator_points, OfInventory, OfRow, shown};
+ghost use Rattle.ipmi_commands.specs.Prelude.{LacksInventory, in_parentheses, is_absent, Finds, IsCountedDevice, IsElsewhereIn, is_faulty_device, IsInventoryIn, IsInventoryPiece, IsInventoryText, IsPieceOver, AtInventory, device_points, locator_points, NoneIsTrue, OfInventory, OfRow, shown, ShowsInventory};
 
 use crate::job::Wording;
 use crate::limits::RequestLimits;
@@ -32,6 +32,8 @@ fn unread_inventory(id: u8, ended: FruEnded) -> Result<Option<Vec<u8>>, ReadErro
         (AtInventory id ∷ []) tries s s' result }
     ensures says { (seen : Seen) → LastFruCallSays ended seen →
         IfErr result (λ unread. LacksInventory unread seen) }
+    ensures none { (seen : Seen) → LastFruCallSays ended seen →
+        IfOk result (λ found. (found ≡ None) × LastFailed (λ class. class ≡ NotPresent) seen) }
 {
     if !is_absent(ended) {
         return Err(ReadError::Inventory(id, ended));
@@ -50,6 +52,7 @@ fn read_inventory<C: Controller>(
         65535 }
     ensures asked { AsksAtMost limits.part (C.seen ctl.old) (C.seen ctl.new) }
     ensures says { IfErr result (λ unread. LacksInventory unread (C.seen ctl.new)) }
+    ensures none { IfOk result (λ found. NoneIsTrue found (C.seen ctl.new)) }
     ensures honest { IsHonest (C.seen ctl.old) →
         Finds (λ store found. option_map (λ bytes. bytes.items) found ≡ inventory_of id store)
         (AtInventory id ∷ []) limits.tries (C.seen ctl.old) (C.seen ctl.new) result }
@@ -147,6 +150,8 @@ pub(crate) fn inventory_in<C: Controller>(
         65535 }
     ensures asked { AsksAtMost limits.part (C.seen ctl.old) (C.seen ctl.new) }
     ensures says { IfErr result (λ unread. LacksInventory unread (C.seen ctl.new)) }
+    ensures shows { let named = option_map (λ name. name.now) name.entry in
+        IfOk result (λ piece. ShowsInventory wording.entry id named (C.seen ctl.new) (shown piece)) }
     ensures honest { let named = option_map (λ name. name.now) name.entry in IsHonest (C.seen ctl.old) →
         Finds (λ store piece. IsPieceOver store (OfInventory wording.entry id named) (shown piece))
         (AtInventory id ∷ []) limits.tries (C.seen ctl.old) (C.seen ctl.new) result }

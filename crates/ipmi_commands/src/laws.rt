@@ -48,7 +48,7 @@ pub fn finished_runs_are_one()
 }
 
 /// What is printed of the sensors that one search for several names found along a walk is, for each of the names, what a
-/// listing of this name prints of the walk.
+/// listing of this name prints of the walk. If nothing is counted, that listing fails as no record has the name.
 pub fn blocks_are_of_a_listing()
     ensures { BlocksAreOfListing }
 {}

@@ -1,6 +1,6 @@
 //! Lists records in pages, each with a cursor of its own.
-ghost use Rattle.std.specs.Prelude.{◌≡◌, ◌≢◌, ◌+◌, ◌*◌, ◌≤◌, Some, IfOk};
-ghost use Rattle.ipmi_commands.specs.Below.{AsksAtMost, start_of, IsHonest, write_faults};
+ghost use Rattle.std.specs.Prelude.{◌≡◌, ◌≢◌, ◌+◌, ◌*◌, ◌≤◌, None, Some, IfOk};
+ghost use Rattle.ipmi_commands.specs.Below.{AsksAtMost, End, start_of, IsHonest, write_faults};
 ghost use Rattle.ipmi_commands.specs.Prelude.{ArePages, change, ending_of, EndsListing, IsFresh, IsFrom, IsPage, IsPlace, most_on_walk, pages_made, printed};
 
 use crate::job::Form;
@@ -43,6 +43,7 @@ fn list_from<'a, C: Controller, O: Sink>(
     ensures asked { AsksAtMost limits.part (C.seen ctl.old) (C.seen ctl.new) }
     ensures ends { EndsListing form.now (C.seen ctl.new) (ending_of result) }
     ensures place { IfOk result (λ next. IsPlace next) }
+    ensures reaches { most ≡ None → IfOk result (λ next. next ≡ End) }
     ensures calls { (C.seen ctl.new).calls ≤ (C.seen ctl.old).calls + most_on_walk form.now
         limits.tries }
     ensures honest { most ≢ Some 0 → IsHonest (C.seen ctl.old) →
@@ -71,6 +72,7 @@ pub(crate) fn list_page<'a, C: Controller, O: Sink>(
     ensures asked { AsksAtMost limits.part (C.seen ctl.old) (C.seen ctl.new) }
     ensures ends { EndsListing form.now (C.seen ctl.new) (ending_of result) }
     ensures place { IfOk result (λ next. IsPlace next) }
+    ensures reaches { most ≡ None → IfOk result (λ next. next ≡ End) }
     ensures calls { (C.seen ctl.new).calls ≤ (C.seen ctl.old).calls + most_on_walk form.now
         limits.tries }
     ensures none { most ≡ Some 0 → C.seen ctl.new ≡ C.seen ctl.old }

@@ -3,7 +3,7 @@ ghost use Rattle.std.specs.Prelude.{◌≡◌, [], ◌∷◌, ◌+◌, ◌++◌,
 ghost use Rattle.std.specs.FinSet as set;
 ghost use Rattle.std.specs.List.{list_any};
 ghost use Rattle.ipmi_records.specs.Sdr.{name_of};
-ghost use Rattle.ipmi_commands.specs.Below.{AsksAtMost, IsHonest, row_of_record, Sdr, sdr_view_of, start_of, write_faults};
+ghost use Rattle.ipmi_commands.specs.Below.{AsksAtMost, End, IsHonest, row_of_record, Sdr, sdr_view_of, start_of, write_faults};
 ghost use Rattle.ipmi_commands.specs.Prelude.{Finds, IsFrom, is_name, LacksValue, most_on_walk, printed};
 ghost use Rattle.ipmi_commands.specs.Sensors.{AddsNamed, EndsSearch, Found, found_of, found_points, IsBlockOfFound, PrintsFound, SearchCalls, Searches, SearchesBy, with_readings};
 
@@ -134,6 +134,7 @@ fn find_after<'a, C: Controller>(
     requires room { set.len cursor.old.ids ≤ 65536 }
     ensures asked { AsksAtMost cursor.old.part (C.seen ctl.old) (C.seen ctl.new) }
     ensures ends { EndsSearch (C.seen ctl.new) result }
+    ensures reaches { OnOk result (cursor.new.place ≡ End) }
     ensures adds { AddsNamed names.now found.old found.new }
     ensures calls { SearchCalls tries cursor.old (C.seen ctl.old) (C.seen ctl.new) }
     ensures honest { IsHonest (C.seen ctl.old) →

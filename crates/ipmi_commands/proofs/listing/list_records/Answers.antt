@@ -1,8 +1,8 @@
-use Rattle.std.proofs.Common.{refl, rules, ◌++◌, List, ℕ, Ok, ◌∙◌, ap, sym, arith}
+use Rattle.std.proofs.Common.{inl, inr, refl, rules, ◌++◌, List, ℕ, Ok, ◌∙◌, ap, sym, arith}
 use Rattle.ipmi_commands.specs.Below.{row_of_record}
 use Rattle.ipmi_commands.specs.Prelude.{printed}
-use Rattle.ipmi_commands.proofs.AskLemmas.{end_ends, step_ends_listing, unread_ends}
-use Rattle.ipmi_commands.proofs.CallLemmas.{len-next_ids}
+use Rattle.ipmi_commands.proofs.AskLemmas.{end_ends, reaches_end, step_ends_listing, unread_ends, unread_reaches}
+use Rattle.ipmi_commands.proofs.CallLemmas.{at_limit, len-next_ids}
 use Rattle.ipmi_commands.proofs.ListingLemmas.{listing_cut, listing_done, listing_ended, listing_full, listing_more, listing_none}
 use Rattle.ipmi_commands.proofs.OutputLemmas.{counted_more}
 use Rattle.ipmi_commands.proofs.TraceLemmas.{traced_none}
@@ -82,3 +82,18 @@ records-init g c = (
     };
   },
 )
+
+pub returns-then-is_reached-clause-reaches : goal.returns-then-is_reached-clause-reaches
+returns-then-is_reached-clause-reaches g c =
+    rw c.end.ensures (reaches_end c.args.form.now c.records.wrote c.records.count c.args.most c.records.cursor (inl (at_limit c.args.most c.records.count (sym c.is_reached.ensures ∙ c.if-is_reached.true))))
+
+pub returns-in-Ok-None-clause-reaches : goal.returns-in-Ok-None-clause-reaches
+returns-in-Ok-None-clause-reaches g c =
+    let step = rw (c.in-Ok-None.is ∙ ap Ok c.in-Ok-None.field-0-is) at c.step.follows.holds-at-none in
+    rw c.end-in-Ok-None.ensures (reaches_end c.args.form.now c.records.wrote c.records.count c.args.most c.step.follows.lender-at-none (inr step.leaves.1.place))
+
+pub returns-in-Err-row_text-clause-reaches : goal.returns-in-Err-row_text-clause-reaches
+returns-in-Err-row_text-clause-reaches g c = rw c.from.ensures (unread_reaches c.in-Err-row_text.unread c.args.most c.step.follows.lender-at-none)
+
+pub returns-in-Err-clause-reaches : goal.returns-in-Err-clause-reaches
+returns-in-Err-clause-reaches g c = tt

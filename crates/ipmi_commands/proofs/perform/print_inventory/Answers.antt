@@ -8,4 +8,4 @@ returns-in_err-piece-clause-runs g c =
 
 pub returns-clause-runs : goal.returns-clause-runs
 returns-clause-runs g c =
-    inventory_found c.args.wording c.args.id _ _ _ _ c.inventory_in.ensures.calls _ _ c.in_ok-piece.piece c.write_piece.result c.in_ok-piece.ensures.honest (rw c.as_slice.ensures.value at c.write_piece.ensures.piece)
+    inventory_found c.args.wording c.args.id _ _ _ _ c.inventory_in.ensures.calls _ _ c.in_ok-piece.piece c.write_piece.result c.in_ok-piece.ensures.shows c.in_ok-piece.ensures.honest (rw c.as_slice.ensures.value at c.write_piece.ensures.piece)

@@ -48,3 +48,11 @@ returns-in-Err-find_in-clause-honest g c =
 
 pub returns-in-Err-find_in-clause-adds : goal.returns-in-Err-find_in-clause-adds
 returns-in-Err-find_in-clause-adds g c = adds_more _ _ _ _ c.records.invariant.1 c.find_in.ensures.adds
+
+pub returns-in-Ok-None-clause-reaches : goal.returns-in-Ok-None-clause-reaches
+returns-in-Ok-None-clause-reaches g c =
+    let step = rw (c.in-Ok-None.is ∙ ap Ok c.in-Ok-None.field-0-is) at c.step.follows.holds-at-none in
+    step.leaves.1.place
+
+pub returns-in-Err-clause-reaches : goal.returns-in-Err-clause-reaches
+returns-in-Err-clause-reaches g c = tt
