@@ -15,7 +15,7 @@ use Rattle.ipmi_raw.specs.declared.request.Request.{Request}
 use Rattle.ipmi_raw.specs.declared.streams.Streams.{Streams}
 use Rattle.ipmi_raw.specs.declared.tool.Tool.{Tool}
 use Rattle.ipmi_raw.specs.declared.tool.Tool.TheVariants.{Ipmitool, FreeIpmi}
-use Rattle.ipmi_raw.specs.Handed.{AreRequests, AreRequestsUnlessCut, BreakOff, HasHanded, OnlyRequests}
+use Rattle.ipmi_raw.specs.Handed.{AreRequests, AreRequestsUnlessCut, BreakOff, WasHanded, OnlyRequests}
 use Rattle.ipmi_raw.specs.Peer.{request_text}
 use Rattle.ipmi_raw.specs.Piped.{AreReady, first_text, IsExchange, IsFirst, IsOpened, IsOverUnit, Kept, Known, no_units, Openings, Ready, streams_of, unit_of, with_streams}
 use Rattle.ipmi_raw.specs.Request.{lun_of}
@@ -65,9 +65,9 @@ handed_over tool unit (Err lost) bytes base text old new was over are = (
 module _ {O R W : Type 0} {write : Ghosts W} (opens : Openings O R W) (remaining : Known R) (tool : Tool) (unit : ℕ)
     (opener opener' : O) where
   over_open : (request : Request) (came : Result (Unit {0}) Lost) (reply : List ℕ) (before after : Kept R W write)
-      → unit_of tool (lun_of request) ≡ unit → HasHanded opens unit (AreRequests tool unit) (Some before)
+      → unit_of tool (lun_of request) ≡ unit → WasHanded opens unit (AreRequests tool unit) (Some before)
       → IsExchange remaining (request_text tool request) came reply before after
-      → HasHanded opens unit (AreRequestsUnlessCut (is_err came) tool unit) (Some after)
+      → WasHanded opens unit (AreRequestsUnlessCut (is_err came) tool unit) (Some after)
   over_open request came reply before after to had over =
       let is = had.1 in
       let now = handed_over tool unit came (request_text tool request) (taken_of is.opened.requests) had.0
@@ -76,15 +76,15 @@ module _ {O R W : Type 0} {write : Ghosts W} (opens : Openings O R W) (remaining
 
   after_first : (came : Result (Unit {0}) Lost) (reply : List ℕ) (opened after : Kept R W write)
       → IsOpened opens unit opener opener' opened → (t : Tool) → tool ≡ t → IsFirst remaining t came reply opened after
-      → HasHanded opens unit (AreRequestsUnlessCut (is_err came) tool unit) (Some after)
+      → WasHanded opens unit (AreRequestsUnlessCut (is_err came) tool unit) (Some after)
   after_first came reply opened after is Ipmitool same over =
       let now = handed_over tool unit came (first_text Ipmitool) (taken_of opened.requests) [] (taken_of opened.requests)
       (taken_of after.requests) (sym (append-nil (taken_of opened.requests))) over.sent
       (subst (λ t. AreRequests tool unit (first_text t)) same (none_yet tool unit)) in
       (now.0, record { opener = opener; opener' = opener'; opened = opened; is_opened = is; taken = now.1 }, now.2)
   after_first came reply opened after is FreeIpmi same over =
-      subst (λ (c : Result (Unit {0}) Lost). HasHanded opens unit (AreRequestsUnlessCut (is_err c) tool unit) (Some after)) (sym over.0)
-      (subst (λ s. HasHanded opens unit (AreRequests tool unit) (Some s)) (sym over.2) (
+      subst (λ (c : Result (Unit {0}) Lost). WasHanded opens unit (AreRequestsUnlessCut (is_err c) tool unit) (Some after)) (sym over.0)
+      (subst (λ s. WasHanded opens unit (AreRequests tool unit) (Some s)) (sym over.2) (
         [],
         record {
           opener = opener;
@@ -97,12 +97,12 @@ module _ {O R W : Type 0} {write : Ghosts W} (opens : Openings O R W) (remaining
       ))
 
   ready_so : (first : List ℕ) (was : Option (Kept R W write)) (ready : Ready (Kept R W write))
-      → HasHanded opens unit (AreRequests tool unit) was → AreReady opens remaining tool unit was ready first opener opener'
-      → MatchResult ready (λ before. HasHanded opens unit (AreRequests tool unit) (Some before))
-      (λ lost. HasHanded opens unit (BreakOff tool unit) lost)
+      → WasHanded opens unit (AreRequests tool unit) was → AreReady opens remaining tool unit was ready first opener opener'
+      → MatchResult ready (λ before. WasHanded opens unit (AreRequests tool unit) (Some before))
+      (λ lost. WasHanded opens unit (BreakOff tool unit) lost)
   ready_so first (Some streams) ready had are =
-      subst (λ (r : Ready (Kept R W write)). MatchResult r (λ before. HasHanded opens unit (AreRequests tool unit) (Some before))
-      (λ lost. HasHanded opens unit (BreakOff tool unit) lost)) (sym are.0) had
+      subst (λ (r : Ready (Kept R W write)). MatchResult r (λ before. WasHanded opens unit (AreRequests tool unit) (Some before))
+      (λ lost. WasHanded opens unit (BreakOff tool unit) lost)) (sym are.0) had
   ready_so first None (Ok streams) had are = after_first (Ok tt) first are.0 streams are.1 tool refl are.2
   ready_so first None (Err (Some streams)) had are = after_first (Err are.2.0) first are.0 streams are.1 tool refl are.2.1
   ready_so first None (Err None) had are = tt
@@ -110,18 +110,18 @@ module _ {O R W : Type 0} {write : Ghosts W} (opens : Openings O R W) (remaining
   -- the streams of the unit after an exchange
   over_ready : (request : Request) (came : Result (Unit {0}) Lost) (reply first : List ℕ) (now : Option (Kept R W write))
       (ready : Ready (Kept R W write)) → unit_of tool (lun_of request) ≡ unit
-      → MatchResult ready (λ before. HasHanded opens unit (AreRequests tool unit) (Some before))
-      (λ lost. HasHanded opens unit (BreakOff tool unit) lost)
+      → MatchResult ready (λ before. WasHanded opens unit (AreRequests tool unit) (Some before))
+      (λ lost. WasHanded opens unit (BreakOff tool unit) lost)
       → MatchResult ready
       (λ before. (after : Kept R W write) × (now ≡ Some after) × IsExchange remaining (request_text tool request) came reply before after)
       (λ lost. (now ≡ lost) × IsErr came × (reply ≡ first))
-      → HasHanded opens unit (AreRequestsUnlessCut (is_err came) tool unit) now
+      → WasHanded opens unit (AreRequestsUnlessCut (is_err came) tool unit) now
   over_ready request came reply first now (Ok before) to had over =
-      subst (HasHanded opens unit (AreRequestsUnlessCut (is_err came) tool unit)) (sym over.1)
+      subst (WasHanded opens unit (AreRequestsUnlessCut (is_err came) tool unit)) (sym over.1)
       (over_open request came reply before over.0 to had over.2)
   over_ready request came reply first now (Err lost) to had over =
-      subst (λ b. HasHanded opens unit (AreRequestsUnlessCut b tool unit) now) (sym over.1)
-      (subst (HasHanded opens unit (BreakOff tool unit)) (sym over.0) had)
+      subst (λ b. WasHanded opens unit (AreRequestsUnlessCut b tool unit) now) (sym over.1)
+      (subst (WasHanded opens unit (BreakOff tool unit)) (sym over.0) had)
 
 -- ---- all units
 
@@ -150,15 +150,15 @@ module _ {O R W : Type 0} {write : Ghosts W} (opens : Openings O R W) (remaining
       → OnlyRequests opens tool (is_err came) new
   still_requests unit request came reply opener opener' old new few to had over = (unit, λ other. each other (other == unit) refl)
     where
-      now : HasHanded opens unit (AreRequestsUnlessCut (is_err came) tool unit) over.now
+      now : WasHanded opens unit (AreRequestsUnlessCut (is_err came) tool unit) over.now
       now = over_ready opens remaining tool unit opener opener' request came reply over.first over.now over.ready to
           (ready_so opens remaining tool unit opener opener' over.first (streams_of unit old) over.ready (had.1 unit) over.are_ready)
           over.over
 
-      mine : HasHanded opens unit (AreRequestsUnlessCut (is_err came && true) tool unit) (streams_of unit new)
-      mine = subst (HasHanded opens unit (AreRequestsUnlessCut (is_err came && true) tool unit))
+      mine : WasHanded opens unit (AreRequestsUnlessCut (is_err came && true) tool unit) (streams_of unit new)
+      mine = subst (WasHanded opens unit (AreRequestsUnlessCut (is_err came && true) tool unit))
           (sym (ap (λ u. streams_of unit u) over.others ∙ put unit over.now old few))
-          (subst (λ b. HasHanded opens unit (AreRequestsUnlessCut b tool unit) over.now) (sym (and_true (is_err came))) now)
+          (subst (λ b. WasHanded opens unit (AreRequestsUnlessCut b tool unit) over.now) (sym (and_true (is_err came))) now)
         where
           and_true : (b : Bool) → (b && true) ≡ b
           and_true true = refl
@@ -169,12 +169,12 @@ module _ {O R W : Type 0} {write : Ghosts W} (opens : Openings O R W) (remaining
       and_false false = refl
 
       each : (other : ℕ) (is_same : Bool) → (other == unit) ≡ is_same
-          → HasHanded opens other (AreRequestsUnlessCut (is_err came && is_same) tool other) (streams_of other new)
-      each other true same = subst (λ u. HasHanded opens u (AreRequestsUnlessCut (is_err came && true) tool u) (streams_of u new))
+          → WasHanded opens other (AreRequestsUnlessCut (is_err came && is_same) tool other) (streams_of other new)
+      each other true same = subst (λ u. WasHanded opens u (AreRequestsUnlessCut (is_err came && true) tool u) (streams_of u new))
           (sym (eqb-true other unit same)) mine
-      each other false same = subst (HasHanded opens other (AreRequestsUnlessCut (is_err came && false) tool other))
+      each other false same = subst (WasHanded opens other (AreRequestsUnlessCut (is_err came && false) tool other))
           (sym (ap (λ u. streams_of other u) over.others ∙ kept unit other over.now old few same))
-          (subst (λ b. HasHanded opens other (AreRequestsUnlessCut b tool other) (streams_of other old)) (sym (and_false (is_err came)))
+          (subst (λ b. WasHanded opens other (AreRequestsUnlessCut b tool other) (streams_of other old)) (sym (and_false (is_err came)))
           (had.1 other))
 
 none_of : {R W : Type 0} (unit : ℕ) → streams_of {R = R} {W = W} unit no_units ≡ None
@@ -193,4 +193,4 @@ none_of {R} {W} unit = of (unit == 0) (unit == 1) (unit == 2) (unit == 3)
 -- no streams are open yet
 pub none_handed : {O R W : Type 0} (write : Ghosts W) (opens : Openings O R W) (tool : Tool)
     → OnlyRequests {write = write} opens tool false no_units
-none_handed write opens tool = (0, λ unit. subst (HasHanded {write = write} opens unit (AreRequests tool unit)) (sym (none_of unit)) tt)
+none_handed write opens tool = (0, λ unit. subst (WasHanded {write = write} opens unit (AreRequests tool unit)) (sym (none_of unit)) tt)

@@ -25,7 +25,7 @@ abbrev pub AreRequestsUnlessCut : Bool → Tool → ℕ → List ℕ → Type 0
 AreRequestsUnlessCut false tool unit text = AreRequests tool unit text
 AreRequestsUnlessCut true tool unit text = BreakOff tool unit text
 
--- the tool's input took this text since its streams were opened, and nothing else
+-- the tool's input took this text, and nothing else, after what it held when it was opened
 pub record IsHanded {O R W : Type 0} {write : Ghosts W} (opens : Openings O R W) (unit : ℕ) (text : List ℕ)
     (streams : Kept R W write) : Type 0 where
   pub opener : O
@@ -34,13 +34,13 @@ pub record IsHanded {O R W : Type 0} {write : Ghosts W} (opens : Openings O R W)
   pub is_opened : IsOpened opens unit opener opener' opened
   pub taken : taken_of streams.requests ≡ taken_of opened.requests ++ text
 
--- what the tool of these streams was handed, if they were opened
-abbrev pub HasHanded : {O R W : Type 0} {write : Ghosts W} → Openings O R W → ℕ → (List ℕ → Type 0) → Option (Kept R W write) → Type 0
-HasHanded opens unit IsText None = Unit {0}
-HasHanded opens unit IsText (Some streams) = (text : List ℕ) × IsHanded opens unit text streams × IsText text
+-- what the tool of these streams was handed, if they are open
+abbrev pub WasHanded : {O R W : Type 0} {write : Ghosts W} → Openings O R W → ℕ → (List ℕ → Type 0) → Option (Kept R W write) → Type 0
+WasHanded opens unit IsText None = Unit {0}
+WasHanded opens unit IsText (Some streams) = (text : List ℕ) × IsHanded opens unit text streams × IsText text
 
--- The tool of each unit was handed requests to this unit, and nothing else. If the connection is lost, the last request over which
--- it was lost may be cut off.
+-- The tool of each unit was handed requests to this unit, and nothing else. If the connection is lost, the text of at most one unit,
+-- `cut`, may end within a request.
 abbrev pub OnlyRequests : {O R W : Type 0} {write : Ghosts W} → Openings O R W → Tool → Bool → Units (Heard R) (Written W write) → Type 0
-OnlyRequests opens tool is_lost units = (last : ℕ) × ((unit : ℕ)
-    → HasHanded opens unit (AreRequestsUnlessCut (is_lost && (unit == last)) tool unit) (streams_of unit units))
+OnlyRequests opens tool is_lost units = (cut : ℕ) × ((unit : ℕ)
+    → WasHanded opens unit (AreRequestsUnlessCut (is_lost && (unit == cut)) tool unit) (streams_of unit units))

@@ -73,7 +73,7 @@ impl<R: Drop, W: Drop> Units<R, W> {
 /// A peer over the streams of a tool, which it opens when a request is to be sent.
 ///
 /// A request to `ipmi-raw` names its logical unit. `ipmitool exec` sends all its requests to one unit, so there is
-/// one such tool for each unit used. There is none for a unit above 3: a request to it loses the connection.
+/// one such tool for each unit used. With ipmitool, a request to a unit above 3 loses the connection.
 ///
 /// All that a tool is handed are whole requests, one after another, and at most a first part of the request over which the
 /// connection is lost. Nothing is sent afterwards. Streams stay open even then.

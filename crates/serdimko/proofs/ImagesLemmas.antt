@@ -5,10 +5,10 @@ use Rattle.ipmi_output.specs.Received.{Received}
 use Rattle.serdimko.specs.Images.{PrintsImage, PrintsImages, PrintsOne}
 use Rattle.serdimko.specs.Out.{Out}
 use Rattle.serdimko.specs.Printing.{Each}
-use Rattle.serdimko.specs.declared.driver.Query.{Query}
+use Rattle.serdimko.specs.declared.images.ImageQuery.{ImageQuery}
 use Rattle.serdimko.specs.declared.report.Settings.{Settings}
 
-module _ (settings : Settings) (query : Query) where
+module _ (settings : Settings) (query : ImageQuery) where
   pub only_input : (images : List (List ℕ)) (old new : Out) (said said' : Received) (result : ℕ × Bool) → (length images == 0) ≡ true
       → PrintsImage settings query true None old new said said' result → PrintsImages settings query images old new said said' result
   only_input [] old new said said' result none prints = prints

@@ -25,7 +25,7 @@ abbrev pub status_of_image : Bool → ℕ
 status_of_image true = 0
 status_of_image false = 1
 
--- the output accepted no more: its reader closed it, or a message says that a write failed
+-- after a write fault: 141 if a write met an output that its reader had closed; else a message says that a write failed
 abbrev pub EndsUnwritten : Bool → Received → Received → ℕ → Type 0
 EndsUnwritten true said said' status = (status ≡ 141) × (said' ≡ said)
 EndsUnwritten false said said' status = (status ≡ 4) × ReceivesText said said' (line_text (failure_text Failure.WriteFault))
@@ -37,7 +37,8 @@ PrintsText is_whole text old new said said' status =
     ⊎ (TakesPart old.taken new.taken (printed_text is_whole text) × (new.faults ≡ old.faults + 1)
     × EndsUnwritten new.closed said said' status)
 
--- A whole image was written to the file with this name, or the file can't be written. Another image is not written.
+-- The status and the message of writing a whole image to the file with this name; what the file holds then is not described. Another
+-- image is not written.
 abbrev pub WritesText : Bool → List ℕ → Received → Received → ℕ → Type 0
 WritesText false name said said' status =
     (status ≡ 1) × ReceivesText said said' (line_text (escaped_name name ++ codes " is not written: the image is not whole"))

@@ -6,7 +6,7 @@ use Rattle.std.specs.Str.Lines.{lines}
 use Rattle.std.specs.Str.Lossy.{utf8_lossy}
 use Rattle.std.specs.declared.alloc.Global.{Global}
 
--- the first three lines that are not blank
+-- up to three lines that are not blank
 abbrev pub said_lines : List ℕ → List (List ℕ)
 said_lines text = take 3 (filter (λ line. not (length line == 0)) (map trim (lines text)))
 
@@ -14,7 +14,7 @@ abbrev pub on_a_line : List (List ℕ) → List ℕ
 on_a_line [] = codes "the tool said nothing"
 on_a_line (line ∷ lines) = join_by (λ text. text) (codes "; ") (line ∷ lines)
 
--- of the first 200 bytes of its output
+-- the line for the first 200 bytes of its last output
 abbrev pub lost_text : List ℕ → List ℕ
 lost_text text = on_a_line (said_lines (utf8_lossy (take 200 text)))
 

@@ -256,7 +256,7 @@ fn report_captured<R: Files + AllocGlobal, W: Write + Drop, E: MessageSink>(
 }
 
 /// Reads the contents of the live controller, writes them as an image, reports the items left out, and returns the exit status.
-/// All that a tool is handed are requests that read.
+/// Through its peer a tool is handed only requests that read or take a reservation.
 pub(crate) fn capture_live<
     R: Files + AllocGlobal,
     O: Open + Drop,

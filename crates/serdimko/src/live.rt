@@ -167,7 +167,7 @@ pub(crate) fn controller_of<'a, R: Files + Clock + AllocGlobal>(
 }
 
 /// Prints what the query asks for from the live controller, and returns the exit status, and whether more can be printed.
-/// All that a tool is handed are requests that read.
+/// Through its peer a tool is handed only requests that read or take a reservation.
 pub(crate) fn print_live<O: Open + Drop, K: Clock + Drop, W: Write + Drop, E: MessageSink>(
     alloc: Global,
     settings: &Settings,

@@ -5,7 +5,7 @@ use Rattle.serdimko.proofs.images.print_image.Goals as goal
 
 pub returns-then-is_headed : goal.returns-then-is_headed
 returns-then-is_headed g c = rw (sym c.is_headed.ensures ∙ c.if-is_headed.true) (
-    subst (λ (file : Option (List ℕ)). PrintsFile true c.args.settings.now c.args.query.now file c.args.is_only_input
+    subst (λ (file : Option (List ℕ)). PrintsFile true c.args.settings.now c.args.query file c.args.is_only_input
     (out_of c.args.out.now) (out_of c.print_headed.new.out) (g.E.MessageSink.received c.args.err.now)
     (g.E.MessageSink.received c.print_headed.new.err) c.print_headed.result) c.file_of-file.ensures c.print_headed.ensures)
 

@@ -7,15 +7,15 @@ use Rattle.serdimko.proofs.images.print_images.Goals as goal
 
 pub returns-then-is_empty : goal.returns-then-is_empty
 returns-then-is_empty g c =
-    only_input c.args.settings.now c.args.query.now c.args.images.now _ _ _ _ _ (sym c.is_empty.ensures ∙ c.if-is_empty.true) c.print_image.ensures
+    only_input c.args.settings.now c.args.query c.args.images.now _ _ _ _ _ (sym c.is_empty.ensures ∙ c.if-is_empty.true) c.print_image.ensures
 
 pub loop-image-init : goal.loop-image-init
-loop-image-init g c = printed_none (PrintsOne c.args.settings.now c.args.query.now _) c.args.images.now (out_of c.args.out.now) (g.E.MessageSink.received c.args.err.now)
+loop-image-init g c = printed_none (PrintsOne c.args.settings.now c.args.query _) c.args.images.now (out_of c.args.out.now) (g.E.MessageSink.received c.args.err.now)
 
 pub returns-then-not-is_open : goal.returns-then-not-is_open
 returns-then-not-is_open g c =
-    each_image c.args.settings.now c.args.query.now c.args.images.now _ _ _ _ _ (sym c.is_empty.ensures ∙ c.if-is_empty.false) (rw c.if-not-is_open.true at (
-    printed_last (PrintsOne c.args.settings.now c.args.query.now _) c.args.images.now (out_of c.args.out.now) (g.E.MessageSink.received c.args.err.now)
+    each_image c.args.settings.now c.args.query c.args.images.now _ _ _ _ _ (sym c.is_empty.ensures ∙ c.if-is_empty.false) (rw c.if-not-is_open.true at (
+    printed_last (PrintsOne c.args.settings.now c.args.query _) c.args.images.now (out_of c.args.out.now) (g.E.MessageSink.received c.args.err.now)
     c.loop-image.image-index (out_of c.loop-image.out) (out_of c.print_image-status.new.out) (g.E.MessageSink.received c.loop-image.err)
     (g.E.MessageSink.received c.print_image-status.new.err) c.loop-image.highest c.image-item.result c.print_image-status.result c.print_image-status.result.1
     c.loop-image.invariant (omega (arith, c.loop-image-test.true)) c.image-item.is (c.print_image-status.ensures, refl)
@@ -23,7 +23,7 @@ returns-then-not-is_open g c =
 
 pub loop-image-preserved : goal.loop-image-preserved
 loop-image-preserved g c =
-    printed_one (PrintsOne c.args.settings.now c.args.query.now _) c.args.images.now (out_of c.args.out.now) (g.E.MessageSink.received c.args.err.now)
+    printed_one (PrintsOne c.args.settings.now c.args.query _) c.args.images.now (out_of c.args.out.now) (g.E.MessageSink.received c.args.err.now)
     c.loop-image.image-index (out_of c.loop-image.out) (out_of c.print_image-status.new.out) (g.E.MessageSink.received c.loop-image.err)
     (g.E.MessageSink.received c.print_image-status.new.err) c.loop-image.highest c.image-item.result c.print_image-status.result c.print_image-status.result.1
     c.loop-image.invariant (omega (arith, c.loop-image-test.true)) c.image-item.is (c.print_image-status.ensures, refl)
@@ -31,7 +31,7 @@ loop-image-preserved g c =
 
 pub returns : goal.returns
 returns g c =
-    each_image c.args.settings.now c.args.query.now c.args.images.now _ _ _ _ _ (sym c.is_empty.ensures ∙ c.if-is_empty.false)
-    (printed_all (PrintsOne c.args.settings.now c.args.query.now _) c.args.images.now (out_of c.args.out.now) (g.E.MessageSink.received c.args.err.now)
+    each_image c.args.settings.now c.args.query c.args.images.now _ _ _ _ _ (sym c.is_empty.ensures ∙ c.if-is_empty.false)
+    (printed_all (PrintsOne c.args.settings.now c.args.query _) c.args.images.now (out_of c.args.out.now) (g.E.MessageSink.received c.args.err.now)
     c.loop-image.image-index (out_of c.loop-image.out) (g.E.MessageSink.received c.loop-image.err) c.loop-image.highest c.loop-image.invariant
     (omega (arith, c.loop-image-test.false, c.loop-image.auto.image-index-end)))
