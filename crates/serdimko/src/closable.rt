@@ -1,5 +1,7 @@
 //! The output of the program, which may be closed by its reader.
 ghost use Rattle.std.specs.Prelude.{◌≡◌, ◌||◌, false};
+ghost use Rattle.std.specs.Io.{WritesAtMost};
+ghost use Rattle.std.specs.Io.KnownBytes.{WriteAppends};
 ghost use Rattle.serdimko.specs.Closed.{is_closing, says_closed};
 ghost use Rattle.serdimko.specs.Out.{is_closed};
 
@@ -36,23 +38,18 @@ fn is_closing(kind: ErrorKind) -> bool
     matches!(kind, ErrorKind::BrokenPipe)
 }
 
-impl<W: Write> Closable<W> {
-    /// Notes whether a write with this result says that the reader has closed the writer.
-    fn note(&mut self, taken: &Result<usize>)
-        ensures { self.new ≡ record self.old { is_closed = self.old.is_closed || says_closed taken.now } }
-    {
-        if let Err(error) = taken {
-            self.is_closed |= is_closing(error.kind());
-        }
-    }
-}
-
 impl<W: Write> Write for Closable<W> {
     ghost contents = { λ closable. W.contents closable.writer };
 
-    fn write(&mut self, buf: &[u8]) -> Result<usize> {
+    fn write(&mut self, buf: &[u8]) -> Result<usize>
+        ensures bound { WritesAtMost result buf.now }
+        ensures bytes { WriteAppends (W.contents self.old.writer) (W.contents self.new.writer) result buf.now }
+        ensures noted { self.new.is_closed ≡ (self.old.is_closed || says_closed result) }
+    {
         let taken = self.writer.write(buf);
-        self.note(&taken);
+        if let Err(error) = &taken {
+            self.is_closed |= is_closing(error.kind());
+        }
         taken
     }
 
