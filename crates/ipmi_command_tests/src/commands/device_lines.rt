@@ -28,7 +28,7 @@ const LINES: &str = "fru|inventories|
 fru|products|
 0 15
 --
-0 | AB | present | 123- | PQ | SX
+0 | AB | present | - | PQ | SX
 1 | PSU1 | present | CD | - | -
 ====
 fru|one inventory|
