@@ -217,6 +217,11 @@ signal.signal(signal.SIGINT, signal.SIG_DFL)
 os.setsid()
 os.execvp(sys.argv[1], sys.argv[1:])' scripts/live -- --tries 255 sdr list > /dev/null 2>&1 &
   session=$!
+  # the group is there when python3 has begun it, which takes time on a machine with load
+  for _ in {1..100}; do
+    if pgrep -g "$session" > /dev/null; then break; fi
+    sleep 0.1
+  done
   sleep 0.7
   kill "-$signal" -- "-$session" 2> /dev/null
   wait "$session" 2> /dev/null

@@ -26,14 +26,13 @@ run() {
 }
 export -f run
 
-# More places than the dialogue has bytes.
+# As many places as the dialogue has bytes, and some more.
 {
-  for tool in ipmitool freeipmi; do
-    echo "$tool whole"
-    for trouble in read print; do
-      for place in {0..180}; do echo "$tool $trouble=$place"; done
-    done
+  for trouble in read print; do
+    for place in {0..160}; do echo "ipmitool $trouble=$place"; done
+    for place in {0..80}; do echo "freeipmi $trouble=$place"; done
   done
+  printf '%s alive=1\n' ipmitool freeipmi
 } | xargs -P "$(nproc)" -n 2 bash -c 'run "$0" "$1"'
 
 python3 - "$work" << 'END'
@@ -57,13 +56,19 @@ def sent(folder):
     return b"|".join(open(file.path, "rb").read() for file in os.scandir(os.path.join(work, folder, "sent")))
 
 
-for tool, first in (("ipmitool", b"raw 0x06 0x01\necho .\nraw 0x0a 0x22\necho .\n"), ("freeipmi", b"00 0A 22\n")):
-    dialogue = sent(tool + ".whole")
-    if not dialogue.startswith(first) or len(dialogue) > 180 or read(tool + ".whole", "out") != b"0001 010051c001aa\n":
-        fault(tool, "the whole dialogue: %r" % dialogue)
+# Get Device ID, Reserve SDR Repository, and Get SDR of the header and then of the byte after it
+dialogues = {
+    "ipmitool": b"raw 0x06 0x01\necho .\nraw 0x0a 0x22\necho .\nraw 0x0a 0x23 0x01 0x00 0x00 0x00 0x00 0x05\necho .\n"
+    b"raw 0x0a 0x23 0x01 0x00 0x00 0x00 0x05 0x01\necho .\n",
+    "freeipmi": b"00 0A 22\n00 0A 23 01 00 00 00 00 05\n00 0A 23 01 00 00 00 05 01\n",
+}
+for tool, places in (("ipmitool", 161), ("freeipmi", 81)):
+    dialogue = sent(tool + ".alive=1")
+    if dialogue != dialogues[tool] or len(dialogue) >= places or read(tool + ".alive=1", "status") != b"0\n":
+        fault(tool, "the dialogue: %r" % dialogue)
     died = 0
     for trouble in "read", "print":
-        for place in range(181):
+        for place in range(places):
             folder = "%s.%s=%d" % (tool, trouble, place)
             if not dialogue.startswith(sent(folder)):
                 fault(folder, "sent %r" % sent(folder))
@@ -71,7 +76,7 @@ for tool, first in (("ipmitool", b"raw 0x06 0x01\necho .\nraw 0x0a 0x22\necho .\
                 died += 1
                 if not read(folder, "err").startswith(b"no reply from the controller: "):
                     fault(folder, "says %r" % read(folder, "err"))
-            elif read(folder, "status") != b"0\n" or read(folder, "out") != read(tool + ".whole", "out"):
+            elif read(folder, "status") != b"0\n" or read(folder, "out") != read(tool + ".alive=1", "out"):
                 fault(folder, "status %r" % read(folder, "status"))
     if died < len(dialogue):
         fault(tool, "died only %d times" % died)
