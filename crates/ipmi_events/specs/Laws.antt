@@ -30,7 +30,7 @@ abbrev pub EventInWordsExists : Type 0
 EventInWordsExists = (id : ℕ) (view : SelView) (records : List (List ℕ))
     → (text : List ℕ) × IsEventInWords id view records text
 
--- a sign stands between a reading and a threshold only if it is true of the two printed numbers
+-- a sign is printed between a reading and a threshold only if it is true of the two printed numbers
 pub record SignIsTrue (full : Option (List ℕ)) (event : EventData) : Type 0 where
   pub less : comparison full event ≡ codes " < "
       → printed_number full event.second <ℤ printed_number full event.third

@@ -52,7 +52,7 @@ pub(crate) struct Field {
     pub(crate) form: Form,
     /// The words of its codes. For most decimal fields there are none.
     pub(crate) words: &'static [&'static str],
-    /// The label of a code without words. Empty for a field that is alone in its byte, which is then printed whole.
+    /// The label of a code without words. Empty for the only field of a byte, which is then printed whole.
     pub(crate) code_label: &'static str,
 }
 

@@ -1,4 +1,4 @@
--- The keys of the objects. A label has another key, or it would make a key stand twice.
+-- The keys of the objects. A label has another key, or the object would have a key twice.
 use Rattle.std.specs.Prelude.{◌≡◌, ℕ, Bool, true, List, [], ◌∷◌, bytes_eq, codes}
 use Rattle.std.specs.List.{list_all, list_any}
 use Rattle.ipmi_json.specs.declared.object.Label.{Label}

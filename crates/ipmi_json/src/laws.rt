@@ -49,7 +49,7 @@ pub fn no_line_is_empty()
     ensures device { NoDeviceLineIsEmpty }
 {}
 
-/// Each key of an object is one that `is_object_key` knows, so a label with another key makes no key stand twice.
+/// Each key of an object is one that `is_object_key` knows, so with a label of another key no object has a key twice.
 pub fn each_key_is_an_object_key()
     ensures { ForEachLine IsLineOfObjectKeys }
 {}
