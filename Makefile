@@ -72,7 +72,8 @@ TO = $(DESTDIR)$(patsubst ~/%,$(HOME)/%,$(PREFIX))
 ZSH = $(if $(filter /usr /usr/,$(PREFIX)),vendor-completions,site-functions)
 PROGRAMS = "$(TO)/bin/$(NAME)" "$(TO)/bin/$(NAME)-live"
 TEXTS = "$(TO)/share/man/man1/$(NAME).1" "$(TO)/share/man/man1/$(NAME)-live.1" \
-  "$(TO)/share/bash-completion/completions/$(NAME)" "$(TO)/share/zsh/$(ZSH)/_$(NAME)"
+  "$(TO)/share/bash-completion/completions/$(NAME)" "$(TO)/share/bash-completion/completions/$(NAME)-live" \
+  "$(TO)/share/zsh/$(ZSH)/_$(NAME)" "$(TO)/share/zsh/$(ZSH)/_$(NAME)-live"
 
 # NAME may only have characters that mean themselves in a file name, a shell function and a manual page.
 CHECK_NAME = $(if $(shell printf '%s' '$(NAME)' | grep -xE '[A-Za-z0-9_][A-Za-z0-9_.-]*'),,$(error NAME is '$(NAME)', and has to be letters, digits and _ . -))
@@ -89,10 +90,12 @@ install:
 	sed 's/serdimko/$(subst -,\\-,$(NAME))/g' docs/serdimko.1 > "$(TO)/share/man/man1/$(NAME).1"
 	sed 's/serdimko/$(subst -,\\-,$(NAME))/g' docs/serdimko-live.1 > "$(TO)/share/man/man1/$(NAME)-live.1"
 	sed 's/serdimko/$(NAME)/g' completions/serdimko.bash > "$(TO)/share/bash-completion/completions/$(NAME)"
+	sed 's/serdimko/$(NAME)/g' completions/serdimko-live.bash > "$(TO)/share/bash-completion/completions/$(NAME)-live"
 	sed 's/serdimko/$(NAME)/g' completions/_serdimko > "$(TO)/share/zsh/$(ZSH)/_$(NAME)"
+	sed 's/serdimko/$(NAME)/g' completions/_serdimko-live > "$(TO)/share/zsh/$(ZSH)/_$(NAME)-live"
 	chmod 644 $(TEXTS)
 
-# Removes these six files. The folders stay, as others may use them.
+# Removes these eight files. The folders stay, as others may use them.
 uninstall:
 	$(CHECK_NAME)rm -f $(PROGRAMS) $(TEXTS)
 

@@ -77,9 +77,11 @@ before=$(state)
 expect_files 'install' '755 usr/local/bin/serdimko
 755 usr/local/bin/serdimko-live
 644 usr/local/share/bash-completion/completions/serdimko
+644 usr/local/share/bash-completion/completions/serdimko-live
 644 usr/local/share/man/man1/serdimko-live.1
 644 usr/local/share/man/man1/serdimko.1
-644 usr/local/share/zsh/site-functions/_serdimko'
+644 usr/local/share/zsh/site-functions/_serdimko
+644 usr/local/share/zsh/site-functions/_serdimko-live'
 if find "$to" -type d ! -perm 755 | grep .; then fault 'under umask 077 a folder is not readable by all'; fi
 cmp "$program" "$to/usr/local/bin/serdimko" || fault 'the installed program differs'
 cmp scripts/live "$to/usr/local/bin/serdimko-live" || fault 'the installed script differs'
@@ -97,9 +99,11 @@ run_make install DESTDIR="$to" PREFIX=/elsewhere NAME=ipmitool || fault 'install
 expect_files 'install NAME=ipmitool' "755 elsewhere/bin/ipmitool
 755 elsewhere/bin/ipmitool-live
 644 elsewhere/share/bash-completion/completions/ipmitool
+644 elsewhere/share/bash-completion/completions/ipmitool-live
 644 elsewhere/share/man/man1/ipmitool-live.1
 644 elsewhere/share/man/man1/ipmitool.1
 644 elsewhere/share/zsh/site-functions/_ipmitool
+644 elsewhere/share/zsh/site-functions/_ipmitool-live
 $(stat -c '%a' "$to/usr/local/bin/ipmitool.old") usr/local/bin/ipmitool.old
 $installed"
 if grep -rI serdimko "$to/elsewhere"; then fault 'NAME=ipmitool: a file still has the original name'; fi
@@ -107,6 +111,12 @@ grep -qx '.TH ipmitool 1 .*' "$to/elsewhere/share/man/man1/ipmitool.1" || fault 
 grep -qx '.TH ipmitool-live 1 .*' "$to/elsewhere/share/man/man1/ipmitool-live.1" || fault 'NAME=ipmitool: the page of live'
 grep -qx 'complete -F _ipmitool ipmitool' "$to/elsewhere/share/bash-completion/completions/ipmitool" || fault 'NAME=ipmitool: bash'
 grep -qx '#compdef ipmitool' "$to/elsewhere/share/zsh/site-functions/_ipmitool" || fault 'NAME=ipmitool: zsh'
+grep -qx 'complete -F _ipmitool_live ipmitool-live' "$to/elsewhere/share/bash-completion/completions/ipmitool-live" ||
+  fault 'NAME=ipmitool: bash of live'
+grep -qx '#compdef ipmitool-live' "$to/elsewhere/share/zsh/site-functions/_ipmitool-live" || fault 'NAME=ipmitool: zsh of live'
+# the completion of live finds the other one beside it
+bash -c '. "$0" && declare -F _ipmitool' "$to/elsewhere/share/bash-completion/completions/ipmitool-live" > "$work/out" ||
+  fault 'NAME=ipmitool: the completion of live alone'
 
 # Uninstall removes exactly the installed files.
 run_make uninstall DESTDIR="$to" || fault 'uninstall:' "$(cat "$work/err")"

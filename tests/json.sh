@@ -121,6 +121,8 @@ for image in images:
             fault(what, 'status', status, said, 'and with --json', json_status, json_said)
         if end['message'] != (said.rstrip('\n') or None):
             fault(what, 'message', end['message'])
+        if (end['reason'] == 'finished') != (status == 0):
+            fault(what, 'reason', end['reason'])
         if command[1:] not in (('info',), ('get', '1'), ('get', 'CPU1 Temp')) and len(found) != text.count('\n'):
             fault(what, len(found), 'objects and', text.count('\n'), 'lines')
         if command == ('sdr', 'list', 'all'):
@@ -186,7 +188,7 @@ for words in refused:
 # An image that is not there has an end all the same.
 status, out, said = run('--image', 'examples/none', '--json', 'sel', 'list')
 end = json.loads(out)
-if status != 3 or (end['status'], end['count'], end['message'] + '\n') != (3, 0, said):
+if status != 3 or (end['status'], end['reason'], end['count'], end['message'] + '\n') != (3, 'unread', 0, said):
     fault('no image:', status, out, said)
 sys.exit(bool(faults))
 END

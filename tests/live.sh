@@ -89,6 +89,7 @@ for dialect in --ipmitool --freeipmi; do
   fi
   TOOL_TROUBLES='say=Error: Unable to establish LAN session'
   says 1 'no reply from the controller: Error: Unable to establish LAN session' $dialect -- sel list
+  says 1 'no reply from the controller: Error: Unable to establish LAN session' $dialect -- sensor get CPU1 Temp
   TOOL_TROUBLES='die=4'
   says 1 'no reply from the controller: the tool said nothing' $dialect -- sdr hex
   TOOL_TROUBLES='garbage=4'
@@ -98,6 +99,25 @@ for dialect in --ipmitool --freeipmi; do
     TOOL_TROUBLES=$trouble
     live $dialect -- --part 254 sdr hex
     if [ "$status" -ne 1 ] || ! grep -q '^no reply from the controller: ' "$work/err"; then fault "$trouble: status $status, $(cat "$work/err")"; fi
+  done
+done
+
+# A machine that dies costs the tries of one thing, and Get Device ID.
+for dialect in --ipmitool --freeipmi; do
+  silence='ipmi_cmd_raw: session timeout'
+  opening=0
+  if [ $dialect = --ipmitool ]; then
+    silence='Unable to send RAW command (channel=0x0 netfn=0x6 lun=0x0 cmd=0x1)'
+    opening=1
+  fi
+  for answered in 1 3 40; do
+    TOOL_TROUBLES=dead=$((answered + 1))
+    : > "$TOOL_LOG"
+    says 1 "no reply from the controller: $silence" $dialect -- --tries 2 capture -o "$work/dead"
+    sent=$(wc -l < "$TOOL_LOG")
+    if [ "$sent" -ne $((opening + answered + 4)) ]; then fault "$dialect, $TOOL_TROUBLES: $sent requests"; fi
+    if [ "$(tail -n 1 "$TOOL_LOG")" != '0 06 01 ' ]; then fault "$dialect, $TOOL_TROUBLES: last $(tail -n 1 "$TOOL_LOG")"; fi
+    if [ -e "$work/dead" ]; then fault "$dialect, $TOOL_TROUBLES: a file"; fi
   done
 done
 TOOL_TROUBLES=
@@ -177,15 +197,88 @@ cmp -s "$work/out" "$work/other" || fault 'sensor get: the blocks differ from th
 says 2 "unknown command 'srd': did you mean 'sdr'?" -- srd
 says 2 '--image does not go with a live controller' -- --image x sdr
 says 2 "'image rewrite' needs a saved image: write serdimko --image FILE image rewrite" -- image rewrite
-says 2 'live: -- is missing before the command, as in: live -I open -- sdr list' sdr list
+says 2 'live: a command is missing, as in: live -I open sdr list' -I open
+says 2 'live: a command is missing, as in: live -I open sdr list' -I sdr -vU sel -fcapture
+says 2 'live: a command is missing, as in: live -I open sdr list' --freeipmi --password-prompt --host sdr -W sel --session-timeout 5
 says 2 'live: all users would see the password of -P: use -E with IPMI_PASSWORD, or -f FILE' -P secret -- sdr
 says 2 'live: all users would see the key of -k or -y: use -K with IPMI_KGKEY, or -Y' -k secret -- sdr
 says 2 'live: all users would see the password of -p: use -P, or --config-file=FILE' --freeipmi -psecret -- sdr
 says 2 'live: all users would see the password of -p: use -P, or --config-file=FILE' --freeipmi --password=secret -- sdr
 says 2 'live: all users would see the key of -k: use -K, or --config-file=FILE' --freeipmi --k-g=secret -- sdr
-says 2 'live: -- is missing before the command, as in: live -I open -- sdr list' --freeipmi --password-prompt sdr
+says 2 'live: all users would see the password of -P: use -E with IPMI_PASSWORD, or -f FILE' -vPsecret sdr
+for host in 'node[1-5]' a,b '[1-5]' '[::1],b' '[fe80::1]:623,c'; do
+  says 2 "live: '$host' names several hosts: give one host" -H "$host" sdr
+  says 2 "live: '$host' names several hosts: give one host" --freeipmi "-h$host" sdr
+  says 2 "live: '$host' names several hosts: give one host" --freeipmi "--hostname=$host" -- sdr
+done
+for seconds in '' 0 -1 1.5 07 x; do
+  says 2 "live: --deadline needs a number of seconds, not '$seconds'" --deadline "$seconds" sdr
+  says 2 "live: --deadline needs a number of seconds, not '$seconds'" "--deadline=$seconds" -- sdr
+done
 live --help
 if [ "$status" -ne 0 ] || ! grep -q '^usage: live ' "$work/out"; then fault '--help'; fi
+
+# The words before a command are the tool's, whatever the values of its options are.
+printf '#!/bin/sh\necho "$@" > "$TOOL_WORDS"\nexec "%s" "$@"\n' "$PWD/tests/live/tool.py" > "$work/tool"
+chmod 755 "$work/tool"
+export TOOL_WORDS=$work/words
+"$SERDIMKO" --image "$TOOL_IMAGE" sel info > "$work/wanted"
+given() {
+  local wanted=$1
+  shift
+  IPMITOOL=$work/tool IPMI_RAW=$work/tool live "$@"
+  if [ "$status" -ne 0 ] || ! cmp -s "$work/wanted" "$work/out"; then fault "$*: status $status, $(cat "$work/err")"; fi
+  if [ "$(cat "$TOOL_WORDS")" != "$wanted" ]; then fault "$*: the tool is given $(cat "$TOOL_WORDS")"; fi
+}
+given '-N 2 -R 2 -l 0 exec /dev/stdin' sel info
+given '-N 2 -R 2 -I open -l 0 exec /dev/stdin' --deadline 60 --ipmitool -I open sel info
+given '-N 2 -R 2 -H [::1] -U sel -vf fru -vvUsdr -N 5 -l 0 exec /dev/stdin' -H '[::1]' -U sel --deadline=60 -vf fru -vvUsdr -N 5 sel info
+given '-N 2 -R 2 -E -f -- -l 0 exec /dev/stdin' -E -f -- -- --part 20 sel info
+given '-N 2 -R 2 new -l 0 exec /dev/stdin' new -- sel info
+given '--session-timeout=4000 --retransmission-timeout=1000' --freeipmi sel info
+given '--session-timeout=4000 --retransmission-timeout=1000 -P --user sel -h sdr --debug' -P --freeipmi --user sel -h sdr --debug sel info
+given '--session-timeout=4000 --retransmission-timeout=1000 --hostname [::1]:623 -usel' --freeipmi --hostname '[::1]:623' --deadline 60 -usel -- sel info
+live sensor get --strict -- 'CPU1 Temp'
+if [ "$status" -ne 0 ]; then fault "-- in the program's words: status $status, $(cat "$work/err")"; fi
+# Its list of commands is that of the program.
+known=$(sed -n "s/^commands='\(.*\)'$/\1/p" scripts/live | tr ' ' '\n' | sort)
+if [ -z "$known" ] || [ "$known" != "$("$SERDIMKO" help | sed -n '/^Commands/,/^$/s/^  \([a-z]*\).*/\1/p' | sort -u)" ]; then
+  fault "its commands are" "$known"
+fi
+
+# The time is over, for the tool, the program and the file.
+for dialect in --ipmitool --freeipmi; do
+  TOOL_TROUBLES='hold=10' TOOL_HELD=$work/held IPMITOOL=$PWD/tests/live/tool.py IPMI_RAW=$PWD/tests/live/tool.py says 1 'live: there: no time left: --deadline 1' \
+    $dialect -H there -h there --deadline 1 capture -o "$work/timed"
+  if [ -e "$work/timed" ] || [ -e "$work/timed.part" ]; then fault 'a deadline: a file'; fi
+done
+
+# Its standard input is the program's.
+printf '#!/bin/sh\ncat\n' > "$work/program"
+chmod 755 "$work/program"
+if [ "$(echo words | SERDIMKO=$work/program scripts/live sdr)" != words ]; then fault 'no standard input'; fi
+if ! scripts/live sel info <&- | cmp -s - "$work/wanted"; then fault 'a closed standard input'; fi
+
+# A file that can't be written: one line, at once if its folder can't be, and nothing is left.
+says 4 "live: cannot write $work/none/image" capture -o "$work/none/image"
+ln -s /dev/full "$work/full.part"
+says 4 "cannot write $work/full" capture "--output=$work/full"
+if [ -e "$work/full" ] || [ -L "$work/full.part" ]; then fault 'a full disk: a file is left'; fi
+scripts/live capture > /dev/full 2> "$work/err"
+if [ $? -ne 4 ] || [ "$(cat "$work/err")" != 'write fault' ]; then fault "a full disk: $(cat "$work/err")"; fi
+TMPDIR=$work/none scripts/live capture -o "$work/image" > /dev/null 2> "$work/err"
+status=$?
+if [ "$status" -ne 1 ] || [ "$(wc -l < "$work/err")" -ne 1 ] || [ -e "$work/image.part" ]; then fault "no TMPDIR: $status, $(cat "$work/err")"; fi
+# Of two captures into a file one is refused.
+(
+  exec 9>> "$work/image.part"
+  flock 9
+  says 4 "live: cannot write $work/image: another capture does" capture "-o$work/image"
+  [ -e "$work/image.part" ] || fault 'two captures: the file of the first is gone'
+  exit $failed
+) || failed=1
+live capture "-o$work/image"
+if [ "$status" -ne 0 ] || [ -e "$work/image.part" ]; then fault "after another capture: $(cat "$work/err")"; fi
 
 # A tool that does not exist.
 IPMITOOL=$work/none

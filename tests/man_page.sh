@@ -175,4 +175,35 @@ expect '' -- --
 expect 'sdr sel sensor' -- s
 expect '' sdr get ''
 expect '' sdr info ''
+
+# The completions of serdimko-live know the commands, and which options of the tools have a value, as the script does.
+letters=$(grep -oE 'letters=[A-Za-z]+' scripts/live | cut -d = -f 2)
+first=$(sed -n "s/^commands='\(.*\)'$/\1/p" scripts/live | tr ' ' '\n')
+for completion in completions/serdimko-live.bash completions/_serdimko-live; do
+  same "the options of the tools in $completion" "$letters" "$(grep -oE 'values=[A-Za-z]+' "$completion" | cut -d = -f 2)"
+  same "the commands of $completion" "$first" "$(grep -oE '\(([a-z-]+\|)+help\)' "$completion" | tr -d '()' | tr '|' '\n' | grep -v '^--$')"
+done
+same 'the options of the page of serdimko-live' "$(scripts/live --help | grep -oE -- '--(ipmitool|freeipmi|deadline)')" \
+  "$(page=docs/serdimko-live.1 heads OPTIONS | grep -oE -- '--[a-z]+')"
+if command -v zsh > /dev/null && ! zsh -n completions/_serdimko-live; then failed=1; fi
+# shellcheck source=completions/serdimko-live.bash
+source completions/serdimko-live.bash
+offers() {
+  COMP_WORDS=(serdimko-live "$@")
+  COMP_CWORD=$#
+  _serdimko_live
+  [ "${#COMPREPLY[@]}" -eq 0 ] || printf '%s\n' "${COMPREPLY[@]}"
+}
+expect 'capture fru help sdr sel sensor' ''
+expect '--deadline --freeipmi --help --ipmitool' -
+expect 'sdr sel sensor' -I open -H sdr -v s
+expect 'capture fru help sdr sel sensor' -Hsdr ''
+expect '' --deadline ''
+expect files -vf ''
+expect 'list' -I open -U sel sel li
+expect 'list' -I open -- sdr li
+expect '--tries' -I open -- --tr
+expect files -U sel capture --output ''
+expect files --freeipmi -u ''
+expect 'sel sensor' --freeipmi -P se
 exit "$failed"

@@ -6,9 +6,9 @@ import re
 import sys
 
 # Get FRU Inventory Area Info, Read FRU Data, Get SDR Repository Info, Reserve SDR Repository, Get SDR, Get SEL Info, Reserve SEL,
-# Get SEL Entry, Get Sensor Reading (IPMI v2.0, appendix G)
-READ = {(0x0A, command) for command in (0x10, 0x11, 0x20, 0x22, 0x23, 0x40, 0x42, 0x43)} | {(0x04, 0x2D)}
-# ipmitool is sent Get Device ID first. A request to ipmi-raw begins with its logical unit.
+# Get SEL Entry, Get Sensor Reading, Get Device ID (IPMI v2.0, appendix G)
+READ = {(0x0A, command) for command in (0x10, 0x11, 0x20, 0x22, 0x23, 0x40, 0x42, 0x43)} | {(0x04, 0x2D), (0x06, 0x01)}
+# ipmitool is sent Get Device ID first, also if no more of it is sent. A request to ipmi-raw begins with its logical unit.
 FIRST = {"ipmitool": b"raw 0x06 0x01\necho .\n", "freeipmi": b""}
 REQUEST = {"ipmitool": rb"raw((?: 0x[0-9a-f]{2})+)\necho \.\n", "freeipmi": rb"0[0-3]((?: [0-9A-F]{2})+)\n"}
 requests = set()

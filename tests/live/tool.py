@@ -6,15 +6,18 @@ busy=N        each Nth request is refused with C0h       most=N     a part of mo
 cancel=N      each Nth part cancels the reservation      grant=N    an answer has at most N bytes of data
 unreserved=1  there are no reservations: requests for one are refused with C1h, and 0000h is accepted as one
 silent=N      each Nth request gets no answer            refuse=C,N the Nth request is refused with code C
+dead=N        from the Nth request on there is no answer
 garbage=N     the Nth answer is malformed                cut=N      the tool exits in the middle of the Nth answer
 long=N        the Nth answer is long and has no end      other=N    the Nth answer is one byte short
 say=TEXT      the tool prints this error and exits       die=N      the tool exits before the Nth answer
 warn=TEXT     the tool prints this before its first answer
+hold=N        the Nth answer never comes; with 0 the tool reads nothing
 read=N        the tool dies after N bytes of its input   print=N    the tool dies after N bytes of its output
 
 TOOL_LOG gets one line per request: unit, network function, command and data."""
 import os
 import sys
+import time
 
 TROUBLES = dict(word.split("=", 1) for word in os.environ.get("TOOL_TROUBLES", "").split("|") if word)
 
@@ -53,10 +56,14 @@ class Controller:
 
     def answer(self, unit, function, command, data):
         """Returns a completion code and bytes, or None for no answer."""
+        if self.requests + 1 >= int(TROUBLES.get("dead", 1 << 30)):
+            return None
         if (function, command) == (0x06, 0x01):
             # not counted: ipmitool begins a session with this request
             return 0, bytes(15)
         self.requests += 1
+        if TROUBLES.get("hold") == str(self.requests):
+            hold()
         if self.happens("silent"):
             return None
         if self.happens("busy"):
@@ -136,6 +143,12 @@ def freeipmi_text(command, answer):
     return "rcvd: " + "".join("%02X " % byte for byte in bytes([command, code]) + data) + "\n"
 
 
+def hold():
+    """Never returns. The file TOOL_HELD says that it was called."""
+    open(os.environ["TOOL_HELD"], "w", encoding="ascii").close()
+    time.sleep(600)
+
+
 def lines():
     """Returns the lines of standard input, up to the byte at which the tool dies."""
     left = int(TROUBLES.get("read", -1))
@@ -186,6 +199,8 @@ def main():
     words = sys.argv[1:]
     is_ipmitool = words[-2:] == ["exec", "/dev/stdin"]
     unit = int(words[words.index("-l") + 1]) if is_ipmitool else 0
+    if TROUBLES.get("hold") == "0":
+        hold()
     if "say" in TROUBLES:
         sys.stderr.write(TROUBLES["say"] + "\n")
         sys.exit(1)

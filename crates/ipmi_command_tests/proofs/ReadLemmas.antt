@@ -16,7 +16,7 @@ use Rattle.ipmi_raw.specs.declared.reply.Reply.{Reply}
 use Rattle.ipmi_raw.specs.declared.reply.Reply.TheVariants.{Data, Refused, Silent}
 use Rattle.ipmi_raw.specs.declared.request.RecordPart.{RecordPart}
 use Rattle.ipmi_raw.specs.declared.request.Request.{Request}
-use Rattle.ipmi_raw.specs.declared.request.Request.TheVariants.{Reserve, Get, Info, InventorySize, ReadInventory, Reading}
+use Rattle.ipmi_raw.specs.declared.request.Request.TheVariants.{DeviceId, Reserve, Get, Info, InventorySize, ReadInventory, Reading}
 use Rattle.ipmi_raw.specs.declared.tool.Tool.{Tool}
 use Rattle.ipmi_raw.specs.declared.tool.Tool.TheVariants.{Ipmitool, FreeIpmi}
 use Rattle.ipmi_raw.specs.Answer.{part_in}
@@ -27,6 +27,7 @@ use Rattle.ipmi_command_tests.specs.Replied.{IsReply}
 
 -- the request as the controller reads it; a count for a whole log entry, or more, is read as a whole entry
 abbrev pub as_read : Request → Request
+as_read DeviceId = DeviceId
 as_read (Reserve shelf) = Reserve shelf
 as_read (Get part) =
     Get (record part { count = for_shelf part.shelf part.count (if (part.offset == 0) && nat_le 16 part.count then 16 else part.count) })
@@ -96,6 +97,7 @@ count_read_le Sdr offset count = omega arith
 count_read_le Sel offset count = grind (arith, nat_tests)
 
 pub reply_as_read : (sent : Request) (reply : Reply) (s t : Seen) → IsReply (as_read sent) reply s t → IsReply sent reply s t
+reply_as_read DeviceId reply s t is = is
 reply_as_read (Reserve shelf) reply s t is = is
 reply_as_read (Get part) reply s t is =
     reply_more part (for_shelf part.shelf part.count (if (part.offset == 0) && nat_le 16 part.count then 16 else part.count)) reply s t
@@ -108,6 +110,7 @@ reply_as_read (Reading lun number) reply s t is = is
 -- the text for the one request is also a text for the other
 pub text_as_read : (tool : Tool) (sent : Request) (reply : Reply) (text : List ℕ) → IsReplyText tool (as_read sent) reply text
     → IsReplyText tool sent reply text
+text_as_read tool DeviceId reply text is = is
 text_as_read tool (Reserve shelf) reply text is = is
 text_as_read Ipmitool (Get part) (Data bytes) text is = is
 text_as_read Ipmitool (Get part) (Refused code) text is = is
@@ -133,6 +136,7 @@ get_is Sdr reservation id offset count some lt = grind (arith, nat_tests)
 get_is Sel reservation id offset count some lt = grind (arith, nat_tests)
 
 pub asked_is : (sent : Request) → IsRequest sent → asked_by (lun_of sent) (message_of sent) ≡ Some (as_read sent)
+asked_is DeviceId is = refl
 asked_is (Reserve Sdr) is = refl
 asked_is (Reserve Sel) is = refl
 asked_is (Get part) is =

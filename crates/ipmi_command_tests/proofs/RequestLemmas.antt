@@ -6,7 +6,7 @@ use Rattle.ipmi_text.specs.Bytes.{AreBytes}
 use Rattle.ipmi_bus.specs.declared.controller.Shelf.{Shelf}
 use Rattle.ipmi_bus.specs.declared.controller.Shelf.TheVariants.{Sdr, Sel}
 use Rattle.ipmi_raw.specs.declared.request.Request.{Request}
-use Rattle.ipmi_raw.specs.declared.request.Request.TheVariants.{Reserve, Get, Info, InventorySize, ReadInventory, Reading}
+use Rattle.ipmi_raw.specs.declared.request.Request.TheVariants.{DeviceId, Reserve, Get, Info, InventorySize, ReadInventory, Reading}
 use Rattle.ipmi_raw.specs.declared.tool.Tool.TheVariants.{Ipmitool, FreeIpmi}
 use Rattle.ipmi_raw.specs.Peer.{request_text}
 use Rattle.ipmi_raw.specs.Words.{bytes_after, two_digits}
@@ -55,10 +55,12 @@ message_are_bytes (ReadInventory part) is =
     (and 0x11 (part.id ∷ two_bytes part.offset ++ part.count ∷ []) (omega arith)
     (and part.id (two_bytes part.offset ++ part.count ∷ []) is.0
     (two part.offset (part.count ∷ []) is.1 (and part.count [] (omega (arith, is.3)) none))))
+message_are_bytes DeviceId is = and 0x06 (0x01 ∷ []) (omega arith) (and 0x01 [] (omega arith) none)
 message_are_bytes (Reading lun number) is =
     and 0x04 (0x2D ∷ number ∷ []) (omega arith) (and 0x2D (number ∷ []) (omega arith) (and number [] is.1 none))
 
 pub message_fits : (sent : Request) → length (message_of sent) ≤ 8
+message_fits DeviceId = omega arith
 message_fits (Reserve shelf) = omega arith
 message_fits (Get part) = omega arith
 message_fits (Info shelf) = omega arith
@@ -67,6 +69,7 @@ message_fits (ReadInventory part) = omega arith
 message_fits (Reading lun number) = omega arith
 
 pub lun_lt : (sent : Request) → IsRequest sent → lun_of sent < 256
+lun_lt DeviceId is = omega arith
 lun_lt (Reserve shelf) is = omega arith
 lun_lt (Get part) is = omega arith
 lun_lt (Info shelf) is = omega arith

@@ -3,7 +3,7 @@ use Rattle.std.specs.Prelude.{ℕ, ◌+◌, ◌*◌, ◌==◌, ◌&&◌, nat_lt,
 use Rattle.ipmi_bus.specs.declared.controller.Shelf.{Shelf}
 use Rattle.ipmi_bus.specs.declared.controller.Shelf.TheVariants.{Sdr, Sel}
 use Rattle.ipmi_raw.specs.declared.request.Request.{Request}
-use Rattle.ipmi_raw.specs.declared.request.Request.TheVariants.{Reserve, Get, Info, InventorySize, ReadInventory, Reading}
+use Rattle.ipmi_raw.specs.declared.request.Request.TheVariants.{DeviceId, Reserve, Get, Info, InventorySize, ReadInventory, Reading}
 
 -- with a network function and a command only
 abbrev pub of_two : ℕ → ℕ → Option Request
@@ -12,6 +12,7 @@ of_two function command =
     else if (function == 0x0A) && (command == 0x22) then Some (Reserve Sdr)
     else if (function == 0x0A) && (command == 0x40) then Some (Info Sel)
     else if (function == 0x0A) && (command == 0x42) then Some (Reserve Sel)
+    else if (function == 0x06) && (command == 0x01) then Some DeviceId
     else None
 
 -- with one byte of data

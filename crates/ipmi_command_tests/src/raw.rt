@@ -13,6 +13,7 @@ pub mod memory;
 mod message;
 mod printed;
 mod requests;
+mod silence;
 mod streams;
 mod tools;
 mod words;

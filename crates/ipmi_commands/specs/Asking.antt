@@ -1,7 +1,7 @@
 -- Requests for a reading, an info or an inventory, and their results: for the contracts of private
 -- functions.
-use Rattle.std.specs.Prelude.{◌≡◌, ℕ, ◌+◌, ◌≤◌, ◌==◌, Bool, false, IsTrue, Option, None, Some, Result, Ok, Err, List}
-use Rattle.ipmi_commands.specs.Below.{FruEnded, KeepsReservations, LastFruCallSays, Store, Shelf, Seen, Failure}
+use Rattle.std.specs.Prelude.{◌≡◌, ℕ, ◌+◌, ◌≤◌, ◌==◌, Bool, false, [], IsTrue, MatchBool, Option, None, Some, Result, Ok, Err, List}
+use Rattle.ipmi_commands.specs.Below.{fru_of, FruEnded, KeepsReservations, LastFruCallSays, printed_name, Row, sdr_view_of, SdrFault, SdrView, Store, Shelf, Seen, Failure}
 use Rattle.ipmi_commands.specs.declared.job.Form.{Form}
 use Rattle.ipmi_commands.specs.declared.job.Wording.{Wording}
 use Rattle.ipmi_commands.specs.declared.piece.Piece.{Piece}
@@ -11,9 +11,9 @@ use Rattle.ipmi_commands.specs.Allowed.{AtEnd, Cause, cause_of, EndsFor}
 use Rattle.ipmi_commands.specs.Calls.{calls_for_points}
 use Rattle.ipmi_commands.specs.Meanwhile.{KeepsAt}
 use Rattle.ipmi_commands.specs.Plan.{ReadPoint}
-use Rattle.ipmi_commands.specs.Run.{LacksValue, NoneIsTrue}
+use Rattle.ipmi_commands.specs.Run.{LacksValue, NoneIsTrue, ShowsInventory}
 use Rattle.ipmi_commands.specs.Output.{Output, piece_of}
-use Rattle.ipmi_commands.specs.Texts.{IsDevicePiece, IsInfoIn, is_faulty_there}
+use Rattle.ipmi_commands.specs.Texts.{IsDevicePiece, IsElsewhereIn, IsInfoIn, is_faulty_there}
 use Rattle.ipmi_commands.specs.Traced.{IsStopAmong}
 
 -- ---- found, or not
@@ -96,6 +96,24 @@ PieceErrorIsTrue (Form.Line detail kind) unread seen = LacksValue unread seen
 PieceErrorIsTrue (Form.Block wording name) unread seen = LacksValue unread seen
 PieceErrorIsTrue (Form.Device wording) unread seen = LacksInventory unread seen
 PieceErrorIsTrue _ unread seen = unread ≡ ReadError.Memory
+
+-- the text for a device of this name that a locator names: that it is elsewhere; nothing for device 0, which was already printed; or the
+-- text of some inventory, or of none if the last call says that there is none
+abbrev pub ShowsDevice : Wording → List ℕ → Option ℕ → Seen → Output → Type 0
+ShowsDevice wording name None seen text = IsElsewhereIn wording name text.bytes × (text ≡ piece_of text.bytes false)
+ShowsDevice wording name (Some id) seen text =
+    MatchBool (id == 0) (text ≡ piece_of [] false) (ShowsInventory wording id (Some name) seen text)
+
+-- the same for a record; nothing if it is no FRU device locator
+abbrev pub ShowsLocator : Wording → Result SdrView SdrFault → Seen → Output → Type 0
+ShowsLocator wording (Ok (SdrView.Fru bytes)) seen text =
+    ShowsDevice wording (printed_name (SdrView.Fru bytes)) (fru_of (SdrView.Fru bytes)) seen text
+ShowsLocator wording _ seen text = text ≡ piece_of [] false
+
+-- the same for a row in a listing of devices
+abbrev pub ShowsRow : Form → Row → Seen → Output → Type 0
+ShowsRow (Form.Device wording) row seen text = ShowsLocator wording (sdr_view_of row.bytes) seen text
+ShowsRow form row seen text = Unit {0}
 
 -- an info was read, or the last call says that there is none or why it was not read
 abbrev pub InfoSays : {T : Type 0} → Result (Option T) ReadError → Seen → Type 0

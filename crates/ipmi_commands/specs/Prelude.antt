@@ -1,6 +1,6 @@
 -- Re-exports the definitions of this crate that its code and proofs use. Declares nothing.
 pub use Rattle.ipmi_commands.specs.Allowed.{AreTexts, AtEnd, Cause, cause_of, Change, change, CountsSo, Dishonest, ending_of, EndsFor, GaveUp, HasCutItem, HasFirstItems, HasFreshTroubles, IsAllowed, IsAmong, IsFine, Leaves, NoMemory, NoOutput, Printed, PrintsAll, Refused, StopsAt, TextsJoined}
-pub use Rattle.ipmi_commands.specs.Asking.{InfoSays, LacksInventory, PieceErrorIsTrue, AsksAt, bytes_of, IsCountedDevice, row_has_fault, row_piece, shown, cause_of_unread, failure_of, Finds, FindsIt, FindsNone, is_absent, IsInfoText}
+pub use Rattle.ipmi_commands.specs.Asking.{InfoSays, LacksInventory, ShowsDevice, ShowsLocator, ShowsRow, PieceErrorIsTrue, AsksAt, bytes_of, IsCountedDevice, row_has_fault, row_piece, shown, cause_of_unread, failure_of, Finds, FindsIt, FindsNone, is_absent, IsInfoText}
 pub use Rattle.ipmi_commands.specs.Calls.{calls_for_point, calls_for_points, calls_for, most_after, most_for_one, most_on_walk, walk_call_bound}
 pub use Rattle.ipmi_commands.specs.Job.{entries_in, entries_job, IsFrom, IsJob, IsNamed, IsPlace, job_in, job_of, job_with, listing, listing_in, lists_all, searches, shelf_of}
 pub use Rattle.ipmi_commands.specs.Laws.{AreInText, AreOfBytes, FinishedRunsAreOne, ItemsHaveAText, IsInText, IsOfBytes, IsOfText, IsRowInText, ItemsHaveOneText}

@@ -2,7 +2,7 @@
 ghost use Rattle.std.specs.Prelude.{◌≡◌, ℕ, ◌+◌, ◌≤◌, ◌∷◌, [], None, Some, Err, IfErr, IfOk, OnOk, option_map, string_bytes, ◌++◌};
 ghost use Rattle.ipmi_commands.specs.Below.{Appends, AsksAtMost, LastFailed, NotPresent, LastFruCallSays, fru_call_bound, row_of_record, ReadsInventory, Seen, IsHonest, inventory_of, fru_of, printed_name, sdr_view_of};
 ghost use Rattle.ipmi_commands.specs.declared.job.Form.{Form};
-ghost use Rattle.ipmi_commands.specs.Prelude.{LacksInventory, in_parentheses, is_absent, Finds, IsCountedDevice, IsElsewhereIn, is_faulty_device, IsInventoryIn, IsInventoryPiece, IsInventoryText, IsPieceOver, AtInventory, device_points, locator_points, NoneIsTrue, OfInventory, OfRow, shown, ShowsInventory};
+ghost use Rattle.ipmi_commands.specs.Prelude.{LacksInventory, in_parentheses, is_absent, Finds, IsCountedDevice, IsElsewhereIn, is_faulty_device, IsInventoryIn, IsInventoryPiece, IsInventoryText, IsPieceOver, AtInventory, device_points, locator_points, NoneIsTrue, OfInventory, OfRow, shown, ShowsDevice, ShowsInventory, ShowsLocator};
 
 use crate::job::Wording;
 use crate::limits::RequestLimits;
@@ -198,6 +198,8 @@ fn device_piece<C: Controller>(
         65535 }
     ensures asked { AsksAtMost limits.part (C.seen ctl.old) (C.seen ctl.new) }
     ensures says { IfErr result (λ unread. LacksInventory unread (C.seen ctl.new)) }
+    ensures shows { IfOk result (λ piece. ShowsDevice wording.entry (printed_name view.now) (fru_of view.now)
+        (C.seen ctl.new) (shown piece)) }
     ensures honest { IsHonest (C.seen ctl.old) →
         Finds (λ store piece. IsCountedDevice wording.entry store (printed_name view.now) (fru_of view.now)
         (shown piece)) (device_points (fru_of view.now)) limits.tries (C.seen ctl.old)
@@ -224,6 +226,8 @@ pub(crate) fn locator_piece<C: Controller>(
         65535 }
     ensures asked { AsksAtMost limits.part (C.seen ctl.old) (C.seen ctl.new) }
     ensures says { IfErr result (λ unread. LacksInventory unread (C.seen ctl.new)) }
+    ensures shows { IfOk result (λ piece. ShowsLocator wording.entry (sdr_view_of lent.now.bytes.now) (C.seen ctl.new)
+        (shown piece)) }
     ensures honest { let row = row_of_record lent.now in IsHonest (C.seen ctl.old) →
         Finds (λ store piece. IsPieceOver store (OfRow (Form.Device wording.entry) row) (shown piece))
         (locator_points (sdr_view_of row.bytes)) limits.tries (C.seen ctl.old) (C.seen ctl.new)

@@ -4,7 +4,7 @@ ghost use Rattle.std.specs.Prelude.{◌≡◌, ◌+◌, ◌≤◌, false, IfErr,
 ghost use Rattle.ipmi_commands.specs.Below.{AsksAtMost, row_of_record, IsHonest, largest_len, whole_len, sdr_view_of};
 ghost use Rattle.ipmi_records.specs.Sdr.{name_of};
 ghost use Rattle.ipmi_commands.specs.declared.job.Form.{Form};
-ghost use Rattle.ipmi_commands.specs.Prelude.{PieceErrorIsTrue, LacksValue, bytes_of, Finds, is_name, is_of_kind, IsBlockIn, IsBlockOfName, IsEntryLine, IsFaultLine, IsLineOf, IsPieceOver, listed_points, most_after, named_points, OfRow, reading_for, reading_points, row_has_fault, row_piece, shelf_of, shown, points_because_of};
+ghost use Rattle.ipmi_commands.specs.Prelude.{PieceErrorIsTrue, LacksValue, bytes_of, Finds, is_name, is_of_kind, IsBlockIn, IsBlockOfName, IsEntryLine, IsFaultLine, IsLineOf, IsPieceOver, listed_points, most_after, named_points, OfRow, reading_for, reading_points, row_has_fault, row_piece, shelf_of, shown, ShowsRow, points_because_of};
 
 use crate::inventory::locator_piece;
 use crate::job::{Detail, Entries, Form, Wording};
@@ -286,6 +286,8 @@ pub(crate) fn row_text<C: Controller>(
         limits.tries }
     ensures asked { AsksAtMost limits.part (C.seen ctl.old) (C.seen ctl.new) }
     ensures says { IfErr result (λ unread. PieceErrorIsTrue form.now unread (C.seen ctl.new)) }
+    ensures shows { IfOk result (λ text. ShowsRow form.now (row_of_record lent.now) (C.seen ctl.new)
+        (row_piece line.new.items text)) }
     ensures honest { let row = row_of_record lent.now in IsHonest (C.seen ctl.old) →
         Finds (λ store text. IsPieceOver store (OfRow form.now row) (row_piece line.new.items text))
         (points_because_of form.now row) limits.tries (C.seen ctl.old) (C.seen ctl.new) result }

@@ -98,7 +98,7 @@ module _ (Holds : List Label → List ℕ → Type 0)
     info = λ name bytes labels text h. of_object (info_members name h.addition h.erase bytes) labels text refl h.is_line;
     device = of_device;
     elsewhere = λ name labels text h. of_object (elsewhere_members name) labels text refl h;
-    end = λ status message count labels text h. of_object (end_members status message count) labels text refl h;
+    end = λ status reason message count labels text h. of_object (end_members status reason message count) labels text refl h;
   }
 
 pub keys_known : ForEachLine IsLineOfObjectKeys

@@ -35,11 +35,12 @@ pub record IsInfoLine (name bytes : List ℕ) (labels : List Label) (text : List
 
 -- ---- the end
 
--- the end of a run: its status, its message if there is one, and the number of objects before
-abbrev pub end_members : ℕ → Option (List ℕ) → ℕ → List Pair
-end_members status message count =
+-- the end of a run: its status, why it ended, its message if there is one, and the number of objects before
+abbrev pub end_members : ℕ → List ℕ → Option (List ℕ) → ℕ → List Pair
+end_members status reason message count =
     (codes "object", string (codes "end"))
     ∷ (codes "status", integer status)
+    ∷ (codes "reason", string reason)
     ∷ (codes "message", text_or_null message)
     ∷ (codes "count", integer count)
     ∷ []

@@ -73,6 +73,7 @@ object_keys =
     codes "last_erase_raw" ∷
     codes "overflow" ∷
     codes "operation_support" ∷
+    codes "reason" ∷
     codes "message" ∷
     codes "count" ∷ []
 

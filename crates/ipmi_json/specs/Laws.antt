@@ -95,6 +95,6 @@ pub record ForEachLine (Holds : List Label → List ℕ → Type 0) : Type 0 whe
       → IsFruLine id name inventory labels text → Holds labels text
   pub elsewhere : (name : Option (List ℕ)) (labels : List Label) (text : List ℕ)
       → IsLineOf (elsewhere_members name) labels text → Holds labels text
-  pub end : (status : ℕ) (message : Option (List ℕ)) (count : ℕ) (labels : List Label)
-      (text : List ℕ) → IsLineOf (end_members status message count) labels text
+  pub end : (status : ℕ) (reason : List ℕ) (message : Option (List ℕ)) (count : ℕ) (labels : List Label)
+      (text : List ℕ) → IsLineOf (end_members status reason message count) labels text
       → Holds labels text

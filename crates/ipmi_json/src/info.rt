@@ -129,15 +129,16 @@ pub fn sel_info_line(
     info_line(alloc, "sel_info", bytes, labels)
 }
 
-/// The last line of a listing: its status, its message, and the number of objects before. A listing without it was cut off.
+/// The last line of a listing: its status, why it ended, its message, and the number of objects before. A listing without it was cut off.
 pub fn end_line(
     alloc: Global,
     status: u8,
+    reason: &'static str,
     message: Option<&str>,
     count: u64,
     labels: &[Label],
 ) -> Result<Vec<u8>, AllocError>
-    ensures { IfOk result (λ line. IsLineOf (end_members status
+    ensures { IfOk result (λ line. IsLineOf (end_members status reason.entry.now
         (option_map (λ text. text.now) message.entry) count) labels.now line.items) }
 {
     object_line(
@@ -145,6 +146,7 @@ pub fn end_line(
         &[
             ("object", Value::Text("end")),
             ("status", Value::Integer(u64::from(status))),
+            ("reason", Value::Text(reason)),
             ("message", text_or_null(message)),
             ("count", Value::Integer(count)),
         ],

@@ -3,7 +3,7 @@ ghost use Rattle.std.specs.Prelude.{◌≡◌};
 ghost use Rattle.ipmi_json.specs.Keys.{is_object_key};
 
 /// The keys of all objects. Those of objects inside them are left out, as no label is added there.
-const KEYS: [&str; 68] = [
+const KEYS: [&str; 69] = [
     "object",
     "record_id",
     "record_type",
@@ -70,6 +70,7 @@ const KEYS: [&str; 68] = [
     "last_erase_raw",
     "overflow",
     "operation_support",
+    "reason",
     "message",
     "count",
 ];

@@ -6,7 +6,7 @@ use Rattle.ipmi_bus.specs.declared.controller.Shelf.TheVariants.{Sdr, Sel}
 use Rattle.ipmi_raw.specs.declared.reply.Reply.{Reply}
 use Rattle.ipmi_raw.specs.declared.reply.Reply.TheVariants.{Data, Refused, Silent}
 use Rattle.ipmi_raw.specs.declared.request.Request.{Request}
-use Rattle.ipmi_raw.specs.declared.request.Request.TheVariants.{Reserve, Get, Info, InventorySize, ReadInventory, Reading}
+use Rattle.ipmi_raw.specs.declared.request.Request.TheVariants.{DeviceId, Reserve, Get, Info, InventorySize, ReadInventory, Reading}
 use Rattle.ipmi_raw.specs.declared.tool.Tool.TheVariants.{FreeIpmi}
 use Rattle.ipmi_raw.specs.Words.{word, words_from, AreData}
 use Rattle.ipmi_raw.specs.Request.{for_shelf, command_of}
@@ -23,6 +23,7 @@ command_lt (Info shelf) = for_shelf_lt shelf 0x20 0x40 (omega arith) (omega arit
 command_lt (InventorySize id) = omega arith
 command_lt (ReadInventory part) = omega arith
 command_lt (Reading lun number) = omega arith
+command_lt DeviceId = omega arith
 
 -- a text that begins like a reply, but does not continue with a code and bytes
 pub no_reply : (request : Request) (text rest : List ℕ) → ¬ IsSilence text

@@ -1,5 +1,5 @@
 -- The answers of a controller at the other end of a peer are also the answers of the controller over that peer.
-use Rattle.std.proofs.Common.{◌≡◌, ℕ, ◌+◌, ◌<◌, ◌==◌, Bool, true, false, Option, Some, None, Result, Ok, Err, IsOk, MatchOption, List, length, drop, refl, ◌∙◌}
+use Rattle.std.proofs.Common.{◌≡◌, ℕ, ◌+◌, ◌<◌, ◌==◌, Bool, true, false, Option, Some, None, Result, Ok, Err, IsOk, MatchOption, List, length, drop, refl, sym, subst, ap, ◌∙◌}
 use Rattle.ipmi_bus.specs.declared.code.Code.{Code}
 use Rattle.ipmi_bus.specs.declared.code.CodeClass.{CodeClass}
 use Rattle.ipmi_bus.specs.declared.code.CodeClass.TheVariants.{Busy, Cancelled, NotPresent, Refusal, SmallerPart}
@@ -14,9 +14,9 @@ use Rattle.ipmi_bus.specs.Shelf.{Row, look, id_in}
 use Rattle.ipmi_bus.specs.Store.{Store, rows_of, info_of, inventory_of, reading_of}
 use Rattle.ipmi_bus.specs.Answers.{other, CountsPiece, FailsWith, ReserveAnswers, Asked, GivesPiece, PartAnswers, ValueAnswers, SizeAnswers, BytesAnswers, not_present, part_asked}
 use Rattle.ipmi_raw.specs.Controller.{seen_through}
-use Rattle.ipmi_raw.specs.Answer.{IsAnswer, data_in, first_in, part_in, reading_in, size_in, value_in}
+use Rattle.ipmi_raw.specs.Answer.{CountsCalls, given, IsAnswer, data_in, first_in, part_in, reading_in, size_in, value_in}
 use Rattle.ipmi_raw.specs.declared.request.Request.{Request}
-use Rattle.ipmi_raw.specs.declared.request.Request.TheVariants.{Reserve, Get, Info, InventorySize, ReadInventory, Reading}
+use Rattle.ipmi_raw.specs.declared.request.Request.TheVariants.{DeviceId, Reserve, Get, Info, InventorySize, ReadInventory, Reading}
 
 honest_behind : (s : Seen) (c : Counts) (lost : Bool) → IsHonest (seen_through s c lost) → IsHonest s × (lost ≡ false)
 honest_behind s c false h = (record { said = h.said; store = h.store }, refl)
@@ -196,6 +196,7 @@ bytes id offset asked (Err code) into s t c d h = record {
 
 answer : (request : Request) (result : Result (List ℕ) Code) (s t : Seen) (c d : Counts)
     → IsAnswer request result s t → IsAnswer request result (seen_through s c false) (seen_through t d false)
+answer DeviceId result s t c d h = (h.0, ap (λ x. through x d) h.1)
 answer (Reserve shelf) result s t c d h = reserve shelf (value_in id_in result) s t c d h
 answer (Get piece) result s t c d h =
     part (part_asked piece.shelf piece.reservation piece.id piece.offset piece.count) (value_in part_in result)
@@ -212,3 +213,34 @@ pub answered : (request : Request) (result : Result (List ℕ) Code) (s t : Seen
 answered request result s t c d was is h same honest =
     let behind = honest_behind s c was honest in
     rw same (rw behind.1 (answer request result s t c d (h behind.0)))
+
+-- ---- a request after it
+
+abbrev own_counts : Seen → Counts
+own_counts s = record {
+  calls = s.calls;
+  most_asked = s.most_asked;
+  last_asked = s.last_asked;
+  last_failure = s.last_failure;
+  troubles = 0;
+  fresh_troubles = 0;
+  refusals = 0;
+  last_code = 0;
+  stores_added = 0;
+}
+
+-- what an honest controller answered it may have answered too if only calls were counted since
+pub answered_before : (request : Request) (result : Result (List ℕ) Code) (s t u : Seen) → IsAnswer request result s t → CountsCalls t u
+    → IsAnswer request result s u
+answered_before request result s t u h later =
+    subst (λ (x : Seen). IsAnswer request result s x) (sym later) (answer request result s t (own_counts s) (own_counts u) h)
+
+pub still_honest : (request : Request) (result : Result (List ℕ) Code) (s t : Seen) → IsHonest s → IsAnswer request result s t
+    → IsHonest t
+still_honest DeviceId result s t honest h = rw h.1 (record { said = honest.said; store = honest.store })
+still_honest (Reserve shelf) result s t honest h = h.change.stays.honest
+still_honest (Get part) result s t honest h = h.change.stays.honest
+still_honest (Info shelf) result s t honest h = h.change.stays.honest
+still_honest (InventorySize id) result s t honest h = h.change.stays.honest
+still_honest (ReadInventory part) result s t honest h = h.change.stays.honest
+still_honest (Reading lun number) result s t honest h = h.change.stays.honest

@@ -1,6 +1,6 @@
 -- What a call returns for a reply, and which replies an honest controller gives to a request (IPMI
--- v2.0, sections 31.2, 31.4, 31.5, 33.9, 33.11, 33.12, 34.1, 34.2 and 35.14).
-use Rattle.std.specs.Prelude.{ℕ, ◌≡◌, ◌+◌, ◌-◌, ◌%◌, ◌≤◌, ◌==◌, ◌||◌, Bool, false, if◌then◌else◌, Result, Ok, Err, List, [], ◌∷◌, length, slice_index, drop}
+-- v2.0, sections 20.1, 31.2, 31.4, 31.5, 33.9, 33.11, 33.12, 34.1, 34.2 and 35.14).
+use Rattle.std.specs.Prelude.{ℕ, ◌≡◌, ◌≢◌, ◌+◌, ◌-◌, ◌%◌, ◌≤◌, ◌==◌, ◌||◌, Bool, false, if◌then◌else◌, Result, Ok, Err, List, [], ◌∷◌, length, slice_index, drop}
 use Rattle.ipmi_text.specs.declared.reading.Reading as sensor
 use Rattle.ipmi_bus.specs.declared.code.Code.{Code}
 use Rattle.ipmi_bus.specs.declared.controller.FruSize.{FruSize}
@@ -12,13 +12,15 @@ use Rattle.ipmi_bus.specs.Answers.{BytesAnswers, PartAnswers, ReserveAnswers, Si
 use Rattle.ipmi_raw.specs.declared.reply.Reply.{Reply}
 use Rattle.ipmi_raw.specs.declared.reply.Reply.TheVariants.{Data, Refused, Silent}
 use Rattle.ipmi_raw.specs.declared.request.Request.{Request}
-use Rattle.ipmi_raw.specs.declared.request.Request.TheVariants.{Reserve, Get, Info, InventorySize, ReadInventory, Reading}
+use Rattle.ipmi_raw.specs.declared.request.Request.TheVariants.{DeviceId, Reserve, Get, Info, InventorySize, ReadInventory, Reading}
 
 -- ---- the data of a reply, after its completion code
 
 -- Its length is as in the standard. A part has at most as many bytes as asked, not counting the
--- next id or the count before them.
+-- next id or the count before them. What a device says of itself is not used, so it may have any
+-- length.
 abbrev pub IsDataOf : Request → List ℕ → Type 0
+IsDataOf DeviceId bytes = Unit {0}
 IsDataOf (Reserve shelf) bytes = length bytes ≡ 2
 IsDataOf (Get part) bytes = (2 ≤ length bytes) × (length bytes ≤ 2 + part.count)
 IsDataOf (Info shelf) bytes = length bytes ≡ 14
@@ -51,6 +53,7 @@ reading_in bytes = record {
 
 -- codes other than CBh by which controllers say that there is no such sensor or device
 abbrev pub says_absent : Request → ℕ → Bool
+says_absent DeviceId code = false
 says_absent (Reserve shelf) code = false
 says_absent (Get part) code = false
 says_absent (Info shelf) code = false
@@ -64,6 +67,7 @@ code_given request code = record { 0 = if says_absent request code then 0xCB els
 
 -- a controller that does not know the command to reserve a shelf has no reservations
 abbrev pub says_unreserved : Request → ℕ → Bool
+says_unreserved DeviceId code = false
 says_unreserved (Reserve shelf) code = code == 0xC1
 says_unreserved (Get part) code = false
 says_unreserved (Info shelf) code = false
@@ -95,8 +99,22 @@ IsDataIfAny request (Err code) = Unit {0}
 
 -- ---- an honest controller
 
--- the result is what an honest controller may answer to the call of this request
+-- nothing changes but what counts calls
+abbrev pub CountsCalls : Seen → Seen → Type 0
+CountsCalls old new = new ≡ record old {
+  calls = new.calls;
+  most_asked = new.most_asked;
+  last_asked = new.last_asked;
+  last_failure = new.last_failure;
+}
+
+-- Get Device ID is not met with silence: the standard requires that each controller answers it
+abbrev pub IsThere : Result (List ℕ) Code → Type 0
+IsThere result = result ≢ given DeviceId Silent
+
+-- the result is what an honest controller may answer to this request
 abbrev pub IsAnswer : Request → Result (List ℕ) Code → Seen → Seen → Type 0
+IsAnswer DeviceId result old new = IsThere result × CountsCalls old new
 IsAnswer (Reserve shelf) result old new = ReserveAnswers shelf (value_in id_in result) old new
 IsAnswer (Get part) result old new =
     PartAnswers (part_asked part.shelf part.reservation part.id part.offset part.count) (value_in part_in result)

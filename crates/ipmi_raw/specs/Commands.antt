@@ -5,11 +5,11 @@ use Rattle.ipmi_raw.specs.declared.request.Request.{Request}
 use Rattle.ipmi_raw.specs.Request.{command_of, network_function_of}
 
 -- Get FRU Inventory Area Info, Read FRU Data, Get SDR Repository Info, Reserve SDR Repository, Get SDR, Get SEL Info, Reserve SEL,
--- Get SEL Entry; Get Sensor Reading
+-- Get SEL Entry; Get Sensor Reading; Get Device ID
 abbrev pub reading_commands : List (ℕ × ℕ)
 reading_commands =
     (0x0A, 0x10) ∷ (0x0A, 0x11) ∷ (0x0A, 0x20) ∷ (0x0A, 0x22) ∷ (0x0A, 0x23) ∷ (0x0A, 0x40) ∷ (0x0A, 0x42) ∷ (0x0A, 0x43)
-    ∷ (0x04, 0x2D) ∷ []
+    ∷ (0x04, 0x2D) ∷ (0x06, 0x01) ∷ []
 
 -- Write FRU Data
 abbrev pub inventory_changes : List (ℕ × ℕ)
@@ -43,7 +43,7 @@ is_one_of commands function number = list_any (λ command. (command.0 == functio
 abbrev pub has_one_of : List (ℕ × ℕ) → Request → Bool
 has_one_of commands request = is_one_of commands (network_function_of request) (command_of request)
 
--- each request has one of the nine commands that read or reserve
+-- each request has one of the ten commands that read or reserve
 abbrev pub OnlyReadingCommands : Type 0
 OnlyReadingCommands = (request : Request) → has_one_of reading_commands request ≡ true
 

@@ -1,12 +1,14 @@
 -- What contracts see of a controller at the other end of a peer.
-use Rattle.std.specs.Prelude.{ℕ, ◌≡◌, ⊤, Bool, true, false, if◌then◌else◌, MatchBool, Option, None, Some, Result, Ok, Err, List}
+use Rattle.std.specs.Prelude.{ℕ, ◌≡◌, ◌+◌, ◌≤◌, ◌<◌, ⊤, Bool, true, false, if◌then◌else◌, is_none, MatchBool, MatchOption, Option, None, Some, Result, Ok, Err, List}
 use Rattle.ipmi_bus.specs.declared.code.Code.{Code}
 use Rattle.ipmi_bus.specs.Counts.{Counts}
 use Rattle.ipmi_bus.specs.Seen.{Seen}
 use Rattle.ipmi_raw.specs.declared.controller.RawController.{RawController}
 use Rattle.ipmi_raw.specs.declared.peer.Lost.{Lost}
 use Rattle.ipmi_raw.specs.declared.reply.Reply.{Reply}
+use Rattle.ipmi_raw.specs.declared.reply.Reply.TheVariants.{Data, Refused, Silent}
 use Rattle.ipmi_raw.specs.declared.request.Request.{Request}
+use Rattle.ipmi_raw.specs.declared.request.Request.TheVariants.{DeviceId}
 use Rattle.ipmi_raw.specs.declared.tool.Tool.{Tool}
 use Rattle.ipmi_raw.specs.Answer.{given, IsDataIfAny}
 use Rattle.ipmi_raw.specs.Peer.{IsReplyText}
@@ -34,13 +36,11 @@ tool_of tool raw = tool raw.peer
 abbrev pub last_words : {P K : Type 0} → RawController P K → Option (List ℕ)
 last_words raw = if raw.is_lost then Some raw.text.items else None
 
+-- ---- one exchange over a peer
+
 -- the type of a peer's `brings`: what is known of its exchanges
 abbrev pub Exchanges : Type 0 → Type 1
 Exchanges P = P → P → Request → Result (Unit {0}) Lost → List ℕ → Type 0
-
--- the request was sent, and the received text is that of the peer
-abbrev pub Exchanged : {P K : Type 0} → Exchanges P → Request → RawController P K → RawController P K → Result (Unit {0}) Lost → Type 0
-Exchanged brings request old new came = brings old.peer new.peer request came new.text.items
 
 -- no reply came, or the received text is not of a reply to the request with data of the right length
 abbrev pub IsUnheard : Tool → Request → Result (Unit {0}) Lost → List ℕ → Type 0
@@ -48,20 +48,55 @@ IsUnheard tool request (Err lost) text = ⊤
 IsUnheard tool request (Ok done) text =
     (reply : Reply) → IsReplyText tool request reply text → ¬ IsDataIfAny request (given request reply)
 
--- A call sends its request over any peer, unless the connection was already lost. If the connection is lost afterwards, no usable
--- reply came; otherwise a reply came.
-abbrev pub Sends : {P K : Type 0} → Exchanges P → Tool → Request → RawController P K → RawController P K → Type 0
-Sends brings tool request old new = old.is_lost ≡ false
-    → (came : Result (Unit {0}) Lost) × Exchanged brings request old new came
-    × MatchBool new.is_lost (IsUnheard tool request came new.text.items) (came ≡ Ok tt)
+-- a reply came: the received text is of it, and its data have the right length
+abbrev pub IsHeard : Tool → Request → Result (Unit {0}) Lost → List ℕ → Reply → Type 0
+IsHeard tool request came text reply =
+    (came ≡ Ok tt) × IsReplyText tool request reply text × IsDataIfAny request (given request reply)
 
--- The result of a call over any peer. If the connection is not lost, the received text is of a reply to the request, with data of
--- the right length, and the call returns what that reply says. If it is lost after the call, the call fails with FFh. If it was
--- lost before, nothing is sent, and only counts change. The clock and the pause never change.
-pub record Hears {P K : Type 0} (tool : Tool) (request : Request) (Gives : Result (List ℕ) Code → Type 0) (old new : RawController P K)
-    (failure : Option ℕ) : Type 0 where
-  pub lasts : new.is_lost ≡ false → (reply : Reply) × IsReplyText tool request reply new.text.items
-      × IsDataIfAny request (given request reply) × Gives (given request reply)
+-- The request was sent once over the peer, which was `old` and is `new`, and nothing else was. This reply was heard, or none.
+abbrev pub Exchanged : {P : Type 0} → Exchanges P → Tool → Request → Option Reply → P → P → List ℕ → Type 0
+Exchanged brings tool request heard old new text = (came : Result (Unit {0}) Lost) × brings old new request came text
+    × MatchOption heard (IsUnheard tool request came text) (IsHeard tool request came text)
+
+-- ---- a call
+
+-- what was heard is an answer: data or a code
+abbrev pub is_answer : Option Reply → Bool
+is_answer (Some (Data bytes)) = true
+is_answer (Some (Refused code)) = true
+is_answer (Some Silent) = false
+is_answer None = false
+
+-- the number of silent requests in a row, if there were so many before one more request
+abbrev pub silent_after : ℕ → Option Reply → ℕ
+silent_after silent (Some (Data bytes)) = 0
+silent_after silent (Some (Refused code)) = 0
+silent_after silent (Some Silent) = silent + 1
+silent_after silent None = silent
+
+-- Get Device ID was sent over this peer, and nothing else. If there was no answer, the connection is lost.
+abbrev pub Probes : {P K : Type 0} → Exchanges P → Tool → P → RawController P K → Type 0
+Probes brings tool peer new = (heard : Option Reply) × Exchanged brings tool DeviceId heard peer new.peer new.text.items
+    × MatchBool new.is_lost (is_answer heard ≡ false) ((is_answer heard ≡ true) × (new.silence.silent ≡ 0))
+
+-- A call sends its request. If so many requests in a row were silent that a thing is given up for them, it sends Get Device ID too;
+-- otherwise nothing else. If the connection is not lost then, there was a reply, for which the call returns what `Gives` says.
+pub record Sends {P K : Type 0} (brings : Exchanges P) (tool : Tool) (request : Request) (Gives : Reply → Type 0)
+    (old new : RawController P K) : Type 0 where
+  pub heard : Option Reply
+  pub peer : P
+  pub text : List ℕ
+  pub sent : Exchanged brings tool request heard old.peer peer text
+  pub counts : silent_after old.silence.silent heard ≤ old.silence.tries → (new.peer ≡ peer) × (new.text.items ≡ text)
+      × (new.is_lost ≡ is_none heard) × (new.silence.silent ≡ silent_after old.silence.silent heard)
+  pub probes : old.silence.tries < silent_after old.silence.silent heard → Probes brings tool peer new
+  pub gives : new.is_lost ≡ false → MatchOption heard ⊥ Gives
+
+-- A call over any peer. If the connection is lost after it, the call fails with FFh. If it was lost before, nothing is sent, and only
+-- counts change. The clock, the pause and the number of tries never change.
+pub record Asks {P K : Type 0} (brings : Exchanges P) (tool : Tool) (request : Request) (Gives : Result (List ℕ) Code → Type 0)
+    (old new : RawController P K) (failure : Option ℕ) : Type 0 where
+  pub sends : old.is_lost ≡ false → Sends brings tool request (λ reply. Gives (given request reply)) old new
   pub fails : new.is_lost ≡ true → failure ≡ Some 0xFF
   pub stays : old.is_lost ≡ true → new ≡ record old { tally = new.tally }
-  pub waits : (new.clock ≡ old.clock) × (new.pause ≡ old.pause)
+  pub keeps : (new.clock ≡ old.clock) × (new.pause ≡ old.pause) × (new.silence.tries ≡ old.silence.tries)

@@ -5,10 +5,11 @@ use Rattle.ipmi_bus.specs.declared.controller.Shelf.TheVariants.{Sdr, Sel}
 use Rattle.ipmi_raw.specs.declared.request.InventoryPart.{InventoryPart}
 use Rattle.ipmi_raw.specs.declared.request.RecordPart.{RecordPart}
 use Rattle.ipmi_raw.specs.declared.request.Request.{Request}
-use Rattle.ipmi_raw.specs.declared.request.Request.TheVariants.{Reserve, Get, Info, InventorySize, ReadInventory, Reading}
+use Rattle.ipmi_raw.specs.declared.request.Request.TheVariants.{DeviceId, Reserve, Get, Info, InventorySize, ReadInventory, Reading}
 
--- 0Ah is storage, 04h is sensor
+-- 06h is application, 0Ah is storage, 04h is sensor
 abbrev pub network_function_of : Request → ℕ
+network_function_of DeviceId = 0x06
 network_function_of (Reserve shelf) = 0x0A
 network_function_of (Get part) = 0x0A
 network_function_of (Info shelf) = 0x0A
@@ -17,6 +18,7 @@ network_function_of (ReadInventory part) = 0x0A
 network_function_of (Reading lun number) = 0x04
 
 abbrev pub lun_of : Request → ℕ
+lun_of DeviceId = 0
 lun_of (Reserve shelf) = 0
 lun_of (Get part) = 0
 lun_of (Info shelf) = 0
@@ -30,6 +32,7 @@ for_shelf Sdr sdr sel = sdr
 for_shelf Sel sdr sel = sel
 
 abbrev pub command_of : Request → ℕ
+command_of DeviceId = 0x01
 command_of (Reserve shelf) = for_shelf shelf 0x22 0x42
 command_of (Get part) = for_shelf part.shelf 0x23 0x43
 command_of (Info shelf) = for_shelf shelf 0x20 0x40
@@ -48,6 +51,7 @@ abbrev pub two_bytes : ℕ → List ℕ
 two_bytes n = (n % 256) ∷ (n / 256) ∷ []
 
 abbrev pub data_of : Request → List ℕ
+data_of DeviceId = []
 data_of (Reserve shelf) = []
 data_of (Get part) = two_bytes part.reservation ++ two_bytes part.id ++ part.offset ∷ count_asked part ∷ []
 data_of (Info shelf) = []
@@ -76,6 +80,7 @@ inventory_part id offset count = record { id = id; offset = offset; count = coun
 -- Each number fits its field of the message, and a part has 1 to 254 bytes. The logical unit may be
 -- any byte: a message can hold only 0 to 3, and no sensor answers at another unit.
 abbrev pub IsRequest : Request → Type 0
+IsRequest DeviceId = Unit {0}
 IsRequest (Reserve shelf) = Unit {0}
 IsRequest (Get part) =
     (part.reservation < 65536) × (part.id < 65536) × (part.offset < 256) × (0 < part.count) × (part.count < 255)

@@ -1,19 +1,19 @@
 //! A management controller that is asked through a peer.
-ghost use Rattle.std.specs.Prelude.{None, Result, Ok, ◌≡◌, ◌+◌, ◌<◌, ◌≤◌, IfSome, MatchOption, IfOk, OnErr, false, length, take, drop, option_map};
+ghost use Rattle.std.specs.Prelude.{None, Option, Result, Some, ◌≡◌, ◌+◌, ◌<◌, ◌≤◌, IfSome, MatchBool, MatchOption, IfOk, OnErr, false, is_none, not, true, length, take, drop, option_map};
 ghost use Rattle.ipmi_bus.specs.Counts.{Counts};
 ghost use Rattle.ipmi_bus.specs.Shelf.{id_in};
 ghost use Rattle.ipmi_bus.specs.Prelude.{IsCall, failing_code, IsHonest, info_of, reading_of, ReserveAnswers, PartAnswers, ValueAnswers, SizeAnswers, BytesAnswers, part_asked, counts_after, zero_counts};
 ghost use Rattle.ipmi_bus.specs.declared.tally.Event.{Event};
-ghost use Rattle.ipmi_raw.specs.Answer.{data_in, first_in, given, IsAnswer, IsDataIfAny, IsDataOf, part_in, reading_in, size_in, value_in};
-ghost use Rattle.ipmi_raw.specs.Controller.{Exchanged, Hears, IsUnheard, last_words, seen_of, Sends, seen_through, tool_of};
-ghost use Rattle.ipmi_raw.specs.Peer.{IsReplyText};
+ghost use Rattle.ipmi_raw.specs.Answer.{CountsCalls, data_in, first_in, given, IsAnswer, IsDataIfAny, IsDataOf, part_in, reading_in, size_in, value_in};
+ghost use Rattle.ipmi_raw.specs.Controller.{Asks, Exchanged, is_answer, last_words, Probes, seen_of, Sends, seen_through, silent_after, tool_of};
 ghost use Rattle.ipmi_raw.specs.Request.{inventory_part, IsRequest, record_part};
-ghost use Rattle.ipmi_raw.specs.declared.peer.Lost.{Lost};
+ghost use Rattle.ipmi_raw.specs.declared.reply.Reply.{Reply};
 ghost use Rattle.ipmi_raw.specs.declared.request.Request.TheVariants as Request;
 
 use crate::peer::{Peer, ReplyText};
 use crate::reply::{Reply, ReplyBytes};
 use crate::request::{InventoryPart, RecordPart, Request};
+use crate::silence::Silence;
 use ipmi_bus::{Code, CodeClass, Controller, Event, FruSize, INFO_LEN, Part, Shelf, Tally};
 use ipmi_text::Reading;
 use std::thread;
@@ -30,6 +30,10 @@ const NO_RESERVATION: [u8; 2] = [0; 2];
 /// The connection is lost if the peer reports that, or if its text is not a reply to the request. From then on
 /// nothing is sent, and each call fails with FFh.
 ///
+/// A thing that had one trouble more than `tries` is given up. If so many requests in a row are met with silence, the
+/// call also sends Get Device ID, which each controller answers. If that is met with silence too, the connection is
+/// lost. So a machine that dies costs one thing's tries and one request more.
+///
 /// A busy controller answers at once, and callers repeat the request at once. So each call that fails with C0h, C3h
 /// or 81h waits for the pause.
 #[derive(Drop)]
@@ -37,6 +41,7 @@ pub struct RawController<P, K> {
     peer: P,
     clock: K,
     pause: Duration,
+    silence: Silence,
     tally: Tally,
     /// The last text received from the peer.
     text: ReplyText,
@@ -44,18 +49,21 @@ pub struct RawController<P, K> {
 }
 
 impl<P: Peer, K: Clock> RawController<P, K> {
-    /// The controller at the other end of the peer.
-    pub fn new(peer: P, clock: K, pause: Duration) -> RawController<P, K>
+    /// The controller at the other end of the peer. A thing may have so many troubles as `tries` says.
+    pub fn new(peer: P, clock: K, pause: Duration, tries: u8) -> RawController<P, K>
         ensures seen { seen_of P.seen result ≡ seen_through (P.seen peer) zero_counts false }
         ensures lost { last_words result ≡ None }
         ensures peer { result.peer ≡ peer }
         ensures clock { result.clock ≡ clock }
         ensures pause { result.pause ≡ pause }
+        ensures tries { result.silence.tries ≡ tries }
+        ensures silent { result.silence.silent ≡ 0 }
     {
         RawController {
             peer,
             clock,
             pause,
+            silence: Silence::new(tries),
             tally: Tally::new(),
             text: ReplyText::new(),
             is_lost: false,
@@ -76,11 +84,8 @@ impl<P: Peer, K: Clock> RawController<P, K> {
     /// Sends the request and reads the reply. None if the connection is lost.
     fn exchange(&mut self, request: Request) -> Option<Reply>
         ensures same { self.new ≡ record self.old { peer = self.new.peer; text = self.new.text } }
-        ensures fits { IfSome result (λ reply. IsDataIfAny request (given request reply)) }
-        ensures text { IfSome result (λ reply. IsReplyText (P.tool self.old.peer) request reply self.new.text.items) }
-        ensures sends { (came : Result (Unit {0}) Lost) ×
-            Exchanged P.brings request self.old self.new came ×
-            MatchOption result (IsUnheard (P.tool self.old.peer) request came self.new.text.items) (λ reply. came ≡ Ok tt) }
+        ensures tool { P.tool self.new.peer ≡ P.tool self.old.peer }
+        ensures sends { Exchanged P.brings (P.tool self.old.peer) request result self.old.peer self.new.peer self.new.text.items }
         ensures honest { IsHonest (P.seen self.old.peer) → IsRequest request → MatchOption result ⊥
             (λ reply. IsAnswer request (given request reply) (P.seen self.old.peer) (P.seen self.new.peer)) }
     {
@@ -94,6 +99,72 @@ impl<P: Peer, K: Clock> RawController<P, K> {
             Some(reply)
         } else {
             None
+        }
+    }
+
+    /// Sends Get Device ID. Whether it is answered.
+    fn is_there(&mut self) -> bool
+        ensures same { self.new ≡ record self.old { peer = self.new.peer; text = self.new.text } }
+        ensures sends { (heard : Option Reply) × (result ≡ is_answer heard)
+            × Exchanged P.brings (P.tool self.old.peer) Request.DeviceId heard self.old.peer self.new.peer self.new.text.items }
+        ensures honest { IsHonest (P.seen self.old.peer) → (result ≡ true) × CountsCalls (P.seen self.old.peer) (P.seen self.new.peer) }
+    {
+        match self.exchange(Request::DeviceId) {
+            Some(Reply::Data(_) | Reply::Refused(_)) => true,
+            Some(Reply::Silent) | None => false,
+        }
+    }
+
+    /// Counts a silent request. If for so many a thing is given up, it asks whether the controller is there. False if
+    /// it is not.
+    fn endures(&mut self) -> bool
+        ensures same { self.new ≡ record self.old { peer = self.new.peer; text = self.new.text; silence = self.new.silence } }
+        ensures tries { self.new.silence.tries ≡ self.old.silence.tries }
+        ensures counts { self.old.silence.silent < self.old.silence.tries →
+            (result ≡ true) × (self.new ≡ record self.old { silence = self.new.silence })
+            × (self.new.silence.silent ≡ self.old.silence.silent + 1) }
+        ensures probes { self.old.silence.silent ≡ self.old.silence.tries →
+            Probes P.brings (P.tool self.old.peer) self.old.peer (record self.new { is_lost = not result }) }
+        ensures honest { IsHonest (P.seen self.old.peer) → (result ≡ true) × CountsCalls (P.seen self.old.peer) (P.seen self.new.peer) }
+    {
+        if self.silence.add() {
+            return true;
+        }
+        let is_there = self.is_there();
+        if is_there {
+            self.silence.end();
+        }
+        is_there
+    }
+
+    /// Sends the request and reads the reply, and counts silence. None if the connection is lost.
+    fn send(&mut self, request: Request) -> Option<Reply>
+        requires { self.old.is_lost ≡ false }
+        ensures same { self.new ≡ record self.old { peer = self.new.peer; text = self.new.text; silence = self.new.silence; is_lost = self.new.is_lost } }
+        ensures tries { self.new.silence.tries ≡ self.old.silence.tries }
+        ensures lost { self.new.is_lost ≡ is_none result }
+        ensures fits { IfSome result (λ reply. IsDataIfAny request (given request reply)) }
+        ensures sends { Sends P.brings (P.tool self.old.peer) request (λ reply. result ≡ Some reply) self.old self.new }
+        ensures honest { IsHonest (P.seen self.old.peer) → IsRequest request → MatchOption result ⊥
+            (λ reply. IsAnswer request (given request reply) (P.seen self.old.peer) (P.seen self.new.peer)) }
+    {
+        match self.exchange(request) {
+            Some(Reply::Silent) => {
+                self.is_lost = !self.endures();
+                if self.is_lost {
+                    None
+                } else {
+                    Some(Reply::Silent)
+                }
+            }
+            Some(reply) => {
+                self.silence.end();
+                Some(reply)
+            }
+            None => {
+                self.is_lost = true;
+                None
+            }
         }
     }
 
@@ -117,8 +188,7 @@ impl<P: Peer, K: Clock> RawController<P, K> {
         ensures counted { IsCall asked (seen_of P.seen self.old) (seen_of P.seen self.new) }
         ensures failure { (seen_of P.seen self.new).last_failure ≡ failing_code result }
         ensures data { IfOk result (λ bytes. IsDataOf request bytes) }
-        ensures sends { Sends P.brings (tool_of P.tool self.old) request self.old self.new }
-        ensures hears { Hears (tool_of P.tool self.old) request (λ given. given ≡ result)
+        ensures asks { Asks P.brings (tool_of P.tool self.old) request (λ given. given ≡ result)
             self.old self.new (failing_code result) }
         ensures honest { IsHonest (seen_of P.seen self.old) → IsRequest request →
             IsAnswer request result (seen_of P.seen self.old) (seen_of P.seen self.new) }
@@ -127,17 +197,14 @@ impl<P: Peer, K: Clock> RawController<P, K> {
         if self.is_lost {
             return Err(self.fail(CONNECTION_LOST));
         }
-        match self.exchange(request) {
+        match self.send(request) {
             Some(Reply::Data(bytes)) => Ok(bytes),
             Some(Reply::Refused(code)) if request.says_unreserved(code) => {
                 Ok(ReplyBytes::new(&NO_RESERVATION))
             }
             Some(Reply::Refused(code)) => Err(self.fail(request.code_given(code))),
             Some(Reply::Silent) => Err(self.fail(Code::TIMEOUT)),
-            None => {
-                self.is_lost = true;
-                Err(self.fail(CONNECTION_LOST))
-            }
+            None => Err(self.fail(CONNECTION_LOST)),
         }
     }
 }
@@ -162,8 +229,7 @@ impl<P: Peer, K: Clock> Controller for RawController<P, K> {
         ensures failure { (seen_of P.seen self.new).last_failure ≡ failing_code result }
         ensures honest { IsHonest (seen_of P.seen self.old) →
             ReserveAnswers shelf result (seen_of P.seen self.old) (seen_of P.seen self.new) }
-        ensures sends { Sends P.brings (tool_of P.tool self.old) (Request.Reserve shelf) self.old self.new }
-        ensures hears { Hears (tool_of P.tool self.old) (Request.Reserve shelf) (λ given. result ≡ value_in id_in given)
+        ensures asks { Asks P.brings (tool_of P.tool self.old) (Request.Reserve shelf) (λ given. result ≡ value_in id_in given)
             self.old self.new (failing_code result) }
     {
         let reply = self.ask(0, Request::Reserve(shelf))?;
@@ -189,9 +255,7 @@ impl<P: Peer, K: Clock> Controller for RawController<P, K> {
         ensures honest { IsHonest (seen_of P.seen self.old) →
             PartAnswers (part_asked shelf reservation id offset (length into.old)) result into.new
             (seen_of P.seen self.old) (seen_of P.seen self.new) }
-        ensures sends { Sends P.brings (tool_of P.tool self.old)
-            (Request.Get (record_part shelf reservation id offset (length into.old))) self.old self.new }
-        ensures hears { Hears (tool_of P.tool self.old)
+        ensures asks { Asks P.brings (tool_of P.tool self.old)
             (Request.Get (record_part shelf reservation id offset (length into.old)))
             (λ given. (result ≡ value_in part_in given)
             × IfOk result (λ part. take part.got into.new ≡ drop 2 (data_in given)))
@@ -219,8 +283,7 @@ impl<P: Peer, K: Clock> Controller for RawController<P, K> {
         ensures failure { (seen_of P.seen self.new).last_failure ≡ failing_code result }
         ensures honest { IsHonest (seen_of P.seen self.old) →
             ValueAnswers (info_of shelf) result (seen_of P.seen self.old) (seen_of P.seen self.new) }
-        ensures sends { Sends P.brings (tool_of P.tool self.old) (Request.Info shelf) self.old self.new }
-        ensures hears { Hears (tool_of P.tool self.old) (Request.Info shelf) (λ given. result ≡ given)
+        ensures asks { Asks P.brings (tool_of P.tool self.old) (Request.Info shelf) (λ given. result ≡ given)
             self.old self.new (failing_code result) }
     {
         let reply = self.ask(0, Request::Info(shelf))?;
@@ -234,8 +297,7 @@ impl<P: Peer, K: Clock> Controller for RawController<P, K> {
         ensures failure { (seen_of P.seen self.new).last_failure ≡ failing_code result }
         ensures honest { IsHonest (seen_of P.seen self.old) →
             ValueAnswers (reading_of lun number) result (seen_of P.seen self.old) (seen_of P.seen self.new) }
-        ensures sends { Sends P.brings (tool_of P.tool self.old) (Request.Reading lun number) self.old self.new }
-        ensures hears { Hears (tool_of P.tool self.old) (Request.Reading lun number) (λ given. result ≡ value_in reading_in given)
+        ensures asks { Asks P.brings (tool_of P.tool self.old) (Request.Reading lun number) (λ given. result ≡ value_in reading_in given)
             self.old self.new (failing_code result) }
     {
         let reply = self.ask(0, Request::Reading(lun, number))?;
@@ -253,8 +315,7 @@ impl<P: Peer, K: Clock> Controller for RawController<P, K> {
         ensures failure { (seen_of P.seen self.new).last_failure ≡ failing_code result }
         ensures honest { IsHonest (seen_of P.seen self.old) →
             SizeAnswers id result (seen_of P.seen self.old) (seen_of P.seen self.new) }
-        ensures sends { Sends P.brings (tool_of P.tool self.old) (Request.InventorySize id) self.old self.new }
-        ensures hears { Hears (tool_of P.tool self.old) (Request.InventorySize id) (λ given. result ≡ value_in size_in given)
+        ensures asks { Asks P.brings (tool_of P.tool self.old) (Request.InventorySize id) (λ given. result ≡ value_in size_in given)
             self.old self.new (failing_code result) }
     {
         let reply = self.ask(0, Request::InventorySize(id))?;
@@ -276,9 +337,7 @@ impl<P: Peer, K: Clock> Controller for RawController<P, K> {
         ensures honest { IsHonest (seen_of P.seen self.old) →
             BytesAnswers id offset (length into.old) result into.new
             (seen_of P.seen self.old) (seen_of P.seen self.new) }
-        ensures sends { Sends P.brings (tool_of P.tool self.old)
-            (Request.ReadInventory (inventory_part id offset (length into.old))) self.old self.new }
-        ensures hears { Hears (tool_of P.tool self.old)
+        ensures asks { Asks P.brings (tool_of P.tool self.old)
             (Request.ReadInventory (inventory_part id offset (length into.old)))
             (λ given. (result ≡ value_in first_in given)
             × IfOk result (λ got. take got into.new ≡ drop 1 (data_in given)))

@@ -18,7 +18,7 @@ pub fn bytes_stand_at_their_places()
     ensures all { BytesAreAll }
 {}
 
-/// Each request has one of nine commands, which read or take a reservation. No request has a command that changes what a
+/// Each request has one of ten commands, which read or take a reservation. No request has a command that changes what a
 /// controller stores, or how its sensors work, or that resets something (IPMI v2.0, appendix G).
 #[tactic(auto, using(crate::proofs::CommandLemmas::only_reading_commands, crate::proofs::CommandLemmas::no_inventory_changes, crate::proofs::CommandLemmas::no_record_changes, crate::proofs::CommandLemmas::no_log_changes, crate::proofs::CommandLemmas::no_sensor_changes, crate::proofs::CommandLemmas::no_resets))]
 pub fn only_reading_commands()

@@ -16,6 +16,7 @@ mod peer;
 mod piped;
 mod reply;
 mod request;
+mod silence;
 mod streams;
 mod tool;
 pub mod words;

@@ -25,7 +25,8 @@ pub struct Lost;
 
 /// A peer passes requests to a controller and returns the replies, as texts of one of the tools.
 ///
-/// The clause `honest` holds for a peer with an honest controller at the other end. A peer counts no calls.
+/// The clause `honest` holds for a peer with an honest controller at the other end, which may be silent, but not when
+/// it is asked for its device's id. A peer counts no calls.
 pub trait Peer {
     /// The state of the controller at the other end that contracts see. It has no cost at run time.
     ghost seen: { Self → Seen };

@@ -101,6 +101,7 @@ fn is_data_of(request: Request, bytes: &[u8]) -> bool
     ensures { MatchBool result (IsDataOf request bytes.now) (¬ IsDataOf request bytes.now) }
 {
     match request {
+        Request::DeviceId => true,
         Request::Reserve(_) => bytes.len() == 2,
         Request::Get(part) => 2 <= bytes.len() && bytes.len() <= 2 + usize::from(part.count),
         Request::Info(_) => bytes.len() == INFO_LEN,

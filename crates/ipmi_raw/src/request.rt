@@ -35,7 +35,9 @@ pub struct InventoryPart {
 /// A request to a management controller.
 #[derive(Clone, Copy, Debug, PartialEq, Eq)]
 pub enum Request {
-    /// Reserve SDR Repository or Reserve SEL (IPMI v2.0, sections 33.11 and 31.4).
+    /// Get Device ID (IPMI v2.0, section 20.1), which each controller has to answer.
+    DeviceId,
+    /// Reserve SDR Repository or Reserve SEL (sections 33.11 and 31.4).
     Reserve(Shelf),
     /// Get SDR or Get SEL Entry (sections 33.12 and 31.5).
     Get(RecordPart),
@@ -52,6 +54,9 @@ pub enum Request {
 
 /// The bytes of a request after its command, at most 6.
 pub type RequestData = ArrayVec<u8, 6>;
+
+/// The network function of requests to applications (IPMI v2.0, table 5-1).
+const APPLICATION: u8 = 0x06;
 
 /// The network function of requests to sensors (IPMI v2.0, table 5-1).
 const SENSOR: u8 = 0x04;
@@ -89,6 +94,7 @@ impl Request {
         ensures { result ≡ network_function_of self }
     {
         match self {
+            Request::DeviceId => APPLICATION,
             Request::Reading(_, _) => SENSOR,
             Request::Reserve(_)
             | Request::Get(_)
@@ -104,7 +110,8 @@ impl Request {
     {
         match self {
             Request::Reading(lun, _) => lun,
-            Request::Reserve(_)
+            Request::DeviceId
+            | Request::Reserve(_)
             | Request::Get(_)
             | Request::Info(_)
             | Request::InventorySize(_)
@@ -117,6 +124,7 @@ impl Request {
         ensures { result ≡ command_of self }
     {
         match self {
+            Request::DeviceId => 0x01,
             Request::InventorySize(_) => 0x10,
             Request::ReadInventory(_) => 0x11,
             Request::Info(Shelf::Sdr) => 0x20,
@@ -134,7 +142,7 @@ impl Request {
         ensures { result.items ≡ data_of self }
     {
         match self {
-            Request::Reserve(_) | Request::Info(_) => data(&[]),
+            Request::DeviceId | Request::Reserve(_) | Request::Info(_) => data(&[]),
             Request::Get(part) => {
                 let [low, high] = part.reservation.to_le_bytes();
                 let [id_low, id_high] = part.id.to_le_bytes();

@@ -1,29 +1,73 @@
 -- Items that are printed one after another.
-use Rattle.std.proofs.Common.{◌≡◌, ◌∙◌, ◌+◌, ◌<◌, ℕ, suc, max, Bool, true, false, List, ◌∷◌, ap, arith, drop, get_or, inl, inr, length, refl, subst, sym}
+use Rattle.std.proofs.Common.{◌≡◌, ◌∙◌, ◌+◌, ◌<◌, ℕ, suc, max, Bool, true, false, not, ◌&&◌, ◌||◌, List, ◌∷◌, ap, arith, drop, get_or, inl, inr, length, refl, subst, sym}
 use Rattle.std.proofs.Math.Nat.{max-zero, zero-max}
 use Rattle.std.proofs.Math.Seq.{drop-cons}
-use Rattle.std.proofs.lemmas.Bool.Decides.{nat_tests}
 use Rattle.std.proofs.lemmas.List.{drop_all}
-use Rattle.std.specs.Ordering.{nat_cmp, ord_max}
 use Rattle.ipmi_output.specs.Received.{Received}
 use Rattle.serdimko.specs.Printing.{Each}
+use Rattle.serdimko.specs.RunError.{and, nothing_run}
+use Rattle.serdimko.specs.declared.outcome.Outcome.{Outcome}
 
--- `a.max(b)`
-pub max_is : (a b : ℕ) → ord_max nat_cmp a b ≡ max a b
-max_is a b = grind (arith, nat_tests)
+made : ℕ → Bool → Bool → Outcome
+made status is_open lacks = record {
+  status = status;
+  is_output_open = is_open;
+  lacks_name = lacks;
+}
 
-module _ {A S : Type 0} (One : A → S → S → Received → Received → ℕ × Bool → Bool → Type 0) (items : List A)
+outcome_is : (s s' : ℕ) (o o' l l' : Bool) → s ≡ s' → o ≡ o' → l ≡ l' → made s o l ≡ made s' o' l'
+outcome_is s s' o o' l l' status is_open lacks = cc (status, is_open, lacks)
+
+and_true : (b : Bool) → (b && true) ≡ b
+and_true true = refl
+and_true false = refl
+
+or_false : (b : Bool) → (b || false) ≡ b
+or_false true = refl
+or_false false = refl
+
+and_assoc : (a b c : Bool) → ((a && b) && c) ≡ (a && (b && c))
+and_assoc true b c = refl
+and_assoc false b c = refl
+
+or_assoc : (a b c : Bool) → ((a || b) || c) ≡ (a || (b || c))
+or_assoc true b c = refl
+or_assoc false b c = refl
+
+pub and_nothing : (a : Outcome) → and a nothing_run ≡ a
+unfolding made
+and_nothing a = outcome_is _ _ _ _ _ _ (max-zero a.status) (and_true a.is_output_open) (or_false a.lacks_name)
+
+pub nothing_and : (a : Outcome) → and nothing_run a ≡ a
+unfolding made
+nothing_and a = outcome_is _ _ a.is_output_open _ a.lacks_name _ (zero-max a.status) refl refl
+
+pub and_and : (a b c : Outcome) → and (and a b) c ≡ and a (and b c)
+unfolding made
+and_and a b c =
+    let status : max (max a.status b.status) c.status ≡ max a.status (max b.status c.status) = omega arith in
+    outcome_is _ _ _ _ _ _ status (and_assoc a.is_output_open b.is_output_open c.is_output_open) (or_assoc a.lacks_name b.lacks_name c.lacks_name)
+
+pub not_is_true : (b : Bool) → not b ≡ true → b ≡ false
+not_is_true false h = refl
+not_is_true true h = absurd (cc h)
+
+pub not_is_false : (b : Bool) → not b ≡ false → b ≡ true
+not_is_false false h = absurd (cc h)
+not_is_false true h = refl
+
+module _ {A S : Type 0} (One : A → S → S → Received → Received → Outcome → Bool → Type 0) (items : List A)
     (old : S) (said : Received) where
-  -- the first items were printed, and whatever the others leave, all of them do, with the highest status
-  abbrev pub PrintedTo : ℕ → S → Received → ℕ → Type 0
-  PrintedTo count now told highest = (new : S) (said' : Received) (rest : ℕ × Bool)
-      → Each One (drop count items) now new told said' rest → Each One items old new said said' (max highest rest.0, rest.1)
+  -- the first items were printed, and whatever the others leave, all of them do
+  abbrev pub PrintedTo : ℕ → S → Received → Outcome → Type 0
+  PrintedTo count now told so_far = (new : S) (said' : Received) (rest : Outcome)
+      → Each One (drop count items) now new told said' rest → Each One items old new said said' (and so_far rest)
 
-  pub printed_none : PrintedTo 0 old said 0
-  printed_none new said' rest each = rw (zero-max rest.0) each
+  pub printed_none : PrintedTo 0 old said nothing_run
+  printed_none new said' rest each = rw (nothing_and rest) each
 
-  module _ (count : ℕ) (now new : S) (told said' : Received) (highest : ℕ) (item : A) (one : ℕ × Bool) (follows : Bool)
-      (printed : PrintedTo count now told highest) (lt : count < length items) (is : item ≡ get_or items count item)
+  module _ (count : ℕ) (now new : S) (told said' : Received) (so_far : Outcome) (item : A) (one : Outcome) (follows : Bool)
+      (printed : PrintedTo count now told so_far) (lt : count < length items) (is : item ≡ get_or items count item)
       (prints : One item now new told said' one follows) where
     split : drop count items ≡ item ∷ drop (count + 1) items
     split =
@@ -31,16 +75,14 @@ module _ {A S : Type 0} (One : A → S → S → Received → Received → ℕ �
         subst (λ (n : ℕ). drop count items ≡ get_or items count item ∷ drop n items) next (drop-cons items count item lt)
         ∙ ap (λ (x : A). x ∷ drop (count + 1) items) (sym is)
 
-    pub printed_one : (total : ℕ) → total ≡ max highest one.0 → follows ≡ true → PrintedTo (count + 1) new said' total
-    printed_one total sum on last said'' rest more =
-        let assoc : max total rest.0 ≡ max highest (max one.0 rest.0) = omega (arith, sum) in
-        rw assoc (printed last said'' (max one.0 rest.0, rest.1) (rw split (new, said', one, follows, prints, inl (on, (rest, more, refl)))))
+    pub printed_one : follows ≡ true → PrintedTo (count + 1) new said' (and so_far one)
+    printed_one on last said'' rest more =
+        rw (and_and so_far one rest) (printed last said'' (and one rest) (rw split (new, said', one, follows, prints, inl (on, (rest, more, refl)))))
 
-    pub printed_last : (total : ℕ) → total ≡ max highest one.0 → follows ≡ false → Each One items old new said said' (total, one.1)
-    printed_last total sum off =
-        rw sum (printed new said' one (rw split (new, said', one, follows, prints, inr (off, refl, refl, refl))))
+    pub printed_last : follows ≡ false → Each One items old new said said' (and so_far one)
+    printed_last off = printed new said' one (rw split (new, said', one, follows, prints, inr (off, refl, refl, refl)))
 
-  pub printed_all : (count : ℕ) (now : S) (told : Received) (highest : ℕ) → PrintedTo count now told highest
-      → count ≡ length items → Each One items old now said told (highest, true)
-  printed_all count now told highest printed all =
-      rw (max-zero highest) at (printed now told (0, true) (rw (drop_all count items (omega (arith, all))) (refl, refl, refl)))
+  pub printed_all : (count : ℕ) (now : S) (told : Received) (so_far : Outcome) → PrintedTo count now told so_far
+      → count ≡ length items → Each One items old now said told so_far
+  printed_all count now told so_far printed all =
+      rw (and_nothing so_far) at (printed now told nothing_run (rw (drop_all count items (omega (arith, all))) (refl, refl, refl)))

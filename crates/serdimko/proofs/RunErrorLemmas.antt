@@ -1,5 +1,6 @@
 -- What is said of a error.
-use Rattle.std.proofs.Common.{◌≡◌, Bool, List, ℕ, Option, Some, String, refl, arith}
+use Rattle.std.proofs.Common.{◌≡◌, Bool, List, ℕ, Option, Result, Some, String, refl, arith}
+use Rattle.std.specs.declared.alloc.AllocError.{AllocError}
 use Rattle.std.specs.declared.alloc.Global.{Global}
 use Rattle.ipmi_output.specs.Failure.{Ending, line_text, write_faults}
 use Rattle.serdimko.specs.RunError.{faults_of_error, lost_error, error_of, error_text, said_of_error}
@@ -15,6 +16,6 @@ said_unless_closed name is_only_input RunError.Faulty other = refl
 said_unless_closed name is_only_input RunError.Closed other = absurd (other refl)
 
 -- of a run only a write fault is one of the output
-pub run_faults : (said : Option (String Global)) (ending : Ending) (faulty closed : Bool)
+pub run_faults : (said : Result (Option (String Global)) AllocError) (ending : Ending) (faulty closed : Bool)
     → faults_of_error (lost_error said (error_of ending faulty closed)) ≡ write_faults ending
 run_faults said ending faulty closed = grind arith

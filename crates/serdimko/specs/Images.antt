@@ -20,6 +20,7 @@ use Rattle.ipmi_program.specs.Input.{input_name}
 use Rattle.ipmi_program.specs.declared.input.InputFault.{InputFault}
 use Rattle.serdimko.specs.Labels.{key_value, labels_of}
 use Rattle.serdimko.specs.declared.images.ImageQuery.{ImageQuery}
+use Rattle.serdimko.specs.declared.outcome.Outcome.{Outcome}
 use Rattle.serdimko.specs.declared.report.Report.{Report}
 use Rattle.serdimko.specs.declared.report.Settings.{Settings}
 use Rattle.serdimko.specs.declared.run_error.RunError.{RunError}
@@ -31,16 +32,16 @@ use Rattle.serdimko.specs.Settings.{is_headed, IsQuery, texts_of, wording_of}
 -- ---- one image
 
 -- no run: only the error is reported, and the line at the end of objects is printed
-pub record Fails (report : Report) (error : RunError) (old new : Out) (said said' : Received) (result : ℕ × Bool) : Type 0 where
+pub record Fails (report : Report) (error : RunError) (old new : Out) (said said' : Received) (result : Outcome) : Type 0 where
   pub last : Option RunError
   pub ends : EndsIn report 0 old new (Some error) last
   pub counts : new.faults + faults_of_error (Some error) ≡ old.faults + faults_of_error last
   pub reports : Reports report last said said' result
 
 -- the image is rewritten
-pub record Rewrites (report : Report) (store : Store) (old new : Out) (said said' : Received) (result : ℕ × Bool) : Type 0 where
+pub record Rewrites (report : Report) (store : Store) (old new : Out) (said said' : Received) (result : Outcome) : Type 0 where
   pub last : Option RunError
-  pub runs : RunsThenEnds report (λ before after ending. IsRewriting store before after ending) None old new last
+  pub runs : RunsThenEnds report (λ before after ending. IsRewriting store before after ending) (Ok None) old new last
   pub reports : Reports report last said said' result
 
 -- the numbers of the query are in their ranges
@@ -49,25 +50,26 @@ IsImageQuery (ImageQuery.Print query) = IsQuery query.now
 IsImageQuery ImageQuery.Rewrite = Unit {0}
 
 -- the query runs over a controller that holds the image, is honest, never busy, and cancels nothing; or the image is rewritten
-abbrev pub PrintsStore : RequestLimits → ImageQuery → Report → Store → Out → Out → Received → Received → ℕ × Bool → Type 0
+abbrev pub PrintsStore : RequestLimits → ImageQuery → Report → Store → Out → Out → Received → Received → Outcome → Type 0
 PrintsStore limits (ImageQuery.Print query) report store old new said said' result =
     (seen seen' : Seen) × IsHonest seen × IsTrue seen.plain × (seen.store ≡ store)
     × PrintsQuery limits query.now report (state seen None old) (state seen' None new) said said' result
 PrintsStore limits ImageQuery.Rewrite report store old new said said' result = Rewrites report store old new said said' result
 
--- the rule that the bytes break; None also if memory ran out
-abbrev pub IsCause : List ℕ → ImageFault → Option FaultCause → Type 0
-IsCause bytes fault cause = (cause ≡ None) ⊎ (cause ≡ cause_of bytes fault)
+-- the fault of the bytes, and the rule that they break; or memory ran out
+abbrev pub IsFaultOf : List ℕ → ImageFault → Option FaultCause → Type 0
+IsFaultOf bytes fault cause =
+    (fault ≡ ImageFault.Memory) ⊎ ((store_of_image bytes ≡ Err fault) × (cause ≡ cause_of bytes fault))
 
--- the bytes are an image, or they have a fault; memory may run out before that is known
-abbrev pub PrintsBytes : RequestLimits → ImageQuery → Report → List ℕ → Out → Out → Received → Received → ℕ × Bool → Type 0
+-- the bytes are an image, or they have a fault
+abbrev pub PrintsBytes : RequestLimits → ImageQuery → Report → List ℕ → Out → Out → Received → Received → Outcome → Type 0
 PrintsBytes limits query report bytes old new said said' result =
     ((store : Store) × (store_of_image bytes ≡ Ok store) × PrintsStore limits query report store old new said said' result)
-    ⊎ ((fault : ImageFault) × (cause : Option FaultCause) × ((fault ≡ ImageFault.Memory) ⊎ (store_of_image bytes ≡ Err fault))
-    × IsCause bytes fault cause × Fails report (no_image fault cause) old new said said' result)
+    ⊎ ((fault : ImageFault) × (cause : Option FaultCause) × IsFaultOf bytes fault cause
+    × Fails report (no_image fault cause) old new said said' result)
 
 abbrev pub PrintsInput : RequestLimits → ImageQuery → Report → Result (Vec ℕ Global) InputFault → Out → Out → Received → Received
-    → ℕ × Bool → Type 0
+    → Outcome → Type 0
 PrintsInput limits query report (Err fault) old new said said' result = Fails report (unread fault) old new said said' result
 PrintsInput limits query report (Ok image) old new said said' result =
     PrintsBytes limits query report image.items old new said said' result
@@ -91,47 +93,42 @@ abbrev pub image_label : Bool → List ℕ → Option (List ℕ)
 image_label true name = None
 image_label false name = Some name
 
--- nothing was printed, for this reason
-abbrev pub ReportsError : RunError → List ℕ → Bool → Received → Received → ℕ × Bool → Type 0
-ReportsError error name is_only_input said said' result =
-    Tells name is_only_input (Some error) said said' result.0 × (result.1 ≡ is_output_open (Some error))
-
 -- memory for the labels ran out, or the input is printed
-abbrev pub PrintsNamed : Settings → ImageQuery → Option (List ℕ) → Bool → Out → Out → Received → Received → ℕ × Bool → Type 0
+abbrev pub PrintsNamed : Settings → ImageQuery → Option (List ℕ) → Bool → Out → Out → Received → Received → Outcome → Type 0
 PrintsNamed settings query file is_only_input old new said said' result =
-    ((new ≡ old) × ReportsError (RunError.Failed Failure.OutOfMemory) (input_name file) is_only_input said said' result)
+    ((new ≡ old) × Tells (input_name file) is_only_input (Some (RunError.Failed Failure.OutOfMemory)) said said' result)
     ⊎ ((report : Report) × (input : Result (Vec ℕ Global) InputFault)
     × IsReport settings (image_label is_only_input (input_name file)) (input_name file) is_only_input report
     × PrintsInput settings.limits query report input old new said said' result)
 
 -- after its name, if that could be printed
-abbrev pub PrintsFile : Bool → Settings → ImageQuery → Option (List ℕ) → Bool → Out → Out → Received → Received → ℕ × Bool → Type 0
+abbrev pub PrintsFile : Bool → Settings → ImageQuery → Option (List ℕ) → Bool → Out → Out → Received → Received → Outcome → Type 0
 PrintsFile false settings query file is_only_input old new said said' result =
     PrintsNamed settings query file is_only_input old new said said' result
 PrintsFile true settings query file is_only_input old new said said' result =
     ((now : Out) × (now.taken ≡ old.taken ++ header (input_name file)) × (now.held ≡ [])
     × PrintsNamed settings query file is_only_input now new said said' result)
     ⊎ (TakesPart old.taken new.taken (header (input_name file)) × (new.faults ≡ old.faults + 1)
-    × ReportsError (output_error new.closed) (input_name file) is_only_input said said' result)
+    × Tells (input_name file) is_only_input (Some (output_error new.closed)) said said' result)
 
 -- the file, or standard input for `-`
 abbrev pub file_of : Option (List ℕ) → Option (List ℕ)
 file_of None = None
 file_of (Some name) = if bytes_eq name (codes "-") then None else Some name
 
-abbrev pub PrintsImage : Settings → ImageQuery → Bool → Option (List ℕ) → Out → Out → Received → Received → ℕ × Bool → Type 0
+abbrev pub PrintsImage : Settings → ImageQuery → Bool → Option (List ℕ) → Out → Out → Received → Received → Outcome → Type 0
 PrintsImage settings query is_only_input image old new said said' result =
     PrintsFile (is_headed settings.format is_only_input) settings query (file_of image) is_only_input old new said said' result
 
 -- ---- all images
 
 -- the next image follows if more can be printed
-abbrev pub PrintsOne : Settings → ImageQuery → Bool → List ℕ → Out → Out → Received → Received → ℕ × Bool → Bool → Type 0
+abbrev pub PrintsOne : Settings → ImageQuery → Bool → List ℕ → Out → Out → Received → Received → Outcome → Bool → Type 0
 PrintsOne settings query is_only_input image old new said said' result follows =
-    PrintsImage settings query is_only_input (Some image) old new said said' result × (follows ≡ result.1)
+    PrintsImage settings query is_only_input (Some image) old new said said' result × (follows ≡ result.is_output_open)
 
 -- standard input if none is named
-abbrev pub PrintsImages : Settings → ImageQuery → List (List ℕ) → Out → Out → Received → Received → ℕ × Bool → Type 0
+abbrev pub PrintsImages : Settings → ImageQuery → List (List ℕ) → Out → Out → Received → Received → Outcome → Type 0
 PrintsImages settings query [] old new said said' result = PrintsImage settings query true None old new said said' result
 PrintsImages settings query (image ∷ images) old new said said' result =
     Each (PrintsOne settings query (length (image ∷ images) == 1)) (image ∷ images) old new said said' result

@@ -5,6 +5,7 @@ pub mod Labels
 pub mod Live
 pub mod Out
 pub mod Printing
+pub mod Reason
 pub mod RunError
 pub mod Settings
 pub mod LastWords

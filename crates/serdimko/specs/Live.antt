@@ -1,13 +1,15 @@
 -- What is printed of a live controller, and its tools.
-use Rattle.std.specs.Prelude.{◌≡◌, ◌⊎◌, ◌++◌, ℕ, Bool, true, codes, decimal, List, None}
+use Rattle.std.specs.Prelude.{◌≡◌, ◌⊎◌, ◌++◌, ℕ, Bool, true, codes, decimal, List, None, Some}
 use Rattle.ipmi_command_line.specs.declared.request.LiveTool.{LiveTool}
 use Rattle.ipmi_output.specs.Received.{Received}
 use Rattle.ipmi_output.specs.declared.failure.Failure.{Failure}
 use Rattle.ipmi_raw.specs.declared.tool.Tool.{Tool}
-use Rattle.serdimko.specs.Images.{IsReport, ReportsError}
+use Rattle.serdimko.specs.Images.{IsReport}
 use Rattle.serdimko.specs.Out.{State}
 use Rattle.serdimko.specs.Printing.{PrintsQuery}
+use Rattle.serdimko.specs.RunError.{Tells}
 use Rattle.serdimko.specs.declared.driver.Query.{Query}
+use Rattle.serdimko.specs.declared.outcome.Outcome.{Outcome}
 use Rattle.serdimko.specs.declared.report.Report.{Report}
 use Rattle.serdimko.specs.declared.report.Settings.{Settings}
 use Rattle.serdimko.specs.declared.run_error.RunError.{RunError}
@@ -20,8 +22,8 @@ abbrev pub pipe_name : List ℕ → List ℕ → ℕ → List ℕ
 pipe_name folder stream lun = folder ++ (codes "/" ++ (stream ++ (codes "." ++ decimal lun)))
 
 -- memory for the labels ran out; or the query runs over the controller, whatever that holds
-abbrev pub PrintsLive : Settings → Query → State → State → Received → Received → ℕ × Bool → Type 0
+abbrev pub PrintsLive : Settings → Query → State → State → Received → Received → Outcome → Type 0
 PrintsLive settings query old new said said' result =
-    ((new ≡ old) × ReportsError (RunError.Failed Failure.OutOfMemory) (codes "the controller") true said said' result)
+    ((new ≡ old) × Tells (codes "the controller") true (Some (RunError.Failed Failure.OutOfMemory)) said said' result)
     ⊎ ((report : Report) × IsReport settings None (codes "the controller") true report
     × PrintsQuery settings.limits query report old new said said' result)

@@ -1,6 +1,7 @@
 -- What a run prints, how it ends, and what is reported.
 use Rattle.std.specs.Prelude.{◌≡◌, ◌⊎◌, ◌+◌, ◌-◌, ◌^◌, ◌≤◌, ◌==◌, ◌&&◌, not, if◌then◌else◌, ℕ, Bool, true, false, List, [], ◌++◌, ◌∷◌, max, min, Option, Some, None, Result, Ok, Err, String}
 use Rattle.std.specs.Str.Lossy.{utf8_lossy}
+use Rattle.std.specs.declared.alloc.AllocError.{AllocError}
 use Rattle.std.specs.declared.alloc.Global.{Global}
 use Rattle.ipmi_bus.specs.CursorState.{start_of}
 use Rattle.ipmi_bus.specs.Seen.{AsksAtMost, IsHonest, Seen}
@@ -19,11 +20,13 @@ use Rattle.ipmi_output.specs.Sink.{TakesPart}
 use Rattle.ipmi_output.specs.declared.failure.Failure.{Failure}
 use Rattle.ipmi_program.specs.Printing.{IsFlushed}
 use Rattle.serdimko.specs.declared.driver.Query.{Query}
+use Rattle.serdimko.specs.declared.outcome.Outcome.{Outcome}
 use Rattle.serdimko.specs.declared.report.Report.{Report}
 use Rattle.serdimko.specs.declared.run_error.RunError.{RunError}
 use Rattle.serdimko.specs.LastWords.{IsLastLine}
 use Rattle.serdimko.specs.Out.{Out, State}
-use Rattle.serdimko.specs.RunError.{error_of, error_text, faults_of_error, is_output_open, is_recoverable, lost_error, output_error, status_of_error, Tells}
+use Rattle.serdimko.specs.Reason.{reason_of}
+use Rattle.serdimko.specs.RunError.{and, error_of, error_text, faults_of_error, is_output_open, is_recoverable, lost_error, nothing_run, output_error, status_of_error, Tells}
 
 -- ---- the object at the end of a run
 
@@ -32,10 +35,10 @@ abbrev pub message_of : Report → Option RunError → Option (List ℕ)
 message_of report None = None
 message_of report (Some error) = Some (utf8_lossy (error_text report.name.now report.is_only_input error))
 
--- the line with the status and the message of a run, and the number of its objects
+-- the line with the status of a run, why it ended, its message, and the number of its objects
 abbrev pub IsEndLine : List Label → ℕ → Report → Option RunError → List ℕ → Type 0
 IsEndLine labels count report error line =
-    IsLineOf (end_members (status_of_error error) (message_of report error) count) labels line
+    IsLineOf (end_members (status_of_error error) (reason_of error) (message_of report error) count) labels line
 
 -- the whole line was written, or only a part
 abbrev pub WritesEnd : List ℕ → Out → Out → Option RunError → Option RunError → Type 0
@@ -72,7 +75,7 @@ is_faulty report faults = report.strict && not (faults == 0)
 
 -- the output of a run with this ending was flushed, which may have failed, and the end line follows; so many pieces were printed, and
 -- so many of them have a fault
-pub record EndsRun (report : Report) (pieces faults : ℕ) (said : Option (String Global)) (printed : Ending) (old new : Out)
+pub record EndsRun (report : Report) (pieces faults : ℕ) (said : Result (Option (String Global)) AllocError) (printed : Ending) (old new : Out)
     (last : Option RunError) : Type 0 where
   pub flushed : Out
   pub ending : Ending
@@ -83,7 +86,7 @@ pub record EndsRun (report : Report) (pieces faults : ℕ) (said : Option (Strin
       (lost_error said (error_of ending (is_faulty report faults) flushed.closed)) last
 
 -- A run whose output and ending `Prints` relates, and its end. `Prints` sees the bytes before and after, and what the run counted.
-pub record RunsThenEnds (report : Report) (Prints : Output → Output → Ending → Type 0) (said : Option (String Global)) (old new : Out)
+pub record RunsThenEnds (report : Report) (Prints : Output → Output → Ending → Type 0) (said : Result (Option (String Global)) AllocError) (old new : Out)
     (last : Option RunError) : Type 0 where
   pub after : Out
   pub printed : Ending
@@ -99,29 +102,27 @@ pub record RunsThenEnds (report : Report) (Prints : Output → Output → Ending
 -- What a task prints of a controller. No part requested is too long. If the connection was lost, its tool's last words are told.
 pub record PrintsTask (limits : RequestLimits) (task : Task) (from : Option ℕ) (report : Report) (old new : State)
     (last : Option RunError) : Type 0 where
-  pub said : Option (String Global)
+  pub said : Result (Option (String Global)) AllocError
   pub last_line : IsLastLine new.lost said
   pub asked : AsksAtMost limits.part old.seen new.seen
   pub runs : RunsThenEnds report
       (λ before after. RunsCommand (job_in report.wording task from) limits.tries (change old.seen new.seen before after))
       said old.out new.out last
 
--- the exit status, and whether more can be printed, after a run with this error
-abbrev pub Reports : Report → Option RunError → Received → Received → ℕ × Bool → Type 0
-Reports report error said said' result =
-    Tells report.name.now report.is_only_input error said said' result.0 × (result.1 ≡ is_output_open error)
+-- the outcome of a run with this error
+abbrev pub Reports : Report → Option RunError → Received → Received → Outcome → Type 0
+Reports report error said said' result = Tells report.name.now report.is_only_input error said said' result
 
 -- ---- one after another
 
 -- Each item is printed and reported (`One` relates what is before and after it, its result, and whether the next one follows), up to
--- one after which none follows. The result is the highest status, and whether more can be printed.
-abbrev pub Each : {A S : Type 0} → (A → S → S → Received → Received → ℕ × Bool → Bool → Type 0) → List A → S → S → Received → Received
-    → ℕ × Bool → Type 0
-Each One [] old new said said' result = (new ≡ old) × (said' ≡ said) × (result ≡ (0, true))
+-- one after which none follows.
+abbrev pub Each : {A S : Type 0} → (A → S → S → Received → Received → Outcome → Bool → Type 0) → List A → S → S → Received → Received
+    → Outcome → Type 0
+Each One [] old new said said' result = (new ≡ old) × (said' ≡ said) × (result ≡ nothing_run)
 Each {S = S} One (item ∷ items) old new said said'' result =
-    (now : S) × (said' : Received) × (one : ℕ × Bool) × (follows : Bool) × One item old now said said' one follows
-    × (((follows ≡ true) × ((rest : ℕ × Bool)
-    × Each One items now new said' said'' rest × (result ≡ (max one.0 rest.0, rest.1))))
+    (now : S) × (said' : Received) × (one : Outcome) × (follows : Bool) × One item old now said said' one follows
+    × (((follows ≡ true) × ((rest : Outcome) × Each One items now new said' said'' rest × (result ≡ and one rest)))
     ⊎ ((follows ≡ false) × (new ≡ now) × (said'' ≡ said') × (result ≡ one)))
 
 -- ---- sensors by their names
@@ -156,23 +157,23 @@ pub record PrintsBroken (report : Report) (found : List Found) (names : List (Li
   pub ends : ending ≡ broken_end failure printed
 
 -- a run for one name; the next one follows, unless the error would stop it too
-abbrev pub RunsName : Report → List Found → List ℕ → Out → Out → Received → Received → ℕ × Bool → Bool → Type 0
+abbrev pub RunsName : Report → List Found → List ℕ → Out → Out → Received → Received → Outcome → Bool → Type 0
 RunsName report found name old new said said' result follows =
-    (error : Option RunError) × RunsThenEnds report (PrintsName report found name) None old new error
+    (error : Option RunError) × RunsThenEnds report (PrintsName report found name) (Ok None) old new error
     × Reports report error said said' result × (follows ≡ is_recoverable error)
 
 -- After a whole search each name has a run of its own, in the order of the names. After one that broke, what was found is printed, and
 -- one end follows.
-abbrev pub PrintsSearched : Ending → Report → List Found → List (List ℕ) → State → State → Received → Received → ℕ × Bool → Type 0
+abbrev pub PrintsSearched : Ending → Report → List Found → List (List ℕ) → State → State → Received → Received → Outcome → Type 0
 PrintsSearched (Ok done) report found names old new said said' result =
     Each (RunsName report found) names old.out new.out said said' result
 PrintsSearched (Err failure) report found names old new said said' result =
-    (line : Option (String Global)) × (last : Option RunError) × IsLastLine new.lost line
+    (line : Result (Option (String Global)) AllocError) × (last : Option RunError) × IsLastLine new.lost line
     × RunsThenEnds report (PrintsBroken report found names failure) line old.out new.out last × Reports report last said said' result
 
 -- one walk finds the sensors with these names, and then they are printed
 pub record PrintsSensors (limits : RequestLimits) (names : List (List ℕ)) (from : Option ℕ) (report : Report) (old new : State)
-    (said said' : Received) (result : ℕ × Bool) : Type 0 where
+    (said said' : Received) (result : Outcome) : Type 0 where
   pub found : List Found
   pub searched : Ending
   pub asked : AsksAtMost limits.part old.seen new.seen
@@ -185,7 +186,7 @@ pub record PrintsSensors (limits : RequestLimits) (names : List (List ℕ)) (fro
 
 -- ---- a query
 
-abbrev pub PrintsQuery : RequestLimits → Query → Report → State → State → Received → Received → ℕ × Bool → Type 0
+abbrev pub PrintsQuery : RequestLimits → Query → Report → State → State → Received → Received → Outcome → Type 0
 PrintsQuery limits (Query.Print task from) report old new said said' result =
     (last : Option RunError) × PrintsTask limits task from report old new last × Reports report last said said' result
 PrintsQuery limits (Query.Sensors names from) report old new said said' result =

@@ -1,6 +1,7 @@
 -- Why a run over an image or a controller did not finish: when, with which message, and with which status.
-use Rattle.std.specs.Prelude.{◌≡◌, ◌==◌, ◌⊎◌, ℕ, Bool, true, false, List, [], ◌∷◌, ◌++◌, codes, decimal, Option, Some, None, Result, Ok, Err, String, string_bytes}
+use Rattle.std.specs.Prelude.{◌≡◌, ◌==◌, ◌⊎◌, ◌&&◌, ◌||◌, max, ℕ, Bool, true, false, List, [], ◌∷◌, ◌++◌, codes, decimal, Option, Some, None, Result, Ok, Err, String, string_bytes}
 use Rattle.std.specs.declared.alloc.Global.{Global}
+use Rattle.std.specs.declared.alloc.AllocError.{AllocError}
 use Rattle.ipmi_bus.specs.declared.inventory_reader.FruEnded.{FruEnded}
 use Rattle.ipmi_bus.specs.declared.step.Ended.{Ended}
 use Rattle.ipmi_image.specs.declared.image.ImageFault.{ImageFault}
@@ -12,6 +13,7 @@ use Rattle.ipmi_image.specs.Cause.{cause_of}
 use Rattle.ipmi_image.specs.declared.cause.FaultCause.{FaultCause}
 use Rattle.ipmi_program.specs.declared.input.InputFault.{InputFault}
 use Rattle.serdimko.specs.Causes.{cause_words}
+use Rattle.serdimko.specs.declared.outcome.Outcome.{Outcome}
 use Rattle.serdimko.specs.declared.run_error.RunError.{RunError}
 
 -- ---- when
@@ -38,11 +40,18 @@ abbrev pub unread : InputFault → RunError
 unread InputFault.Memory = RunError.Failed Failure.OutOfMemory
 unread fault = RunError.Unread fault
 
--- the error of a run over a controller: a refusal after a lost connection is `Lost`, with the tool's last words; without
--- memory for them it stays the refusal
-abbrev pub lost_error : Option (String Global) → Option RunError → Option RunError
-lost_error (Some said) (Some (RunError.Failed (Failure.Ended (Ended.Refused id code)))) = Some (RunError.Lost said)
-lost_error (Some said) (Some (RunError.Failed (Failure.Inventory id (FruEnded.Refused code)))) = Some (RunError.Lost said)
+-- a refusal after a lost connection is `Lost`, with the tool's last words, if there is memory for them
+abbrev pub refusal_or_lost : Result (Option (String Global)) AllocError → RunError → RunError
+refusal_or_lost (Ok None) error = error
+refusal_or_lost (Ok (Some said)) error = RunError.Lost said
+refusal_or_lost (Err memory) error = RunError.Failed Failure.OutOfMemory
+
+-- the error of a run over a controller, given the tool's last words if the connection was lost
+abbrev pub lost_error : Result (Option (String Global)) AllocError → Option RunError → Option RunError
+lost_error said (Some (RunError.Failed (Failure.Ended (Ended.Refused id code)))) =
+    Some (refusal_or_lost said (RunError.Failed (Failure.Ended (Ended.Refused id code))))
+lost_error said (Some (RunError.Failed (Failure.Inventory id (FruEnded.Refused code)))) =
+    Some (refusal_or_lost said (RunError.Failed (Failure.Inventory id (FruEnded.Refused code))))
 lost_error said error = error
 
 -- ---- messages
@@ -97,13 +106,6 @@ faults_of_error (Some (RunError.Failed failure)) = write_faults (Err failure)
 faults_of_error (Some RunError.Closed) = 1
 faults_of_error _ = 0
 
--- ---- the report
-
--- the status is that of the error, and its message is written, or nothing if there is no error
-abbrev pub Tells : List ℕ → Bool → Option RunError → Received → Received → ℕ → Type 0
-Tells name is_only_input error said said' status =
-    (status ≡ status_of_error error) × ReceivesText said said' (said_of_error name is_only_input error)
-
 -- ---- what may follow
 
 -- another run may succeed over the same input
@@ -118,3 +120,37 @@ abbrev pub is_output_open : Option RunError → Bool
 is_output_open (Some RunError.Closed) = false
 is_output_open (Some (RunError.Failed Failure.WriteFault)) = false
 is_output_open error = true
+
+-- nothing has the name that was given
+abbrev pub lacks_name : Option RunError → Bool
+lacks_name (Some (RunError.Failed (Failure.NoName name))) = true
+lacks_name error = false
+
+-- ---- the outcome
+
+abbrev pub outcome_of : Option RunError → Outcome
+outcome_of error = record {
+  status = status_of_error error;
+  is_output_open = is_output_open error;
+  lacks_name = lacks_name error;
+}
+
+abbrev pub nothing_run : Outcome
+nothing_run = record {
+  status = 0;
+  is_output_open = true;
+  lacks_name = false;
+}
+
+-- that of runs one after another
+abbrev pub and : Outcome → Outcome → Outcome
+and first next = record {
+  status = max first.status next.status;
+  is_output_open = first.is_output_open && next.is_output_open;
+  lacks_name = first.lacks_name || next.lacks_name;
+}
+
+-- the message of the error is written, or nothing if there is no error
+abbrev pub Tells : List ℕ → Bool → Option RunError → Received → Received → Outcome → Type 0
+Tells name is_only_input error said said' outcome =
+    (outcome ≡ outcome_of error) × ReceivesText said said' (said_of_error name is_only_input error)

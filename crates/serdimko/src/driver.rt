@@ -1,5 +1,5 @@
 //! Prints what a command asks for from a controller, live or over an image, and reports how each run ended.
-ghost use Rattle.std.specs.Prelude.{◌≡◌, ◌+◌, Err, IfSome, List, None, Option, ℕ};
+ghost use Rattle.std.specs.Prelude.{◌≡◌, ◌+◌, Err, IfSome, List, None, Ok, Option, ℕ};
 ghost use Rattle.serdimko.specs.Out.{out_of, state};
 ghost use Rattle.ipmi_command_line.specs.Command.{IsTask};
 ghost use Rattle.ipmi_bus.specs.Seen.{AsksAtMost};
@@ -11,6 +11,7 @@ ghost use Rattle.serdimko.specs.Printing.{PrintsName, PrintsNames, PrintsQuery, 
 
 use crate::closable::Output;
 use crate::ending::end_run;
+use crate::outcome::Outcome;
 use crate::report::Report;
 use crate::run_error::RunError;
 use ipmi_bus::Controller;
@@ -20,7 +21,7 @@ use ipmi_commands::{
 };
 use ipmi_image::ImageController;
 use ipmi_output::{Failure, MessageSink, RecordName};
-use std::alloc::Global;
+use std::alloc::{AllocError, Global};
 use std::io::Write;
 
 /// A controller that may lose the connection to what it controls.
@@ -28,16 +29,16 @@ pub(crate) trait Connection: Controller {
     /// What its tool said at last, if the connection was lost.
     ghost lost: { Self → Option (List ℕ) };
 
-    /// The same on a line. None also if memory ran out; the message is then that of a refusal.
-    fn last_line(&self, alloc: Global) -> Option<String>
+    /// The same on a line.
+    fn last_line(&self, alloc: Global) -> Result<Option<String>, AllocError>
         ensures { IsLastLine (lost self.now) result };
 }
 
 impl Connection for ImageController {
     ghost lost = { λ _. None };
 
-    fn last_line(&self, _alloc: Global) -> Option<String> {
-        None
+    fn last_line(&self, _alloc: Global) -> Result<Option<String>, AllocError> {
+        Ok(None)
     }
 }
 
@@ -102,7 +103,7 @@ fn run_name<'a, W: Write + Drop>(
     report: &Report<'_>,
     out: &mut Output<W>,
 ) -> Option<RunError<'a>>
-    ensures { RunsThenEnds report.now (PrintsName report.now found.now name.entry.now) None
+    ensures { RunsThenEnds report.now (PrintsName report.now found.now name.entry.now) (Ok None)
         (out_of out.old) (out_of out.new) result }
 {
     let mut summary = Summary::new();
@@ -110,11 +111,10 @@ fn run_name<'a, W: Write + Drop>(
         Ok(()) if summary.pieces() == 0 => Err(Failure::NoName(RecordName::new(name))),
         ending => ending,
     };
-    end_run(alloc, report, ending, None, &summary, out)
+    end_run(alloc, report, ending, Ok(None), &summary, out)
 }
 
-/// Prints the blocks of each name in turn, and reports each that no sensor has. Returns the highest exit status, and whether more
-/// can be printed.
+/// Prints the blocks of each name in turn, and reports each that no sensor has.
 fn print_each_name<W: Write + Drop, E: MessageSink>(
     alloc: Global,
     found: &FoundSensors,
@@ -122,20 +122,19 @@ fn print_each_name<W: Write + Drop, E: MessageSink>(
     report: &Report<'_>,
     out: &mut Output<W>,
     err: &mut E,
-) -> (u8, bool)
+) -> Outcome
     ensures { Each (RunsName report.now found.now) names.now (out_of out.old) (out_of out.new)
         (E.received err.old) (E.received err.new) result }
 {
-    let mut highest = 0;
+    let mut outcome = Outcome::new();
     for name in names {
         let error = run_name(alloc, found, name.as_str(), report, out);
-        let (status, is_open) = report.tell(&error, err);
-        highest = highest.max(status);
+        outcome = outcome.and(report.tell(&error, err));
         if !RunError::is_recoverable(&error) {
-            return (highest, is_open);
+            return outcome;
         }
     }
-    (highest, true)
+    outcome
 }
 
 /// Prints the blocks of each name.
@@ -166,7 +165,7 @@ fn run_broken<'a, W: Write + Drop>(
     found: &FoundSensors,
     names: &[Word],
     failure: Failure<'a>,
-    said: Option<String>,
+    said: Result<Option<String>, AllocError>,
     report: &Report<'_>,
     out: &mut Output<W>,
 ) -> Option<RunError<'a>>
@@ -192,7 +191,7 @@ fn print_by_name<C: Connection, W: Write + Drop, E: MessageSink>(
     report: &Report<'_>,
     out: &mut Output<W>,
     err: &mut E,
-) -> (u8, bool)
+) -> Outcome
     requires { IsFrom from }
     ensures { PrintsSensors limits names.now from report.now
         (state (C.seen ctl.old) (⟦<C as Connection>⟧.lost ctl.old) (out_of out.old))
@@ -210,8 +209,7 @@ fn print_by_name<C: Connection, W: Write + Drop, E: MessageSink>(
     }
 }
 
-/// Prints what the query asks for from the controller, and reports how each run ended. Returns the highest exit status, and whether
-/// more can be printed.
+/// Prints what the query asks for from the controller, and reports how each run ended.
 pub(crate) fn print_query<C: Connection, W: Write + Drop, E: MessageSink>(
     alloc: Global,
     ctl: &mut C,
@@ -220,7 +218,7 @@ pub(crate) fn print_query<C: Connection, W: Write + Drop, E: MessageSink>(
     report: &Report<'_>,
     out: &mut Output<W>,
     err: &mut E,
-) -> (u8, bool)
+) -> Outcome
     requires { IsQuery query.now }
     ensures { PrintsQuery limits query.now report.now
         (state (C.seen ctl.old) (⟦<C as Connection>⟧.lost ctl.old) (out_of out.old))

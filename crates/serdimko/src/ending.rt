@@ -7,9 +7,11 @@ ghost use Rattle.ipmi_output.specs.Sink.{TakesPart};
 ghost use Rattle.ipmi_output.specs.Writer.{flush_faults};
 ghost use Rattle.serdimko.specs.Out.{out_of};
 ghost use Rattle.serdimko.specs.Printing.{EndsIn, EndsRun, is_faulty, IsEndLine, message_of, PrintsEnd, shown};
-ghost use Rattle.serdimko.specs.RunError.{error_text, faults_of_error, is_output_open, status_of_error};
+ghost use Rattle.serdimko.specs.RunError.{error_text, faults_of_error, is_output_open};
 
 use crate::closable::{Output, is_closed};
+use crate::outcome::Outcome;
+use crate::reason::reason_of;
 use crate::report::Report;
 use crate::run_error::RunError;
 use ipmi_commands::{Summary, Wording};
@@ -53,16 +55,6 @@ fn message_of(
     }
 }
 
-/// The exit status for an error, or for none.
-fn status_of(error: &Option<RunError<'_>>) -> u8
-    ensures { result ≡ status_of_error error.now }
-{
-    match error {
-        Some(error) => error.status(),
-        None => 0,
-    }
-}
-
 /// The line at the end of this many objects.
 fn line_at_end(
     alloc: Global,
@@ -74,8 +66,14 @@ fn line_at_end(
     ensures { IfOk result (λ line. IsEndLine labels.now count report.now error.now line.items) }
 {
     let message = message_of(alloc, error, report)?;
-    let status = status_of(error);
-    end_line(alloc, status, message.as_deref(), count, labels)
+    end_line(
+        alloc,
+        Outcome::of(error).status,
+        reason_of(error),
+        message.as_deref(),
+        count,
+        labels,
+    )
 }
 
 /// Writes the text, and flushes it.
@@ -145,12 +143,13 @@ fn is_faulty(report: &Report<'_>, summary: &Summary) -> bool
 }
 
 /// Ends a run with this ending that printed this: flushes the output, and prints the line at the end of objects. `said` is what the
-/// tool of a live controller said if the connection was lost. Returns why the run did not finish, if it did not.
+/// tool of a live controller said if the connection was lost, unless memory for it ran out. Returns why the run did not finish, if it
+/// did not.
 pub(crate) fn end_run<'a, W: Write + Drop>(
     alloc: Global,
     report: &Report<'_>,
     ending: Result<(), Failure<'a>>,
-    said: Option<String>,
+    said: Result<Option<String>, AllocError>,
     summary: &Summary,
     out: &mut Output<W>,
 ) -> Option<RunError<'a>>

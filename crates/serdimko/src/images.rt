@@ -4,18 +4,19 @@ ghost use Rattle.ipmi_image.specs.Image.{store_of_image};
 ghost use Rattle.ipmi_output.specs.Sink.{TakesPart};
 ghost use Rattle.ipmi_output.specs.Writer.{flush_faults};
 ghost use Rattle.ipmi_program.specs.Input.{input_name};
-ghost use Rattle.serdimko.specs.Images.{Fails, file_of, header, image_label, IsCause, IsImageQuery, PrintsBytes, PrintsFile, PrintsImage, PrintsImages, PrintsInput, PrintsNamed, PrintsStore, Rewrites};
+ghost use Rattle.serdimko.specs.Images.{Fails, file_of, header, image_label, IsImageQuery, PrintsBytes, PrintsFile, PrintsImage, PrintsImages, PrintsInput, PrintsNamed, PrintsStore, Rewrites};
 ghost use Rattle.serdimko.specs.Out.{out_of};
 
 use crate::closable::{Output, is_closed};
 use crate::driver::{Query, print_query};
 use crate::ending::{end_run, end_with};
 use crate::labels::labels_of;
+use crate::outcome::Outcome;
 use crate::report::{Report, Settings};
 use crate::run_error::RunError;
 use ipmi_command_line::Word;
 use ipmi_commands::{RequestLimits, Summary, write_image};
-use ipmi_image::{FaultCause, Image, ImageController, ImageFault, fault_cause};
+use ipmi_image::{Image, ImageController, ImageFault, fault_cause};
 use ipmi_output::Part::{Escaped, Text};
 use ipmi_output::{Failure, MessageSink, SinkFault, write_message};
 use ipmi_program::{InputFault, input_name, read_input};
@@ -38,16 +39,6 @@ pub(crate) fn file_of(image: Option<&Word>) -> Option<&Word>
     image.filter(|file| file.as_str() != "-")
 }
 
-/// Which rule the bytes break; None also if out of memory.
-fn cause_in(alloc: Global, bytes: &[u8], fault: ImageFault) -> Option<FaultCause>
-    ensures { IsCause bytes.now fault result }
-{
-    match fault_cause(alloc, bytes, fault) {
-        Ok(cause) => cause,
-        Err(AllocError) => None,
-    }
-}
-
 /// Reports why nothing was printed, after the line at the end of objects.
 fn fail<W: Write + Drop, E: MessageSink>(
     alloc: Global,
@@ -55,7 +46,7 @@ fn fail<W: Write + Drop, E: MessageSink>(
     error: RunError<'_>,
     out: &mut Output<W>,
     err: &mut E,
-) -> (u8, bool)
+) -> Outcome
     ensures { Fails report.now error.entry (out_of out.old) (out_of out.new) (E.received err.old) (E.received err.new) result }
 {
     let last = end_with(alloc, report, 0, Some(error), out);
@@ -69,12 +60,12 @@ fn rewrite<W: Write + Drop, E: MessageSink>(
     report: &Report<'_>,
     out: &mut Output<W>,
     err: &mut E,
-) -> (u8, bool)
+) -> Outcome
     ensures { Rewrites report.now image.now (out_of out.old) (out_of out.new) (E.received err.old) (E.received err.new) result }
 {
     let mut summary = Summary::new();
     let ending = write_image(alloc, image, out, &mut summary);
-    let last = end_run(alloc, report, ending, None, &summary, out);
+    let last = end_run(alloc, report, ending, Ok(None), &summary, out);
     report.tell(&last, err)
 }
 
@@ -87,7 +78,7 @@ fn print_store<W: Write + Drop, E: MessageSink>(
     image: Image,
     out: &mut Output<W>,
     err: &mut E,
-) -> (u8, bool)
+) -> Outcome
     requires { IsImageQuery query }
     ensures { PrintsStore limits query.entry report.now image (out_of out.old) (out_of out.new)
         (E.received err.old) (E.received err.new) result }
@@ -111,17 +102,20 @@ fn print_bytes<W: Write + Drop, E: MessageSink>(
     bytes: &[u8],
     out: &mut Output<W>,
     err: &mut E,
-) -> (u8, bool)
+) -> Outcome
     requires { IsImageQuery query }
     ensures { PrintsBytes limits query.entry report.now bytes.now (out_of out.old) (out_of out.new)
         (E.received err.old) (E.received err.new) result }
 {
     match Image::read(alloc, bytes) {
         Ok(image) => print_store(alloc, limits, query, report, image, out, err),
-        Err(fault) => {
-            let cause = cause_in(alloc, bytes, fault);
-            fail(alloc, report, RunError::no_image(fault, cause), out, err)
-        }
+        Err(fault) => match fault_cause(alloc, bytes, fault) {
+            Ok(cause) => fail(alloc, report, RunError::no_image(fault, cause), out, err),
+            Err(AllocError) => {
+                let error = RunError::no_image(ImageFault::Memory, None);
+                fail(alloc, report, error, out, err)
+            }
+        },
     }
 }
 
@@ -134,7 +128,7 @@ fn print_input<W: Write + Drop, E: MessageSink>(
     input: &Result<Vec<u8>, InputFault>,
     out: &mut Output<W>,
     err: &mut E,
-) -> (u8, bool)
+) -> Outcome
     requires { IsImageQuery query }
     ensures { PrintsInput limits query.entry report.now input.now (out_of out.old) (out_of out.new)
         (E.received err.old) (E.received err.new) result }
@@ -161,7 +155,7 @@ fn print_named<W: Write + Drop, E: MessageSink>(
     is_only_input: bool,
     out: &mut Output<W>,
     err: &mut E,
-) -> (u8, bool)
+) -> Outcome
     requires { IsImageQuery query }
     ensures { PrintsNamed settings.now query.entry (option_map (λ file. file.now) file.entry) is_only_input
         (out_of out.old) (out_of out.new) (E.received err.old) (E.received err.new) result }
@@ -197,7 +191,7 @@ fn print_headed<W: Write + Drop, E: MessageSink>(
     is_only_input: bool,
     out: &mut Output<W>,
     err: &mut E,
-) -> (u8, bool)
+) -> Outcome
     requires { IsImageQuery query }
     ensures { PrintsFile true settings.now query.entry (option_map (λ file. file.now) file.entry) is_only_input
         (out_of out.old) (out_of out.new) (E.received err.old) (E.received err.new) result }
@@ -222,7 +216,7 @@ fn print_image<W: Write + Drop, E: MessageSink>(
     is_only_input: bool,
     out: &mut Output<W>,
     err: &mut E,
-) -> (u8, bool)
+) -> Outcome
     requires { IsImageQuery query }
     ensures { PrintsImage settings.now query.entry is_only_input (option_map (λ image. image.now) image.entry)
         (out_of out.old) (out_of out.new) (E.received err.old) (E.received err.new) result }
@@ -234,8 +228,7 @@ fn print_image<W: Write + Drop, E: MessageSink>(
     print_named(rt, settings, query, file, is_only_input, out, err)
 }
 
-/// Prints what the query asks for from each image, or from standard input if none is named. Returns the highest exit status, and
-/// whether more can be printed; after a write fault nothing more is.
+/// Prints what the query asks for from each image, or from standard input if none is named; after a write fault nothing more.
 pub(crate) fn print_images<W: Write + Drop, E: MessageSink>(
     rt: &HostRuntime,
     settings: &Settings,
@@ -243,7 +236,7 @@ pub(crate) fn print_images<W: Write + Drop, E: MessageSink>(
     images: &[Word],
     out: &mut Output<W>,
     err: &mut E,
-) -> (u8, bool)
+) -> Outcome
     requires { IsImageQuery query }
     ensures { PrintsImages settings.now query.entry images.now (out_of out.old) (out_of out.new)
         (E.received err.old) (E.received err.new) result }
@@ -252,21 +245,13 @@ pub(crate) fn print_images<W: Write + Drop, E: MessageSink>(
         return print_image(rt, settings, query, None, true, out, err);
     }
     let is_only_input = images.len() == 1;
-    let mut highest = 0;
+    let mut outcome = Outcome::new();
     for image in images {
-        let (status, is_open) = print_image(
-            rt,
-            settings,
-            query,
-            Some(image),
-            is_only_input,
-            out,
-            err,
-        );
-        highest = highest.max(status);
-        if !is_open {
-            return (highest, false);
+        let one = print_image(rt, settings, query, Some(image), is_only_input, out, err);
+        outcome = outcome.and(one);
+        if !one.is_output_open {
+            return outcome;
         }
     }
-    (highest, true)
+    outcome
 }

@@ -12,6 +12,7 @@ ghost use Rattle.serdimko.specs.Settings.{IsQuery};
 use crate::closable::Output;
 use crate::driver::{Connection, Query, print_query};
 use crate::labels::labels_of;
+use crate::outcome::Outcome;
 use crate::report::Settings;
 use crate::run_error::RunError;
 use ipmi_command_line::LiveTool;
@@ -102,13 +103,16 @@ impl<'a, R: Files + AllocGlobal> Open for Pipes<'a, R> {
     }
 }
 
-/// The lines of a text that are not blank, without white space at their ends; at most three.
+/// The end mark that ipmitool prints after each reply.
+const MARK: &str = ".";
+
+/// The lines of a text that say something, without white space at their ends; at most three.
 fn said_lines<'a>(alloc: Global, text: &'a str) -> Result<Vec<&'a str>, AllocError>
     ensures { IfOk result (λ lines. map (λ line. line.now) lines.items ≡ said_lines text.entry.now) }
 {
     text.lines()
         .map(|line| line.trim())
-        .filter(|line| !line.is_empty())
+        .filter(|line| !line.is_empty() && *line != MARK)
         .take(MOST_LINES)
         .collect(alloc)
 }
@@ -142,32 +146,37 @@ pub(crate) fn lost_line(alloc: Global, text: &[u8]) -> Result<String, AllocError
 impl<P: Peer + Drop, K: Clock + Drop> Connection for RawController<P, K> {
     ghost lost = { λ controller. last_words controller };
 
-    fn last_line(&self, alloc: Global) -> Option<String> {
-        self.lost().and_then(|text| lost_line(alloc, text).ok())
+    fn last_line(&self, alloc: Global) -> Result<Option<String>, AllocError> {
+        match self.lost() {
+            Some(text) => Ok(Some(lost_line(alloc, text)?)),
+            None => Ok(None),
+        }
     }
 }
 
-/// The controller that the pipes lead to. Nothing is opened or sent yet.
+/// The controller that the pipes lead to, of which each thing may have so many troubles. Nothing is opened or sent yet.
 pub(crate) fn controller_of<'a, R: Files + Clock + AllocGlobal>(
     rt: &'a R,
     live: Live<'a>,
+    tries: u8,
 ) -> RawController<Piped<Pipes<'a, R>>, &'a R>
     ensures lost { last_words result ≡ None }
     ensures tool { result.peer.tool ≡ live.entry.tool }
     ensures folder { result.peer.opener.folder.now ≡ live.entry.folder.now }
     ensures units { result.peer.units ≡ no_units }
     ensures pause { as_nanos result.pause ≡ PAUSE * 1_000_000 }
+    ensures tries { result.silence.tries ≡ tries }
+    ensures silent { result.silence.silent ≡ 0 }
 {
     let pipes = Pipes {
         rt,
         folder: live.folder,
     };
     let pause = Duration::from_millis(PAUSE);
-    RawController::new(Piped::new(live.tool, pipes), rt, pause)
+    RawController::new(Piped::new(live.tool, pipes), rt, pause, tries)
 }
 
-/// Prints what the query asks for from the live controller, and returns the exit status, and whether more can be printed.
-/// Through its peer a tool is handed only requests that read or take a reservation.
+/// Prints what the query asks for from the live controller. Through its peer a tool is handed only requests that read or take a reservation.
 pub(crate) fn print_live<O: Open + Drop, K: Clock + Drop, W: Write + Drop, E: MessageSink>(
     alloc: Global,
     settings: &Settings,
@@ -175,7 +184,7 @@ pub(crate) fn print_live<O: Open + Drop, K: Clock + Drop, W: Write + Drop, E: Me
     controller: &mut RawController<Piped<O>, K>,
     out: &mut Output<W>,
     err: &mut E,
-) -> (u8, bool)
+) -> Outcome
     requires { IsQuery query.now }
     ensures prints { PrintsLive settings.now query.now
         (state (seen_of ⟦<Piped<O> as Peer>⟧.seen controller.old) (last_words controller.old) (out_of out.old))

@@ -17,6 +17,8 @@ mod images;
 mod labels;
 mod live;
 mod mistake;
+mod outcome;
+mod reason;
 mod report;
 mod run_error;
 
@@ -36,8 +38,9 @@ use ipmi_program::read_words;
 use labels::wrong_label;
 use live::{Live, controller_of, print_live};
 use mistake::maybe_unquoted;
+use outcome::Outcome;
 use report::Settings;
-use run_error::{CLOSED, INCOMPLETE};
+use run_error::CLOSED;
 use std::alloc::{AllocError, Global};
 use std::env::{Env, FillError};
 use std::io::{self, BufWriter, ErrorKind, IsTerminal, Write};
@@ -172,7 +175,7 @@ fn run_query<E: MessageSink>(
     if let Some(line) = wrong_label(rt.alloc(), settings.labels())? {
         return Ok(refuse(&line, err));
     }
-    let status = match source {
+    let outcome = match source {
         Source::Images(images) => {
             run_images(
                 rt,
@@ -188,9 +191,9 @@ fn run_query<E: MessageSink>(
         },
     };
     if let Query::Sensors(names, _) = query {
-        advise(rt, status, names.as_slice(), err);
+        advise(rt, outcome, names.as_slice(), err);
     }
-    Ok(status)
+    Ok(outcome.status)
 }
 
 /// Prints each image in its canonical spelling.
@@ -202,15 +205,15 @@ fn run_rewrite<E: MessageSink>(
 ) -> Result<u8, AllocError> {
     match source {
         Source::Images(images) => {
-            run_images(rt, ImageQuery::Rewrite, images.as_slice(), settings, err)
+            Ok(run_images(rt, ImageQuery::Rewrite, images.as_slice(), settings, err)?.status)
         }
         Source::Live(..) => Ok(refuse(&[Text("'image rewrite' needs an image")], err)),
     }
 }
 
-/// Says, after a run that lacks something, that the words may be one name.
-fn advise<E: MessageSink>(rt: &HostRuntime, status: u8, names: &[Word], err: &mut E) {
-    if status != INCOMPLETE {
+/// Says, where no sensor has one of the names, that the words may be one name.
+fn advise<E: MessageSink>(rt: &HostRuntime, outcome: Outcome, names: &[Word], err: &mut E) {
+    if !outcome.lacks_name {
         return;
     }
     // without memory there is no advice
@@ -262,7 +265,7 @@ fn run_capture<E: MessageSink>(
     let is_shown = !quiet && rt.stderr().is_terminal();
     let terminal = if is_shown { Some(rt.stderr()) } else { None };
     let mut counter = Counter::new(terminal);
-    let mut controller = controller_of(rt, live);
+    let mut controller = controller_of(rt, live, limits.tries);
     let mut out = buffered_output(rt)?;
     let status = capture_live(
         rt,
@@ -295,14 +298,14 @@ fn run_live<E: MessageSink>(
     live: Live<'_>,
     settings: &Settings,
     err: &mut E,
-) -> Result<u8, AllocError>
+) -> Result<Outcome, AllocError>
     requires { IsQuery query.now }
 {
-    let mut controller = controller_of(rt, live);
+    let mut controller = controller_of(rt, live, settings.limits.tries());
     let mut out = buffered_output(rt)?;
-    let (status, _) = print_live(rt.alloc(), settings, query, &mut controller, &mut out, err);
+    let outcome = print_live(rt.alloc(), settings, query, &mut controller, &mut out, err);
     discard(out);
-    Ok(status)
+    Ok(outcome)
 }
 
 /// Prints what is asked for from these images, with buffered output.
@@ -312,7 +315,7 @@ fn run_images<E: MessageSink>(
     images: &[Word],
     settings: &Settings,
     err: &mut E,
-) -> Result<u8, AllocError>
+) -> Result<Outcome, AllocError>
     requires { IsImageQuery query }
 {
     if images.is_empty() && rt.stdin().is_terminal() {
@@ -325,9 +328,9 @@ fn run_images<E: MessageSink>(
         );
     }
     let mut out = buffered_output(rt)?;
-    let (status, _) = print_images(rt, settings, query, images, &mut out, err);
+    let outcome = print_images(rt, settings, query, images, &mut out, err);
     discard(out);
-    Ok(status)
+    Ok(outcome)
 }
 
 /// Reports what is wrong with the command line, and returns the exit status.

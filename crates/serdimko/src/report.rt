@@ -1,9 +1,11 @@
 //! How runs over one input are printed, and what is said of one that did not finish.
 ghost use Rattle.std.specs.Prelude.{◌≡◌, Some};
-ghost use Rattle.serdimko.specs.RunError.{is_output_open, Tells};
+ghost use Rattle.ipmi_output.specs.Received.{ReceivesText};
+ghost use Rattle.serdimko.specs.RunError.{said_of_error, Tells};
 ghost use Rattle.serdimko.specs.Settings.{is_headed, texts_of, wording_of};
 
-use crate::run_error::{CLOSED, RunError};
+use crate::outcome::Outcome;
+use crate::run_error::RunError;
 use ipmi_command_line::{Format, Word};
 use ipmi_commands::{RequestLimits, Wording};
 use ipmi_json::Label;
@@ -81,34 +83,28 @@ pub(crate) struct Report<'a> {
 }
 
 impl Report<'_> {
-    /// Writes the message of the error, unless the output was closed, and returns the exit status.
+    /// Writes the message of the error, unless the output was closed.
     #[tactic(auto, using(crate::proofs::RunErrorLemmas::said_unless_closed))]
-    fn tell_one<E: MessageSink>(&self, error: &RunError<'_>, err: &mut E) -> u8
-        ensures { Tells self.now.name.now self.now.is_only_input (Some error.now) (E.received err.old) (E.received err.new) result }
+    fn tell_one<E: MessageSink>(&self, error: &RunError<'_>, err: &mut E)
+        ensures { ReceivesText (E.received err.old) (E.received err.new)
+            (said_of_error self.now.name.now self.now.is_only_input (Some error.now)) }
     {
         match error {
-            RunError::Closed => CLOSED,
+            RunError::Closed => {}
             _ => {
                 // there is nowhere left to report that this failed
                 let _ = write_message(err, &error.parts(self.name, self.is_only_input));
-                error.status()
             }
         }
     }
 
-    /// Writes the message of the error, if there is one, and returns the exit status, and whether more can be printed.
-    pub(crate) fn tell<E: MessageSink>(
-        &self,
-        error: &Option<RunError<'_>>,
-        err: &mut E,
-    ) -> (u8, bool)
-        ensures tells { Tells self.now.name.now self.now.is_only_input error.now (E.received err.old) (E.received err.new) result.0 }
-        ensures open { result.1 ≡ is_output_open error.now }
+    /// Writes the message of the error, if there is one.
+    pub(crate) fn tell<E: MessageSink>(&self, error: &Option<RunError<'_>>, err: &mut E) -> Outcome
+        ensures { Tells self.now.name.now self.now.is_only_input error.now (E.received err.old) (E.received err.new) result }
     {
-        let status = match error {
-            Some(error) => self.tell_one(error, err),
-            None => 0,
-        };
-        (status, RunError::is_output_open(error))
+        if let Some(error) = error {
+            self.tell_one(error, err);
+        }
+        Outcome::of(error)
     }
 }

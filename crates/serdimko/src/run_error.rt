@@ -1,7 +1,7 @@
 //! Why an image was not printed, or not completely: the message and the exit status.
 ghost use Rattle.std.specs.Prelude.{◌≡◌, Some, true};
 ghost use Rattle.ipmi_output.specs.Failure.{joined_parts, part_text};
-ghost use Rattle.serdimko.specs.RunError.{is_recoverable, is_output_open, lost_error, named_text, no_image, error_of, error_text, status_of_error, unread};
+ghost use Rattle.serdimko.specs.RunError.{is_recoverable, is_output_open, lost_error, named_text, no_image, error_of, error_text, refusal_or_lost, status_of_error, unread};
 
 use crate::causes::cause_words;
 use ipmi_bus::{Ended, FruEnded};
@@ -9,12 +9,13 @@ use ipmi_image::{FaultCause, ImageFault};
 use ipmi_output::Part::{self, Escaped, Number, Text};
 use ipmi_output::{Failure, fault_line, fault_words};
 use ipmi_program::InputFault;
+use std::alloc::AllocError;
 
 /// The exit status if an image can't be read.
 const UNREADABLE: u8 = 3;
 
 /// The exit status if something is missing.
-pub(crate) const INCOMPLETE: u8 = 1;
+const INCOMPLETE: u8 = 1;
 
 /// The exit status if the connection to the controller was lost.
 const LOST: u8 = 1;
@@ -92,24 +93,35 @@ impl<'a> RunError<'a> {
         }
     }
 
+    /// The error after a refusal, given the tool's last output if the connection was lost.
+    fn refusal_or_lost(
+        refusal: RunError<'a>,
+        said: Result<Option<String>, AllocError>,
+    ) -> RunError<'a>
+        ensures { result ≡ refusal_or_lost said refusal.entry }
+    {
+        match said {
+            Ok(None) => refusal,
+            Ok(Some(said)) => RunError::Lost(said),
+            Err(AllocError) => RunError::Failed(Failure::OutOfMemory),
+        }
+    }
+
     /// The error of a run over a controller, given the tool's last output if the connection was lost.
     pub(crate) fn of_connection(
         error: Option<RunError<'a>>,
-        said: Option<String>,
+        said: Result<Option<String>, AllocError>,
     ) -> Option<RunError<'a>>
         ensures { result ≡ lost_error said error.entry }
     {
-        match (said, error) {
-            (
-                Some(said),
-                Some(
-                    RunError::Failed(
-                        Failure::Ended(Ended::Refused(..))
-                        | Failure::Inventory(_, FruEnded::Refused(_)),
-                    ),
+        match error {
+            Some(
+                refusal @ RunError::Failed(
+                    Failure::Ended(Ended::Refused(..))
+                    | Failure::Inventory(_, FruEnded::Refused(_)),
                 ),
-            ) => Some(RunError::Lost(said)),
-            (_, error) => error,
+            ) => Some(RunError::refusal_or_lost(refusal, said)),
+            error => error,
         }
     }
 

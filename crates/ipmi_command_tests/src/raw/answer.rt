@@ -6,12 +6,23 @@ ghost use Rattle.ipmi_raw.specs.declared.reply.Reply.TheVariants as reply;
 ghost use Rattle.ipmi_raw.specs.declared.request.Request.{Request};
 ghost use Rattle.ipmi_raw.specs.declared.request.Request.TheVariants as request;
 ghost use Rattle.ipmi_command_tests.specs.Replied.{CanBePrinted, IsReply};
-ghost use Rattle.std.specs.Prelude.{◌≡◌, ◌+◌, ◌<◌, ◌≤◌, ◌++◌, length};
+ghost use Rattle.std.specs.Prelude.{◌≡◌, ◌+◌, ◌<◌, ◌≤◌, ◌++◌, List, ℕ, length};
 
 use arrayvec::ArrayVec;
 use ipmi_bus::{Code, Controller, LARGEST_PART, Shelf};
 use ipmi_image::ImageController;
 use ipmi_raw::{InventoryPart, RecordPart, Reply, ReplyBytes, Request};
+
+/// What the controller says of itself: IPMI 2.0, and nothing else (IPMI v2.0, table 20-2).
+const DEVICE_ID: [u8; 11] = [0x20, 0x01, 0x01, 0x00, 0x02, 0, 0, 0, 0, 0, 0];
+
+/// The reply to Get Device ID.
+fn device_id() -> Reply
+    ensures printed { CanBePrinted result }
+    ensures data { (bytes : List ℕ) × (result ≡ reply.Data bytes) }
+{
+    Reply::Data(ReplyBytes::new(&DEVICE_ID))
+}
 
 /// The reply to Reserve SDR Repository or Reserve SEL.
 fn reserve(ctl: &mut ImageController, shelf: Shelf) -> Reply
@@ -130,6 +141,7 @@ pub fn answer(ctl: &mut ImageController, request: Request) -> Reply
     ensures honest { IsHonest (seen_of ctl.old) → IsReply request result (seen_of ctl.old) (seen_of ctl.new) }
 {
     match request {
+        Request::DeviceId => device_id(),
         Request::Reserve(shelf) => reserve(ctl, shelf),
         Request::Get(asked) => part(ctl, asked),
         Request::Info(shelf) => info(ctl, shelf),

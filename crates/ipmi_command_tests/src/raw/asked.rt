@@ -6,6 +6,9 @@ ghost use Rattle.ipmi_command_tests.specs.Asked.{asked_by, of_eight, of_six, of_
 use ipmi_bus::{SEL_ENTRY_LEN, Shelf};
 use ipmi_raw::{InventoryPart, RecordPart, Request};
 
+/// The network function of requests to applications.
+const APPLICATION: u8 = 0x06;
+
 /// The network function of requests to storage.
 const STORAGE: u8 = 0x0A;
 
@@ -25,6 +28,8 @@ fn of_two(function: u8, command: u8) -> Option<Request>
         Some(Request::Info(Shelf::Sel))
     } else if function == STORAGE && command == 0x42 {
         Some(Request::Reserve(Shelf::Sel))
+    } else if function == APPLICATION && command == 0x01 {
+        Some(Request::DeviceId)
     } else {
         None
     }

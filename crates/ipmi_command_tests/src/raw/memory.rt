@@ -8,6 +8,7 @@ use crate::raw::asked::asked_by;
 use crate::raw::message::read_message;
 use crate::raw::printed::print_reply;
 use ipmi_bus::Controller;
+use ipmi_command_line::DEFAULT_TRIES;
 use ipmi_image::{Image, ImageController};
 use ipmi_raw::{Lost, Peer, RawController, ReplyText, Request, Tool};
 use std::time::{Clock, Duration};
@@ -65,5 +66,6 @@ pub fn controller_over<K: Clock>(tool: Tool, image: Image, clock: K) -> RawContr
     ensures plain { IsPlain (⟦<RawController<MemoryPeer, K> as Controller>⟧.seen result) }
     ensures store { (⟦<RawController<MemoryPeer, K> as Controller>⟧.seen result).store ≡ image }
 {
-    RawController::new(MemoryPeer::new(tool, image), clock, Duration::ZERO)
+    let peer = MemoryPeer::new(tool, image);
+    RawController::new(peer, clock, Duration::ZERO, DEFAULT_TRIES)
 }

@@ -1,4 +1,4 @@
-//! The texts of the nine requests, from the tables of IPMI v2.0.
+//! The texts of the ten requests, from the tables of IPMI v2.0.
 use ipmi_bus::Shelf;
 use ipmi_raw::{InventoryPart, RecordPart, Request, freeipmi, ipmitool};
 use std::process::Abort;
@@ -26,6 +26,12 @@ fn part(shelf: Shelf, offset: u8, count: u8) -> Request {
 fn requests_without_data(rt: HostRuntime) {
     let sdr = Shelf::Sdr;
     let sel = Shelf::Sel;
+    assert_request_texts(
+        &rt,
+        Request::DeviceId,
+        "raw 0x06 0x01\necho .\n",
+        "00 06 01\n",
+    );
     assert_request_texts(
         &rt,
         Request::Info(sdr),

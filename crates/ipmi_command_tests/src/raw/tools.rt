@@ -87,15 +87,29 @@ impl Clock for Sleeper {
 /// The controller that is asked through these tools.
 pub type Asked<'s, 'c> = RawController<Piped<Scripts<'s>>, &'c Sleeper>;
 
-/// A controller over these tools, with a pause of half a second.
+/// The troubles that one thing may have.
+pub const TRIES: u8 = 2;
+
+/// A controller over these tools, with a pause of half a second and two tries.
 pub fn controller<'s, 'c>(
     tool: Tool,
     scripts: &'s [Script<'s>],
     sleeper: &'c Sleeper,
 ) -> Asked<'s, 'c> {
+    controller_of(tool, scripts, sleeper, TRIES)
+}
+
+/// A controller over these tools, with a pause of half a second and so many tries.
+pub fn controller_of<'s, 'c>(
+    tool: Tool,
+    scripts: &'s [Script<'s>],
+    sleeper: &'c Sleeper,
+    tries: u8,
+) -> Asked<'s, 'c> {
     RawController::new(
         Piped::new(tool, Scripts(tool, scripts)),
         sleeper,
         Duration::from_millis(500),
+        tries,
     )
 }

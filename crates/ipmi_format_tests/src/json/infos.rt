@@ -18,10 +18,11 @@ pub(crate) const OTHER_INFO: [u8; 14] = [
 pub(crate) const SDR_INFO_LINE: &str =
     r#"{"object":"sdr_info","version":81,"record_count":65535,"free_space":0,"last_addition":null,"last_addition_raw":4294967295,"last_erase":"2020-09-13T12:26:40Z","last_erase_raw":1600000000,"overflow":false,"operation_support":47}"#;
 
-pub(crate) const END_LINE: &str = r#"{"object":"end","status":0,"message":null,"count":65536}"#;
+pub(crate) const END_LINE: &str =
+    r#"{"object":"end","status":0,"reason":"finished","message":null,"count":65536}"#;
 
 const FAILED_LINE: &str =
-    r#"{"object":"end","status":3,"message":"the \"controller\"\nis busy","count":0}"#;
+    r#"{"object":"end","status":3,"reason":"refused","message":"the \"controller\"\nis busy","count":0}"#;
 
 #[test]
 fn infos(rt: HostRuntime) {
@@ -35,7 +36,15 @@ fn infos(rt: HostRuntime) {
 
 #[test]
 fn ends(rt: HostRuntime) {
-    assert_line(&rt, end_line(rt.alloc(), 0, None, 65536, &[]), END_LINE);
+    assert_line(
+        &rt,
+        end_line(rt.alloc(), 0, "finished", None, 65536, &[]),
+        END_LINE,
+    );
     let message = Some("the \"controller\"\nis busy");
-    assert_line(&rt, end_line(rt.alloc(), 3, message, 0, &[]), FAILED_LINE);
+    assert_line(
+        &rt,
+        end_line(rt.alloc(), 3, "refused", message, 0, &[]),
+        FAILED_LINE,
+    );
 }

@@ -58,7 +58,7 @@ fn cases(alloc: Global) -> [Case; 9] {
         ),
         (sdr_info_line(alloc, &OTHER_INFO, &[]), SDR_INFO_LINE),
         (sel_info_line(alloc, &INFO, &[]), SEL_INFO_LINE),
-        (end_line(alloc, 0, None, 65536, &[]), END_LINE),
+        (end_line(alloc, 0, "finished", None, 65536, &[]), END_LINE),
     ]
 }
 

@@ -7,4 +7,4 @@ use Rattle.serdimko.proofs.driver.print_each_name.Given as goal
 abbrev pub invariant-loop-name : goal.invariant-loop-name
 invariant-loop-name g l =
     PrintedTo (RunsName l.report l.found) l.names (out_of l.fn.out) (g.E.MessageSink.received l.fn.err)
-    l.name-index (out_of l.out) (g.E.MessageSink.received l.err) l.highest
+    l.name-index (out_of l.out) (g.E.MessageSink.received l.err) l.outcome

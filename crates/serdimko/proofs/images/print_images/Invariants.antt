@@ -7,4 +7,4 @@ use Rattle.serdimko.proofs.images.print_images.Given as goal
 abbrev pub invariant-loop-image : goal.invariant-loop-image
 invariant-loop-image g l =
     PrintedTo (PrintsOne l.settings l.query l.is_only_input) l.images (out_of l.fn.out) (g.E.MessageSink.received l.fn.err)
-    l.image-index (out_of l.out) (g.E.MessageSink.received l.err) l.highest
+    l.image-index (out_of l.out) (g.E.MessageSink.received l.err) l.outcome

@@ -3,7 +3,7 @@ use Rattle.serdimko.proofs.live.print_live.Goals as goal
 
 pub returns-in_default-clause-prints : goal.returns-in_default-clause-prints
 returns-in_default-clause-prints g c =
-    inl (refl, (rw (c.report-report.ensures.name, c.report-report.ensures.input) at c.tell.ensures.tells, c.tell.ensures.open))
+    inl (refl, rw (c.report-report.ensures.name, c.report-report.ensures.input) at c.tell.ensures)
 
 pub returns-clause-prints : goal.returns-clause-prints
 returns-clause-prints g c =

@@ -1,4 +1,5 @@
 use Rattle.std.proofs.Common.{◌≡◌, None, Ok, rules, sym, ◌∙◌}
+use Rattle.ipmi_raw.specs.Peer.{IsReplyText}
 use Rattle.ipmi_raw.proofs.ReplyLemmas.{means, no_reply, unfit, unread}
 use Rattle.ipmi_raw.proofs.controller.RawController.exchange.Goals as goal
 
@@ -38,7 +39,8 @@ returns-in_err-reply-clause-sends g c =
 pub returns-then-is_to-clause-sends : goal.returns-then-is_to-clause-sends
 returns-then-is_to-clause-sends g c =
     let came : c.exchange-came.result ≡ Ok tt = search rules in
-    (c.exchange-came.result, c.exchange-came.ensures.brings, came)
+    let text : IsReplyText (g.P.Peer.tool c.args.self.now.peer) c.args.request c.in_ok-reply.reply c.exchange-came.new.reply.items = search rules in
+    (c.exchange-came.result, c.exchange-came.ensures.brings, (came, text, c.if-is_to.ensures))
 
 pub returns-else-is_to-clause-sends : goal.returns-else-is_to-clause-sends
 returns-else-is_to-clause-sends g c = (

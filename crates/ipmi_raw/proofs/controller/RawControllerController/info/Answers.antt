@@ -1,17 +1,15 @@
-use Rattle.std.proofs.Common.{◌≡◌, Err, refl, rules, List, ℕ}
+use Rattle.std.proofs.Common.{◌≡◌, ℕ, List, Some, Err, ap, rules, sym}
+use Rattle.ipmi_bus.specs.Seen.{failing_code}
 use Rattle.ipmi_raw.specs.declared.request.Request.TheVariants as Request
-use Rattle.ipmi_raw.proofs.AskLemmas.{hears_failed}
+use Rattle.ipmi_raw.proofs.AskLemmas.{asks_gave}
 use Rattle.ipmi_raw.proofs.controller.RawControllerController.info.Goals as goal
 
-pub returns-in_err-reply-clause-hears : goal.returns-in_err-reply-clause-hears
-returns-in_err-reply-clause-hears g c =
+pub returns-in_err-reply-clause-asks : goal.returns-in_err-reply-clause-asks
+returns-in_err-reply-clause-asks g c =
     let same : c.from_residual.result ≡ Err c.in_err-reply.field-0.0 = search rules in
-    hears_failed {V = List ℕ} (g.P.Peer.tool c.args.self.now.peer) (Request.Info c.args.shelf)
-    (λ r given. r ≡ given) c.args.self.now c.ask.new.self c.from_residual.result c.in_err-reply.field-0.0 same
-    c.in_err-reply.ensures.hears refl
+    asks_gave g.P.Peer.brings (g.P.Peer.tool c.args.self.now.peer) (Request.Info c.args.shelf)
+    (λ given. c.from_residual.result ≡ given) c.args.self.now c.ask.new.self (Err c.in_err-reply.field-0.0)
+    (Some c.in_err-reply.field-0.0.0) (failing_code {T = (List ℕ)} c.from_residual.result) (ap (failing_code {T = (List ℕ)}) (sym same)) c.in_err-reply.ensures.asks same
 
 pub returns-clause-honest : goal.returns-clause-honest
 returns-clause-honest g c = search rules
-
-pub returns-clause-hears : goal.returns-clause-hears
-returns-clause-hears g c = search rules

@@ -1,0 +1,55 @@
+//! How runs ended: what the exit status is, and what may follow.
+ghost use Rattle.std.specs.Prelude.{◌≡◌};
+ghost use Rattle.serdimko.specs.RunError.{and, nothing_run, outcome_of};
+
+use crate::run_error::RunError;
+use ipmi_output::Failure;
+
+/// How one or several runs ended.
+#[derive(Clone, Copy)]
+pub(crate) struct Outcome {
+    /// The highest exit status.
+    pub(crate) status: u8,
+    /// Whether more can be printed.
+    pub(crate) is_output_open: bool,
+    /// Whether nothing has a name that was given.
+    pub(crate) lacks_name: bool,
+}
+
+impl Outcome {
+    /// Before the first run.
+    pub(crate) fn new() -> Outcome
+        ensures { result ≡ nothing_run }
+    {
+        Outcome {
+            status: 0,
+            is_output_open: true,
+            lacks_name: false,
+        }
+    }
+
+    /// How a run with this error, or without one, ended.
+    pub(crate) fn of(error: &Option<RunError<'_>>) -> Outcome
+        ensures { result ≡ outcome_of error.now }
+    {
+        Outcome {
+            status: match error {
+                Some(error) => error.status(),
+                None => 0,
+            },
+            is_output_open: RunError::is_output_open(error),
+            lacks_name: matches!(error, Some(RunError::Failed(Failure::NoName(_)))),
+        }
+    }
+
+    /// How these runs and the next ones ended.
+    pub(crate) fn and(self, next: Outcome) -> Outcome
+        ensures { result ≡ and self next }
+    {
+        Outcome {
+            status: self.status.max(next.status),
+            is_output_open: self.is_output_open && next.is_output_open,
+            lacks_name: self.lacks_name || next.lacks_name,
+        }
+    }
+}
