@@ -4,6 +4,7 @@ pub mod LineLawLemmas
 pub mod LineLemmas
 pub mod NameLemmas
 pub mod PartsLemmas
+pub mod PlacesLemmas
 pub mod RecordLemmas
 pub mod SensorExistenceLemmas
 pub mod SensorUniqueLemmas

@@ -1,5 +1,5 @@
 -- The sensors of sensor data records (IPMI v2.0, section 43).
-use Rattle.std.specs.Prelude.{◌≡◌, ℕ, zero, suc, ◌+◌, ◌*◌, ◌<◌, ◌==◌, ◌&&◌, nat_le, nat_lt, not, Bool, false, if◌then◌else◌, Option, Some, None, MatchOption, option_and_then, List, [], ◌∷◌, length, take, drop, filter_map, slice_index_or}
+use Rattle.std.specs.Prelude.{◌≡◌, ℕ, zero, suc, ◌+◌, ◌*◌, ◌<◌, ◌==◌, ◌&&◌, nat_le, nat_lt, not, Bool, false, if◌then◌else◌, Option, Some, None, MatchOption, option_and_then, List, [], ◌∷◌, length, take, drop, filter_map, get_or}
 use Rattle.std.specs.List.{find}
 use Rattle.std.specs.Result.{result_ok}
 use Rattle.ipmi_text.specs.SdrHeader.{sdr_len}
@@ -64,9 +64,13 @@ sensor_for owner lun number records =
 
 -- ---- the index
 
--- the index in the table of places for a sensor
-abbrev pub slot_of : ℕ → ℕ → ℕ → ℕ
-slot_of owner lun number = (lun * 256 + owner) * 256 + number
+-- the row of an owner's sensors at a LUN: there is a page for each row, with a place for each number
+abbrev pub row_of : ℕ → ℕ → ℕ
+row_of owner lun = lun * 256 + owner
+
+-- the place that the pages have for the number of a row; `none` where there is no page
+abbrev pub place_in : List (List ℕ) → ℕ → ℕ → ℕ → ℕ
+place_in pages row number none = get_or (get_or pages row []) number none
 
 -- the record at a place, if it has no fault
 abbrev pub view_at : List ℕ → ℕ → Option SdrView
@@ -78,9 +82,9 @@ abbrev pub IsPlaceOf : List ℕ → ℕ → Option SdrView → Type 0
 IsPlaceOf bytes place view =
     MatchOption view (place ≡ length bytes) (λ v. view_at bytes place ≡ Some v)
 
-abbrev pub IsIndex : List ℕ → List (List ℕ) → List ℕ → Type 0
-IsIndex bytes records places = (owner lun number : ℕ) → owner < 256 → number < 256
-    → IsPlaceOf bytes (slice_index_or places (slot_of owner lun number) (length bytes))
+abbrev pub IsIndex : List ℕ → List (List ℕ) → List (List ℕ) → Type 0
+IsIndex bytes records pages = (owner lun number : ℕ) → owner < 256 → number < 256
+    → IsPlaceOf bytes (place_in pages (row_of owner lun) number (length bytes))
     (sensor_for owner lun number records)
 
 -- the place of a record, if it is the first record of the sensor; otherwise the old value

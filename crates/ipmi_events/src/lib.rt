@@ -11,6 +11,7 @@ mod generic;
 pub mod laws;
 mod name;
 mod parts;
+mod places;
 mod sensor_blocks;
 pub mod sensor_laws;
 mod sensor_lines;

@@ -1,26 +1,21 @@
 //! Finds the record of a sensor (IPMI v2.0, section 43).
-ghost use Rattle.std.specs.Prelude.{◌≡◌, ℕ, ◌+◌, ◌<◌, ◌≤◌, ◌&&◌, IfOk, nat_le, nat_lt, length, option_map, slice_index_or};
-ghost use Rattle.ipmi_events.specs.Sensors.{count_of, first_record, IsIndex, names, noted, records_in, sensor_for, slot_of, view_of};
+ghost use Rattle.std.specs.Prelude.{◌≡◌, ℕ, ◌+◌, ◌<◌, ◌≤◌, IfOk, OnOk, option_map};
+ghost use Rattle.ipmi_events.specs.Sensors.{count_of, first_record, IsIndex, names, noted, place_in, records_in, row_of, sensor_for, view_of};
 
+use crate::places::{PAGE_PLACES, Places, row_of};
 use ipmi_records::{SdrView, Sharing};
 use ipmi_text::{SDR_HEADER_LEN, sdr_len};
 use std::alloc::{AllocError, Global};
 use std::marker::Model;
-
-/// The number of possible sensors: 256 numbers for each of 256 owners at each of four LUNs.
-const SENSOR_SLOTS: usize = 4 * 256 * SENSOR_NUMBERS;
-
-/// The number of possible sensors at one LUN of an owner.
-const SENSOR_NUMBERS: usize = 256;
 
 /// Sensor data records, in order, with an index from sensors to records.
 #[derive(Drop)]
 pub struct Sensors {
     /// The concatenated records.
     bytes: Vec<u8>,
-    /// The offset of each sensor's record, indexed by LUN, owner and number. For a sensor without a record it is the
-    /// end of the bytes, where no record begins.
-    places: Vec<usize>,
+    /// The offset of each sensor's record. For a sensor without a record it is the end of the bytes, where no record
+    /// begins.
+    places: Places,
 }
 
 impl Model for Sensors {
@@ -31,7 +26,7 @@ impl Model for Sensors {
 
     ghost view = { λ s. records_in s.bytes.items };
 
-    ghost invariant = { λ s. IsIndex s.bytes.items (records_in s.bytes.items) s.places.items };
+    ghost invariant = { λ s. IsIndex s.bytes.items (records_in s.bytes.items) s.places };
 }
 
 /// The record at the start of the bytes, if it is complete.
@@ -44,13 +39,6 @@ pub(crate) fn first_record(bytes: &[u8]) -> Option<&[u8]>
     bytes.get(..sdr_len(bytes))
 }
 
-/// The index in `places` for a sensor.
-fn slot_of(owner: u8, lun: u8, number: u8) -> usize
-    ensures { result ≡ slot_of owner lun number }
-{
-    (usize::from(lun) * 256 + usize::from(owner)) * SENSOR_NUMBERS + usize::from(number)
-}
-
 /// The number of sensors that a record describes. A count of 0 is treated as a record that is not shared.
 fn count_of(sharing: Option<Sharing>) -> u8
     ensures { result ≡ count_of sharing }
@@ -61,65 +49,49 @@ fn count_of(sharing: Option<Sharing>) -> u8
     }
 }
 
-/// Stores `place` in each empty slot from `first` to before `end`. An empty slot has the value `none`.
-fn note_slots(places: &mut [usize], first: usize, end: usize, place: usize, none: usize)
-    requires order { first ≤ end }
-    requires end { end ≤ length places.old }
-    ensures noted { (slot : ℕ) → slice_index_or places.new slot none ≡
-        noted (nat_le first slot && nat_lt slot end) place none
-        (slice_index_or places.old slot none) }
-    ensures len { length places.new ≡ length places.old }
-{
-    for slot in first..end {
-        if places[slot] == none {
-            places[slot] = place;
-        }
-    }
-}
-
-/// Stores the place of a record in the empty slots of its sensors.
-fn note_record(places: &mut [usize], bytes: &[u8], place: usize, none: usize)
-    requires { length places.old ≡ 262144 }
-    ensures noted { (owner lun number : ℕ) → owner < 256 → number < 256 →
-        slice_index_or places.new (slot_of owner lun number) none ≡
+/// Notes the place of a record for each of its sensors that has none.
+fn note_record(
+    places: &mut Places,
+    bytes: &[u8],
+    place: usize,
+    none: usize,
+) -> Result<(), AllocError>
+    ensures { OnOk result ((owner lun number : ℕ) → owner < 256 → number < 256 →
+        place_in places.new (row_of owner lun) number none ≡
         noted (names owner lun number (view_of bytes.now)) place none
-        (slice_index_or places.old (slot_of owner lun number) none) }
-    ensures len { length places.new ≡ length places.old }
+        (place_in places.old (row_of owner lun) number none)) }
 {
     let Ok(view) = SdrView::read(bytes) else {
-        return;
+        return Ok(());
     };
     let Some(sensor) = view.sensor() else {
-        return;
+        return Ok(());
     };
-    let row = slot_of(sensor.owner, sensor.lun, 0);
     let first = usize::from(sensor.number);
-    let end = (first + usize::from(count_of(view.sharing()))).min(SENSOR_NUMBERS);
-    note_slots(places, row + first, row + end, place, none);
+    let end = (first + usize::from(count_of(view.sharing()))).min(PAGE_PLACES);
+    places.note(row_of(sensor.owner, sensor.lun), first, end, place, none)
 }
 
-/// Stores the place of each sensor's record in the slot of the sensor.
-fn note_records(places: &mut [usize], records: &[u8])
-    requires len { length places.old ≡ 262144 }
-    requires empty { (slot : ℕ) →
-        slice_index_or places.old slot (length records.now) ≡ length records.now }
-    ensures { IsIndex records.now (records_in records.now) places.new }
+/// The places of all sensors' records.
+fn places_of(alloc: Global, records: &[u8]) -> Result<Places, AllocError>
+    ensures { IfOk result (λ places. IsIndex records.now (records_in records.now) places) }
 {
+    let mut places = Places::new(alloc);
     let mut place = 0;
     'records: while let Some(bytes) = first_record(&records[place..]) {
-        note_record(places, bytes, place, records.len());
+        note_record(&mut places, bytes, place, records.len())?;
         place += bytes.len();
     }
+    Ok(places)
 }
 
 impl Sensors {
     /// Builds the index for concatenated sensor data records, each as long as its header says. Bytes at the end that
-    /// are not a whole record are ignored. The index takes 2 MiB, for any number of records.
+    /// are not a whole record are ignored. The index takes 2 KiB for each owner and LUN of their sensors.
     pub fn of(alloc: Global, records: Vec<u8>) -> Result<Sensors, AllocError>
         ensures { IfOk result (λ s. s ≡ records_in records.items) }
     {
-        let mut places = vec![in alloc; records.len(); SENSOR_SLOTS]?;
-        note_records(&mut places, &records);
+        let places = places_of(alloc, &records)?;
         Ok(Sensors {
             bytes: records,
             places,
@@ -131,7 +103,7 @@ impl Sensors {
     pub fn find(&self, owner: u8, lun: u8, number: u8) -> Option<SdrView<'_>>
         ensures { result ≡ sensor_for owner lun number self.now }
     {
-        let place = *self.places.get(slot_of(owner, lun, number))?;
+        let place = self.places.get(row_of(owner, lun), number)?;
         let bytes = first_record(self.bytes.get(place..)?)?;
         SdrView::read(bytes).ok()
     }
