@@ -52,6 +52,8 @@ says() {
 }
 
 for dialect in --ipmitool --freeipmi; do
+  host=-H
+  if [ $dialect = --freeipmi ]; then host=-h; fi
   TOOL_TROUBLES=
   same $dialect sdr list all
   same $dialect sdr elist
@@ -87,9 +89,12 @@ for dialect in --ipmitool --freeipmi; do
   if [ "$(cat "$work/out")" != "$("$SERDIMKO" --image "$TOOL_IMAGE" sdr hex | head -n 1)" ]; then
     fault "$dialect, refused: $(cat "$work/out")"
   fi
+  says 1 'web17: record 0002h refused with code D4h' $dialect $host web17 sdr hex --part 254
   TOOL_TROUBLES='say=Error: Unable to establish LAN session'
   says 1 'no reply from the controller: Error: Unable to establish LAN session' $dialect -- sel list
   says 1 'no reply from the controller: Error: Unable to establish LAN session' $dialect -- sensor get CPU1 Temp
+  says 1 'no reply from fe80::1: Error: Unable to establish LAN session' $dialect $host fe80::1 sel list
+  says 1 'no reply from web17: Error: Unable to establish LAN session' $dialect $host web17 capture
   TOOL_TROUBLES='die=4'
   says 1 'no reply from the controller: the tool said nothing' $dialect -- sdr hex
   TOOL_TROUBLES='garbage=4'
@@ -102,7 +107,7 @@ for dialect in --ipmitool --freeipmi; do
   done
 done
 
-# A machine that dies costs the tries of one thing, and Get Device ID.
+# A machine that dies costs `--tries` + 1 requests, and Get Device ID.
 for dialect in --ipmitool --freeipmi; do
   silence='ipmi_cmd_raw: session timeout'
   opening=0
@@ -110,7 +115,7 @@ for dialect in --ipmitool --freeipmi; do
     silence='Unable to send RAW command (channel=0x0 netfn=0x6 lun=0x0 cmd=0x1)'
     opening=1
   fi
-  for answered in 1 3 40; do
+  for answered in 0 1 3 40; do
     TOOL_TROUBLES=dead=$((answered + 1))
     : > "$TOOL_LOG"
     says 1 "no reply from the controller: $silence" $dialect -- --tries 2 capture -o "$work/dead"

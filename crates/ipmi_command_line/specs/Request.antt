@@ -65,13 +65,26 @@ tool_of name =
     if bytes_eq name (codes "ipmitool") then Some LiveTool.Ipmitool
     else (if bytes_eq name (codes "freeipmi") then Some LiveTool.FreeIpmi else None)
 
--- TOOL:FOLDER; the first colon ends the tool's name, and the folder has a name
+abbrev pub has_colon : Text → Bool
+has_colon text = nat_lt (position_or_len (λ byte. byte == 58) text) (length text)
+
+abbrev pub before_colon : Text → Text
+before_colon text = before_first (λ byte. byte == 58) text
+
+abbrev pub after_colon : Text → Text
+after_colon text = after_first (λ byte. byte == 58) text
+
+-- FOLDER, or FOLDER:HOST
+abbrev pub live_at : LiveTool → Text → Source
+live_at tool place =
+    if has_colon place then Source.Live tool (before_colon place) (Some (after_colon place)) else Source.Live tool place None
+
+-- the tool's name, a colon, and where it is
 abbrev pub live_of : Text → Option Source
 live_of text =
-    if nat_lt (position_or_len (λ byte. byte == 58) text) (length text)
-    then (if length (after_first (λ byte. byte == 58) text) == 0 then None
-    else option_map (λ tool. Source.Live tool (after_first (λ byte. byte == 58) text))
-    (tool_of (before_first (λ byte. byte == 58) text)))
+    if has_colon text
+    then (if length (after_colon text) == 0 then None
+    else option_map (λ tool. live_at tool (after_colon text)) (tool_of (before_colon text)))
     else None
 
 abbrev pub standard_inputs : List Text → ℕ

@@ -4,7 +4,7 @@ ghost use Rattle.clap.specs.Words.{first_of, found_of, rows_of};
 ghost use Rattle.ipmi_command_line.specs.Arguments.{values_of};
 ghost use Rattle.ipmi_command_line.specs.Command.{IsTask, number_or, start_of_text};
 ghost use Rattle.ipmi_command_line.specs.Commands.{row_of, row_state, texts};
-ghost use Rattle.ipmi_command_line.specs.Request.{action_of, among_flags, among_values, capture_of, entry_of, events_of, format_of, hex_id_of, help_of, IsRequest, IsAction, has_option, limits_of, live_of, misplaced, named_of, part_of_text, printed_of, request_of, request_of_command, request_of_help, request_of_row, request_of_rows, request_of_words, rewrite_of, short_request, source_of, standard_inputs, start_of, task_of_row, tool_of, topic_named, topic_of};
+ghost use Rattle.ipmi_command_line.specs.Request.{action_of, among_flags, among_values, capture_of, entry_of, events_of, format_of, hex_id_of, help_of, IsRequest, IsAction, has_option, limits_of, live_at, live_of, misplaced, named_of, part_of_text, printed_of, request_of, request_of_command, request_of_help, request_of_row, request_of_rows, request_of_words, rewrite_of, short_request, source_of, standard_inputs, start_of, task_of_row, tool_of, topic_named, topic_of};
 ghost use Rattle.ipmi_command_line.specs.declared.error.UsageError.{UsageError};
 
 use crate::arguments::{arguments, has_value, is_given, value, value_count};
@@ -72,8 +72,8 @@ pub enum LiveTool {
 pub enum Source {
     /// Saved images, one after another; `-` is standard input, and so are none.
     Images(Words),
-    /// A live controller: the tool, and the folder of its pipes.
-    Live(LiveTool, Word),
+    /// A live controller: the tool, the folder of its pipes, and its host's name, if that is known.
+    Live(LiveTool, Word, Option<Word>),
 }
 
 /// What a request may take of a controller.
@@ -208,18 +208,31 @@ fn tool_of(name: &str) -> Option<LiveTool>
     }
 }
 
-/// The live controller of `TOOL:FOLDER`. None if it is malformed.
+/// The live controller of this tool at `FOLDER` or `FOLDER:HOST`.
+fn live_at(alloc: Global, tool: LiveTool, place: &str) -> Result<Source, AllocError>
+    ensures { IfOk result (λ live. live ≡ live_at tool place.now) }
+{
+    match place.split_once(':') {
+        Some((folder, host)) => {
+            let folder = Word::new(alloc, folder)?;
+            Ok(Source::Live(tool, folder, Some(Word::new(alloc, host)?)))
+        }
+        None => Ok(Source::Live(tool, Word::new(alloc, place)?, None)),
+    }
+}
+
+/// The live controller of `TOOL:FOLDER` or `TOOL:FOLDER:HOST`. None if it is malformed.
 fn live_of(alloc: Global, text: &str) -> Result<Option<Source>, AllocError>
     ensures { IfOk result (λ live. live ≡ live_of text.now) }
 {
-    let Some((tool, folder)) = text.split_once(':') else {
+    let Some((tool, place)) = text.split_once(':') else {
         return Ok(None);
     };
-    if folder.is_empty() {
+    if place.is_empty() {
         return Ok(None);
     }
     match tool_of(tool) {
-        Some(tool) => Ok(Some(Source::Live(tool, Word::new(alloc, folder)?))),
+        Some(tool) => Ok(Some(live_at(alloc, tool, place)?)),
         None => Ok(None),
     }
 }

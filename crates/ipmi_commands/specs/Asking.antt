@@ -110,7 +110,7 @@ ShowsLocator wording (Ok (SdrView.Fru bytes)) seen text =
     ShowsDevice wording (printed_name (SdrView.Fru bytes)) (fru_of (SdrView.Fru bytes)) seen text
 ShowsLocator wording _ seen text = text ≡ piece_of [] false
 
--- the same for a row in a listing of devices
+-- the same for a row in a listing of devices; nothing is said of other forms
 abbrev pub ShowsRow : Form → Row → Seen → Output → Type 0
 ShowsRow (Form.Device wording) row seen text = ShowsLocator wording (sdr_view_of row.bytes) seen text
 ShowsRow form row seen text = Unit {0}

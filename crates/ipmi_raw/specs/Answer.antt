@@ -108,7 +108,7 @@ CountsCalls old new = new ≡ record old {
   last_failure = new.last_failure;
 }
 
--- Get Device ID is not met with silence: the standard requires that each controller answers it
+-- Get Device ID is met neither with silence nor with C3h: the standard requires that each controller answers it
 abbrev pub IsThere : Result (List ℕ) Code → Type 0
 IsThere result = result ≢ given DeviceId Silent
 

@@ -67,7 +67,7 @@ is_answer (Some (Refused code)) = true
 is_answer (Some Silent) = false
 is_answer None = false
 
--- the number of silent requests in a row, if there were so many before one more request
+-- the number of silent requests in a row after one more request, if there were `silent` before it: an answer ends the row
 abbrev pub silent_after : ℕ → Option Reply → ℕ
 silent_after silent (Some (Data bytes)) = 0
 silent_after silent (Some (Refused code)) = 0
@@ -79,8 +79,8 @@ abbrev pub Probes : {P K : Type 0} → Exchanges P → Tool → P → RawControl
 Probes brings tool peer new = (heard : Option Reply) × Exchanged brings tool DeviceId heard peer new.peer new.text.items
     × MatchBool new.is_lost (is_answer heard ≡ false) ((is_answer heard ≡ true) × (new.silence.silent ≡ 0))
 
--- A call sends its request. If so many requests in a row were silent that a thing is given up for them, it sends Get Device ID too;
--- otherwise nothing else. If the connection is not lost then, there was a reply, for which the call returns what `Gives` says.
+-- A call sends its request. If more than `tries` requests in a row were silent, it sends Get Device ID too; otherwise nothing else. If
+-- the connection is not lost then, there was a reply, for which the call returns what `Gives` says.
 pub record Sends {P K : Type 0} (brings : Exchanges P) (tool : Tool) (request : Request) (Gives : Reply → Type 0)
     (old new : RawController P K) : Type 0 where
   pub heard : Option Reply

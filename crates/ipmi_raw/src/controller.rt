@@ -32,7 +32,7 @@ const NO_RESERVATION: [u8; 2] = [0; 2];
 ///
 /// A thing that had one trouble more than `tries` is given up. If so many requests in a row are met with silence, the
 /// call also sends Get Device ID, which each controller answers. If that is met with silence too, the connection is
-/// lost. So a machine that dies costs one thing's tries and one request more.
+/// lost. So a machine that dies costs `tries` + 1 requests and one Get Device ID.
 ///
 /// A busy controller answers at once, and callers repeat the request at once. So each call that fails with C0h, C3h
 /// or 81h waits for the pause.

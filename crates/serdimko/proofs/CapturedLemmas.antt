@@ -1,5 +1,5 @@
 -- What is saved of a capture, by whether the connection was lost.
-use Rattle.std.proofs.Common.{◌≡◌, ◌++◌, ◌∷◌, [], ℕ, append-nil, IfOk, inl, inr, List, MatchOption, None, Option, option_map, refl, Result, Ok, Err, Some, sym}
+use Rattle.std.proofs.Common.{◌≡◌, ◌++◌, ℕ, IfOk, inl, inr, List, MatchOption, None, Option, option_map, refl, Result, Ok, Err, Some, sym}
 use Rattle.ipmi_output.specs.Failure.{line_text}
 use Rattle.ipmi_output.specs.Received.{Received, ReceivesText, WritesAll}
 
@@ -17,8 +17,8 @@ pub captured : {E : Type 0} {P Q : ℕ → Type 0} (result : Result ℕ E) → I
 captured (Ok status) is to = to status is
 captured (Err e) is to = tt
 
--- a line that ends in a name
-pub said_name : {T E : Type 0} (result : Result T E) (old new : Received) (front name : List ℕ)
-    → WritesAll old new result (line_text (front ++ (name ++ []))) → ReceivesText old new (line_text (front ++ name))
-said_name (Ok done) old new front name says = inl (rw (append-nil name) at says)
-said_name (Err fault) old new front name says = inr (rw (append-nil name) at says)
+-- a line that was written, in whole or in part
+pub said : {T E : Type 0} (result : Result T E) (old new : Received) {written text : List ℕ} → written ≡ text
+    → WritesAll old new result (line_text written) → ReceivesText old new (line_text text)
+said (Ok done) old new is says = inl (rw is at says)
+said (Err fault) old new is says = inr (rw is at says)

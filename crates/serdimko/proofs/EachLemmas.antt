@@ -1,11 +1,11 @@
 -- Items that are printed one after another.
-use Rattle.std.proofs.Common.{◌≡◌, ◌∙◌, ◌+◌, ◌<◌, ℕ, suc, max, Bool, true, false, not, ◌&&◌, ◌||◌, List, ◌∷◌, ap, arith, drop, get_or, inl, inr, length, refl, subst, sym}
+use Rattle.std.proofs.Common.{◌≡◌, ◌∙◌, ◌+◌, ◌<◌, ℕ, suc, max, Bool, true, false, not, ◌&&◌, ◌||◌, List, ◌∷◌, None, ap, arith, drop, get_or, inl, inr, length, refl, subst, sym}
 use Rattle.std.proofs.Math.Nat.{max-zero, zero-max}
 use Rattle.std.proofs.Math.Seq.{drop-cons}
 use Rattle.std.proofs.lemmas.List.{drop_all}
 use Rattle.ipmi_output.specs.Received.{Received}
 use Rattle.serdimko.specs.Printing.{Each}
-use Rattle.serdimko.specs.RunError.{and, nothing_run}
+use Rattle.serdimko.specs.RunError.{and, outcome_of}
 use Rattle.serdimko.specs.declared.outcome.Outcome.{Outcome}
 
 made : ℕ → Bool → Bool → Outcome
@@ -34,11 +34,11 @@ or_assoc : (a b c : Bool) → ((a || b) || c) ≡ (a || (b || c))
 or_assoc true b c = refl
 or_assoc false b c = refl
 
-pub and_nothing : (a : Outcome) → and a nothing_run ≡ a
+pub and_nothing : (a : Outcome) → and a (outcome_of None) ≡ a
 unfolding made
 and_nothing a = outcome_is _ _ _ _ _ _ (max-zero a.status) (and_true a.is_output_open) (or_false a.lacks_name)
 
-pub nothing_and : (a : Outcome) → and nothing_run a ≡ a
+pub nothing_and : (a : Outcome) → and (outcome_of None) a ≡ a
 unfolding made
 nothing_and a = outcome_is _ _ a.is_output_open _ a.lacks_name _ (zero-max a.status) refl refl
 
@@ -63,7 +63,7 @@ module _ {A S : Type 0} (One : A → S → S → Received → Received → Outco
   PrintedTo count now told so_far = (new : S) (said' : Received) (rest : Outcome)
       → Each One (drop count items) now new told said' rest → Each One items old new said said' (and so_far rest)
 
-  pub printed_none : PrintedTo 0 old said nothing_run
+  pub printed_none : PrintedTo 0 old said (outcome_of None)
   printed_none new said' rest each = rw (nothing_and rest) each
 
   module _ (count : ℕ) (now new : S) (told said' : Received) (so_far : Outcome) (item : A) (one : Outcome) (follows : Bool)
@@ -85,4 +85,4 @@ module _ {A S : Type 0} (One : A → S → S → Received → Received → Outco
   pub printed_all : (count : ℕ) (now : S) (told : Received) (so_far : Outcome) → PrintedTo count now told so_far
       → count ≡ length items → Each One items old now said told so_far
   printed_all count now told so_far printed all =
-      rw (and_nothing so_far) at (printed now told nothing_run (rw (drop_all count items (omega (arith, all))) (refl, refl, refl)))
+      rw (and_nothing so_far) at (printed now told (outcome_of None) (rw (drop_all count items (omega (arith, all))) (refl, refl, refl)))

@@ -1,5 +1,5 @@
 -- The output and the exit status of a capture.
-use Rattle.std.specs.Prelude.{◌≡◌, ◌⊎◌, ◌≤◌, ◌+◌, ◌-◌, ◌++◌, [], ◌∷◌, ℕ, All, Bool, true, false, codes, IsTrue, length, List, map, MatchOption, Option, take}
+use Rattle.std.specs.Prelude.{◌≡◌, ◌⊎◌, ◌≤◌, ◌+◌, ◌-◌, ◌++◌, [], ◌∷◌, ℕ, All, Bool, true, false, codes, is_none, IsTrue, length, List, map, MatchOption, Option, take}
 use Rattle.std.specs.List.{list_all}
 use Rattle.ipmi_bus.specs.Seen.{AsksAtMost, IsHonest, IsPlain, Seen, StaysHonest}
 use Rattle.ipmi_bus.specs.Store.{Store}
@@ -14,7 +14,9 @@ use Rattle.ipmi_output.specs.Received.{Received, ReceivesText}
 use Rattle.ipmi_output.specs.declared.failure.Failure.{Failure}
 use Rattle.ipmi_output.specs.Sink.{TakesPart}
 use Rattle.serdimko.specs.LastWords.{lost_text}
+use Rattle.serdimko.specs.Live.{name_of}
 use Rattle.serdimko.specs.Out.{Out}
+use Rattle.serdimko.specs.RunError.{named_text, no_reply_text}
 
 -- the text of a whole image; for any other, the text without its last line, `end`, so that it is not an image
 abbrev pub printed_text : Bool → List ℕ → List ℕ
@@ -57,21 +59,25 @@ abbrev pub SaysLines : List (List ℕ) → Received → Received → Type 0
 SaysLines [] said said' = said' ≡ said
 SaysLines (text ∷ texts) said said'' = (said' : Received) × ReceivesText said said' (line_text text) × SaysLines texts said' said''
 
+-- the line about an item that was left out, after the name of the host, unless that is unknown
+abbrev pub said_left : Bool → List ℕ → Left → List ℕ
+said_left is_unknown name left = named_text is_unknown name (left_text left)
+
 -- each item left out is said, and the text is saved
-abbrev pub SavesImage : Option (List ℕ) → Store → List Left → Out → Out → Received → Received → ℕ → Type 0
-SavesImage file image left old new said said'' status =
-    (said' : Received) × SaysLines (map left_text left) said said'
+abbrev pub SavesImage : Option (List ℕ) → Option (List ℕ) → Store → List Left → Out → Out → Received → Received → ℕ → Type 0
+SavesImage host file image left old new said said'' status =
+    (said' : Received) × SaysLines (map (said_left (is_none host) (name_of host)) left) said said'
     × SavesText file (list_all leaves_whole left) (image_text_of image) old new said' said'' status
 
 -- nothing is saved, and a message has this last output of the tool on a line
-abbrev pub SaysLost : List ℕ → Out → Out → Received → Received → ℕ → Type 0
-SaysLost text old new said said' status =
+abbrev pub SaysLost : Option (List ℕ) → List ℕ → Out → Out → Received → Received → ℕ → Type 0
+SaysLost host text old new said said' status =
     (new ≡ old) × (status ≡ 1)
-    × ReceivesText said said' (line_text (codes "no reply from the controller: " ++ escaped_name (lost_text text)))
+    × ReceivesText said said' (line_text (no_reply_text (name_of host) (lost_text text)))
 
 -- The controller was captured, as the contract of `capture` says, and the image was saved, unless the connection was lost.
 -- `IsState` says of which states is known that the controller was in them.
-pub record Captures (IsState : Seen → Type 0) (part tries : ℕ) (seen seen' : Seen) (lost file : Option (List ℕ)) (old new : Out) (said said' : Received)
+pub record Captures (IsState : Seen → Type 0) (part tries : ℕ) (seen seen' : Seen) (lost host file : Option (List ℕ)) (old new : Out) (said said' : Received)
     (status : ℕ) : Type 0 where
   pub image : Store
   pub left : List Left
@@ -87,4 +93,4 @@ pub record Captures (IsState : Seen → Type 0) (part tries : ℕ) (seen seen' :
       → IsCaptureOf image seen.store
   pub told : IsHonest seen → seen'.stores_added ≡ seen.stores_added → All (IsTrueOf seen.store) left
   pub plain : IsPlain seen → All (PlainLeaves seen.store) left
-  pub saves : MatchOption lost (SavesImage file image left old new said said' status) (λ text. SaysLost text old new said said' status)
+  pub saves : MatchOption lost (SavesImage host file image left old new said said' status) (λ text. SaysLost host text old new said said' status)

@@ -1,5 +1,5 @@
 -- What is printed of a live controller, and its tools.
-use Rattle.std.specs.Prelude.{◌≡◌, ◌⊎◌, ◌++◌, ℕ, Bool, true, codes, decimal, List, None, Some}
+use Rattle.std.specs.Prelude.{◌≡◌, ◌⊎◌, ◌++◌, ℕ, codes, decimal, is_none, List, None, Option, Some, unwrap_or}
 use Rattle.ipmi_command_line.specs.declared.request.LiveTool.{LiveTool}
 use Rattle.ipmi_output.specs.Received.{Received}
 use Rattle.ipmi_output.specs.declared.failure.Failure.{Failure}
@@ -21,9 +21,13 @@ tool_of LiveTool.FreeIpmi = Tool.FreeIpmi
 abbrev pub pipe_name : List ℕ → List ℕ → ℕ → List ℕ
 pipe_name folder stream lun = folder ++ (codes "/" ++ (stream ++ (codes "." ++ decimal lun)))
 
+-- the name in messages of the controller of this host, if that is known
+abbrev pub name_of : Option (List ℕ) → List ℕ
+name_of host = unwrap_or host (codes "the controller")
+
 -- memory for the labels ran out; or the query runs over the controller, whatever that holds
-abbrev pub PrintsLive : Settings → Query → State → State → Received → Received → Outcome → Type 0
-PrintsLive settings query old new said said' result =
-    ((new ≡ old) × Tells (codes "the controller") true (Some (RunError.Failed Failure.OutOfMemory)) said said' result)
-    ⊎ ((report : Report) × IsReport settings None (codes "the controller") true report
+abbrev pub PrintsLive : Settings → Option (List ℕ) → Query → State → State → Received → Received → Outcome → Type 0
+PrintsLive settings host query old new said said' result =
+    ((new ≡ old) × Tells (name_of host) (is_none host) (Some (RunError.Failed Failure.OutOfMemory)) said said' result)
+    ⊎ ((report : Report) × IsReport settings None (name_of host) (is_none host) report
     × PrintsQuery settings.limits query report old new said said' result)

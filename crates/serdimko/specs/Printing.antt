@@ -26,7 +26,7 @@ use Rattle.serdimko.specs.declared.run_error.RunError.{RunError}
 use Rattle.serdimko.specs.LastWords.{IsLastLine}
 use Rattle.serdimko.specs.Out.{Out, State}
 use Rattle.serdimko.specs.Reason.{reason_of}
-use Rattle.serdimko.specs.RunError.{and, error_of, error_text, faults_of_error, is_output_open, is_recoverable, lost_error, nothing_run, output_error, status_of_error, Tells}
+use Rattle.serdimko.specs.RunError.{and, error_of, error_text, faults_of_error, is_output_open, is_recoverable, lost_error, outcome_of, output_error, status_of_error, Tells}
 
 -- ---- the object at the end of a run
 
@@ -119,7 +119,7 @@ Reports report error said said' result = Tells report.name.now report.is_only_in
 -- one after which none follows.
 abbrev pub Each : {A S : Type 0} → (A → S → S → Received → Received → Outcome → Bool → Type 0) → List A → S → S → Received → Received
     → Outcome → Type 0
-Each One [] old new said said' result = (new ≡ old) × (said' ≡ said) × (result ≡ nothing_run)
+Each One [] old new said said' result = (new ≡ old) × (said' ≡ said) × (result ≡ outcome_of None)
 Each {S = S} One (item ∷ items) old new said said'' result =
     (now : S) × (said' : Received) × (one : Outcome) × (follows : Bool) × One item old now said said' one follows
     × (((follows ≡ true) × ((rest : Outcome) × Each One items now new said' said'' rest × (result ≡ and one rest)))

@@ -73,13 +73,17 @@ unread_text [] fault = codes "cannot read '': the file name is empty"
 unread_text name fault =
     codes "cannot read " ++ (escaped_name name ++ (codes ": " ++ input_fault_words fault))
 
+-- the controller with this name was lost, and its tool said this
+abbrev pub no_reply_text : List ℕ → List ℕ → List ℕ
+no_reply_text name said = codes "no reply from " ++ (escaped_name name ++ (codes ": " ++ escaped_name said))
+
 abbrev pub error_text : List ℕ → Bool → RunError → List ℕ
 error_text name is_only_input (RunError.Unread fault) = unread_text name fault
 error_text name is_only_input (RunError.NoImage fault cause) =
     image_text name (fault_line fault) (fault_words fault ++ cause_words cause)
 error_text name is_only_input (RunError.Failed Failure.WriteFault) = failure_text Failure.WriteFault
 error_text name is_only_input (RunError.Failed failure) = named_text is_only_input name (failure_text failure)
-error_text name is_only_input (RunError.Lost said) = codes "no reply from the controller: " ++ escaped_name (string_bytes said)
+error_text name is_only_input (RunError.Lost said) = no_reply_text name (string_bytes said)
 error_text name is_only_input RunError.Closed = []
 error_text name is_only_input RunError.Faulty =
     named_text is_only_input name (codes "a fault or a missing device was printed (--strict)")
@@ -133,13 +137,6 @@ outcome_of error = record {
   status = status_of_error error;
   is_output_open = is_output_open error;
   lacks_name = lacks_name error;
-}
-
-abbrev pub nothing_run : Outcome
-nothing_run = record {
-  status = 0;
-  is_output_open = true;
-  lacks_name = false;
 }
 
 -- that of runs one after another

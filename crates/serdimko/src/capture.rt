@@ -1,20 +1,20 @@
 //! Saves the contents of a live controller as an image.
-ghost use Rattle.std.specs.Prelude.{◌≡◌, ◌++◌, ℕ, codes, IfOk, List, map, MatchOption, OnErr, OnOk, Option, option_map, true};
+ghost use Rattle.std.specs.Prelude.{◌≡◌, IfOk, map, MatchOption, OnErr, OnOk, Option, option_map, true};
 ghost use Rattle.std.specs.List.{list_all};
-ghost use Rattle.ipmi_bus.specs.Seen.{Seen};
-ghost use Rattle.ipmi_capture.specs.Left.{IsStateOf, leaves_whole, left_text};
+ghost use Rattle.ipmi_capture.specs.Left.{IsStateOf, leaves_whole};
 ghost use Rattle.ipmi_image.specs.Rewritten.{image_text_of};
-ghost use Rattle.ipmi_output.specs.Failure.{escaped_name, line_text};
+ghost use Rattle.ipmi_output.specs.Failure.{line_text};
 ghost use Rattle.ipmi_output.specs.Received.{ReceivesText};
 ghost use Rattle.ipmi_raw.specs.Controller.{last_words, seen_of};
 ghost use Rattle.ipmi_raw.specs.Handed.{OnlyRequests};
-ghost use Rattle.serdimko.specs.Captured.{Captures, EndsUnwritten, printed_text, PrintsText, SavesImage, SavesText, SaysLines, SaysLost, status_of_image, WritesText};
+ghost use Rattle.serdimko.specs.Captured.{Captures, EndsUnwritten, printed_text, PrintsText, said_left, SavesImage, SavesText, SaysLines, SaysLost, status_of_image, WritesText};
 ghost use Rattle.serdimko.specs.Out.{out_of};
+ghost use Rattle.serdimko.specs.RunError.{no_reply_text};
 
 use crate::closable::{Output, is_closed};
 use crate::ending::write_flushed;
-use crate::live::lost_line;
-use crate::run_error::CLOSED;
+use crate::live::{lost_line, name_of};
+use crate::run_error::{CLOSED, run_parts};
 use ipmi_bus::Shelf;
 use ipmi_capture::{Captured, Left, Progress, capture};
 use ipmi_command_line::Word;
@@ -93,28 +93,46 @@ impl<W: Write> Progress for Counter<W> {
     }
 }
 
+/// Reports an item that is not in the image, after the name of the host, if that is known.
+fn say_one<E: MessageSink>(
+    alloc: Global,
+    left: &Left,
+    name: &str,
+    is_unknown: bool,
+    err: &mut E,
+) -> Result<(), AllocError>
+    ensures { OnOk result (ReceivesText (E.received err.old) (E.received err.new)
+        (line_text (said_left is_unknown name.now left.now))) }
+{
+    let line = format!(in alloc; "{left}")?;
+    // there is nowhere left to report that this failed
+    let _ = write_message(err, &run_parts(Text(line.as_str()), name, is_unknown));
+    Ok(())
+}
+
 /// Reports the items that are not in the image, one line each.
-fn say_left<E: MessageSink>(alloc: Global, left: &[Left], err: &mut E) -> Result<(), AllocError>
-    ensures { OnOk result (SaysLines (map left_text left.now) (E.received err.old) (E.received err.new)) }
+fn say_left<E: MessageSink>(
+    alloc: Global,
+    left: &[Left],
+    name: &str,
+    is_unknown: bool,
+    err: &mut E,
+) -> Result<(), AllocError>
+    ensures { OnOk result (SaysLines (map (said_left is_unknown name.now) left.now) (E.received err.old) (E.received err.new)) }
 {
     for left in left {
-        let line = format!(in alloc; "{left}")?;
-        // there is nowhere left to report that this failed
-        let _ = write_message(err, &[Text(line.as_str())]);
+        say_one(alloc, left, name, is_unknown, err)?;
     }
     Ok(())
 }
 
 /// Reports that the connection was lost, with this line of the tool's last output.
-fn say_lost<E: MessageSink>(line: &str, err: &mut E)
-    ensures { ReceivesText (E.received err.old) (E.received err.new)
-        (line_text (codes "no reply from the controller: " ++ escaped_name line.now)) }
+fn say_lost<'a, E: MessageSink>(line: &'a str, name: &'a str, err: &mut E)
+    ensures { ReceivesText (E.received err.old) (E.received err.new) (line_text (no_reply_text name.now line.now)) }
 {
+    let (name, line) = (Escaped(name), Escaped(line));
     // there is nowhere left to report that this failed
-    let _ = write_message(
-        err,
-        &[Text("no reply from the controller: "), Escaped(line)],
-    );
+    let _ = write_message(err, &[Text("no reply from "), name, Text(": "), line]);
 }
 
 /// Writes the file in one step: writes another file, then renames it.
@@ -236,22 +254,24 @@ fn report_captured<R: Files + AllocGlobal, W: Write + Drop, E: MessageSink>(
     rt: &R,
     lost: Option<&[u8]>,
     captured: &Captured,
+    host: Option<&Word>,
     output: Option<&Word>,
     out: &mut Output<W>,
     err: &mut E,
 ) -> Result<u8, AllocError>
     requires { captured.now.is_whole ≡ list_all leaves_whole captured.now.left.items }
     ensures { IfOk result (λ status. MatchOption (option_map (λ text. text.now) lost.entry)
-        (SavesImage (option_map (λ word. word.now) output.entry) captured.now.image captured.now.left.items
+        (SavesImage (option_map (λ name. name.now) host.entry) (option_map (λ word. word.now) output.entry) captured.now.image captured.now.left.items
         (out_of out.old) (out_of out.new) (E.received err.old) (E.received err.new) status)
-        (λ text. SaysLost text (out_of out.old) (out_of out.new) (E.received err.old) (E.received err.new) status)) }
+        (λ text. SaysLost (option_map (λ name. name.now) host.entry) text (out_of out.old) (out_of out.new) (E.received err.old) (E.received err.new) status)) }
 {
+    let (name, is_unknown) = name_of(host);
     if let Some(text) = lost {
         let line = lost_line(rt.alloc(), text)?;
-        say_lost(line.as_str(), err);
+        say_lost(line.as_str(), name, err);
         return Ok(NOT_WHOLE);
     }
-    say_left(rt.alloc(), captured.left.as_slice(), err)?;
+    say_left(rt.alloc(), captured.left.as_slice(), name, is_unknown, err)?;
     write_captured(rt, captured, output, out, err)
 }
 
@@ -268,14 +288,16 @@ pub(crate) fn capture_live<
     rt: &R,
     controller: &mut RawController<Piped<O>, K>,
     limits: RequestLimits,
+    host: Option<&Word>,
     output: Option<&Word>,
     counter: &mut Counter<T>,
     out: &mut Output<W>,
     err: &mut E,
 ) -> Result<u8, AllocError>
+    requires { controller.old.silence.tries ≡ limits.tries }
     ensures captures { IfOk result (Captures (IsStateOf (seen_of {K = K} ⟦<Piped<O> as Peer>⟧.seen)) limits.part limits.tries
         (seen_of ⟦<Piped<O> as Peer>⟧.seen controller.old) (seen_of ⟦<Piped<O> as Peer>⟧.seen controller.new)
-        (last_words controller.new) (option_map (λ word. word.now) output.entry)
+        (last_words controller.new) (option_map (λ name. name.now) host.entry) (option_map (λ word. word.now) output.entry)
         (out_of out.old) (out_of out.new) (E.received err.old) (E.received err.new)) }
     ensures requests { ∥ OnlyRequests O.opens controller.new.peer.tool controller.new.peer.is_lost controller.new.peer.units ∥₁ }
 {
@@ -287,7 +309,7 @@ pub(crate) fn capture_live<
         counter,
     )?;
     counter.clear();
-    let status = report_captured(rt, controller.lost(), &captured, output, out, err);
+    let status = report_captured(rt, controller.lost(), &captured, host, output, out, err);
     drop(captured);
     status
 }

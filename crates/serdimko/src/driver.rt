@@ -126,7 +126,7 @@ fn print_each_name<W: Write + Drop, E: MessageSink>(
     ensures { Each (RunsName report.now found.now) names.now (out_of out.old) (out_of out.new)
         (E.received err.old) (E.received err.new) result }
 {
-    let mut outcome = Outcome::new();
+    let mut outcome = Outcome::of(&None);
     for name in names {
         let error = run_name(alloc, found, name.as_str(), report, out);
         outcome = outcome.and(report.tell(&error, err));
@@ -231,16 +231,8 @@ pub(crate) fn print_query<C: Connection, W: Write + Drop, E: MessageSink>(
             report.tell(&error, err)
         }
         Query::Sensors(names, from) => {
-            print_by_name(
-                alloc,
-                ctl,
-                limits,
-                names.as_slice(),
-                *from,
-                report,
-                out,
-                err,
-            )
+            let names = names.as_slice();
+            print_by_name(alloc, ctl, limits, names, *from, report, out, err)
         }
     }
 }

@@ -1,6 +1,5 @@
 //! Prints what a command asks for from each image, one after another.
 ghost use Rattle.std.specs.Prelude.{◌≡◌, ◌+◌, ◌++◌, ◌==◌, [], false, if◌then◌else◌, None, OnErr, OnOk, option_map, Ok, Some, true};
-ghost use Rattle.ipmi_image.specs.Image.{store_of_image};
 ghost use Rattle.ipmi_output.specs.Sink.{TakesPart};
 ghost use Rattle.ipmi_output.specs.Writer.{flush_faults};
 ghost use Rattle.ipmi_program.specs.Input.{input_name};
@@ -245,7 +244,7 @@ pub(crate) fn print_images<W: Write + Drop, E: MessageSink>(
         return print_image(rt, settings, query, None, true, out, err);
     }
     let is_only_input = images.len() == 1;
-    let mut outcome = Outcome::new();
+    let mut outcome = Outcome::of(&None);
     for image in images {
         let one = print_image(rt, settings, query, Some(image), is_only_input, out, err);
         outcome = outcome.and(one);

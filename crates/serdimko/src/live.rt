@@ -1,11 +1,11 @@
 //! Prints what a command asks for from a live controller. A stock tool holds a session with it, and pipes in a folder lead to the tool.
-ghost use Rattle.std.specs.Prelude.{◌≡◌, ◌*◌, None, IfOk, map, string_bytes, take};
+ghost use Rattle.std.specs.Prelude.{◌≡◌, ◌*◌, None, IfOk, is_none, map, option_map, string_bytes, take};
 ghost use Rattle.std.specs.Duration.{as_nanos};
 ghost use Rattle.ipmi_raw.specs.Controller.{last_words, seen_of};
 ghost use Rattle.ipmi_raw.specs.Handed.{OnlyRequests};
 ghost use Rattle.ipmi_raw.specs.Piped.{no_units};
 ghost use Rattle.serdimko.specs.LastWords.{lost_text, on_a_line, said_lines};
-ghost use Rattle.serdimko.specs.Live.{pipe_name, PrintsLive, tool_of};
+ghost use Rattle.serdimko.specs.Live.{name_of, pipe_name, PrintsLive, tool_of};
 ghost use Rattle.serdimko.specs.Out.{out_of, state};
 ghost use Rattle.serdimko.specs.Settings.{IsQuery};
 
@@ -15,7 +15,7 @@ use crate::labels::labels_of;
 use crate::outcome::Outcome;
 use crate::report::Settings;
 use crate::run_error::RunError;
-use ipmi_command_line::LiveTool;
+use ipmi_command_line::{LiveTool, Word};
 use ipmi_output::{Failure, MessageSink};
 use ipmi_raw::{Open, Peer, Piped, RawController, Tool};
 use std::alloc::{AllocError, Global};
@@ -31,14 +31,22 @@ const MOST_TOLD: usize = 200;
 
 const MOST_LINES: usize = 3;
 
-/// The name of a live controller in messages.
-const NAME: &str = "the controller";
-
 /// The tool of a live controller, and the folder of its pipes.
 #[derive(Clone, Copy)]
 pub(crate) struct Live<'a> {
     tool: Tool,
     folder: &'a str,
+}
+
+/// The name in messages of the controller of this host, if that is known, and whether it isn't.
+pub(crate) fn name_of<'a>(host: Option<&'a Word>) -> (&'a str, bool)
+    ensures name { result.0.now ≡ name_of (option_map (λ name. name.now) host.entry) }
+    ensures unknown { result.1 ≡ is_none (option_map (λ name. name.now) host.entry) }
+{
+    match host {
+        Some(host) => (host.as_str(), false),
+        None => ("the controller", true),
+    }
 }
 
 /// The dialect of a tool.
@@ -168,34 +176,34 @@ pub(crate) fn controller_of<'a, R: Files + Clock + AllocGlobal>(
     ensures tries { result.silence.tries ≡ tries }
     ensures silent { result.silence.silent ≡ 0 }
 {
-    let pipes = Pipes {
-        rt,
-        folder: live.folder,
-    };
+    let Live { tool, folder } = live;
     let pause = Duration::from_millis(PAUSE);
-    RawController::new(Piped::new(live.tool, pipes), rt, pause, tries)
+    RawController::new(Piped::new(tool, Pipes { rt, folder }), rt, pause, tries)
 }
 
 /// Prints what the query asks for from the live controller. Through its peer a tool is handed only requests that read or take a reservation.
-pub(crate) fn print_live<O: Open + Drop, K: Clock + Drop, W: Write + Drop, E: MessageSink>(
+pub(crate) fn print_live<'a, O: Open + Drop, K: Clock + Drop, W: Write + Drop, E: MessageSink>(
     alloc: Global,
-    settings: &Settings,
+    settings: &'a Settings,
+    host: Option<&'a Word>,
     query: &Query,
     controller: &mut RawController<Piped<O>, K>,
     out: &mut Output<W>,
     err: &mut E,
 ) -> Outcome
-    requires { IsQuery query.now }
-    ensures prints { PrintsLive settings.now query.now
+    requires query { IsQuery query.now }
+    requires tries { controller.old.silence.tries ≡ settings.now.limits.tries }
+    ensures prints { PrintsLive settings.now (option_map (λ name. name.now) host.entry) query.now
         (state (seen_of ⟦<Piped<O> as Peer>⟧.seen controller.old) (last_words controller.old) (out_of out.old))
         (state (seen_of ⟦<Piped<O> as Peer>⟧.seen controller.new) (last_words controller.new) (out_of out.new))
         (E.received err.old) (E.received err.new) result }
     ensures requests { ∥ OnlyRequests O.opens controller.new.peer.tool controller.new.peer.is_lost controller.new.peer.units ∥₁ }
 {
+    let (name, is_unknown) = name_of(host);
     let Ok(labels) = labels_of(alloc, settings.labels(), None) else {
-        let report = settings.report(&[], NAME, true);
+        let report = settings.report(&[], name, is_unknown);
         return report.tell(&Some(RunError::Failed(Failure::OutOfMemory)), err);
     };
-    let report = settings.report(labels.as_slice(), NAME, true);
+    let report = settings.report(labels.as_slice(), name, is_unknown);
     print_query(alloc, controller, settings.limits, query, &report, out, err)
 }

@@ -49,6 +49,10 @@ use std::process::ExitCode;
 /// The exit status of an invalid command line.
 const USAGE: u8 = 2;
 
+/// Says that an image is read from a terminal.
+const WAITING: &str =
+    "waiting for an image from the terminal: write --image FILE to read a file, or use serdimko-live for a live machine";
+
 /// The longest argument that is checked for UTF-8: 4096 bytes, as in a path.
 const LONGEST_LOOKED_AT: usize = 4096;
 
@@ -119,44 +123,33 @@ fn run<E: MessageSink>(rt: &HostRuntime, request: Request, err: &mut E) -> Resul
         format,
         strict,
     } = request;
+    let settings = settings_of(limits, format, strict);
     match action {
         Action::Help(topic) => print_text(rt, help_on(rt.alloc(), topic)?.as_str(), err),
         Action::Version => print_text(rt, VERSION, err),
         Action::Capture(output, quiet) => run_capture(
             rt,
             &source,
-            &limits,
+            settings.limits,
             output.as_ref(),
             quiet,
             err,
         ),
         Action::Print(task, from) => {
-            let settings = settings_of(limits, format, strict);
             run_query(rt, &Query::Print(task, from), &source, &settings, err)
         }
         Action::GetSensors(names, from) => {
-            let settings = settings_of(limits, format, strict);
             run_query(rt, &Query::Sensors(names, from), &source, &settings, err)
         }
-        Action::Rewrite => {
-            let settings = settings_of(limits, format, strict);
-            run_rewrite(rt, &source, &settings, err)
-        }
+        Action::Rewrite => run_rewrite(rt, &source, &settings, err),
     }
-}
-
-/// The largest number of bytes per request, if none was given, and the tries.
-fn limits_of(limits: Limits) -> RequestLimits
-    requires { IfSome limits.part (λ n. (1 ≤ n) × (n ≤ 254)) }
-{
-    RequestLimits::new(limits.part.unwrap_or(DEFAULT_PART), limits.tries)
 }
 
 fn settings_of(limits: Limits, format: Format, strict: bool) -> Settings
     requires { IfSome limits.part (λ n. (1 ≤ n) × (n ≤ 254)) }
 {
     Settings {
-        limits: limits_of(limits),
+        limits: RequestLimits::new(limits.part.unwrap_or(DEFAULT_PART), limits.tries),
         format,
         strict,
     }
@@ -185,8 +178,8 @@ fn run_query<E: MessageSink>(
                 err,
             )?
         }
-        Source::Live(tool, folder) => match live_of(rt, *tool, folder.as_str(), err)? {
-            Some(live) => run_live(rt, query, live, settings, err)?,
+        Source::Live(tool, folder, host) => match live_of(rt, *tool, folder.as_str(), err)? {
+            Some(live) => run_live(rt, query, live, host.as_ref(), settings, err)?,
             None => return Ok(USAGE),
         },
     };
@@ -233,15 +226,8 @@ fn live_of<'a, E: MessageSink>(
     if live.has_pipes(rt)? {
         return Ok(Some(live));
     }
-    let why = "': use serdimko-live";
-    refuse(
-        &[
-            Text("--live: cannot open the pipes in '"),
-            Escaped(folder),
-            Text(why),
-        ],
-        err,
-    );
+    let (before, after) = ("--live: cannot open the pipes in '", "': use serdimko-live");
+    refuse(&[Text(before), Escaped(folder), Text(after)], err);
     Ok(None)
 }
 
@@ -249,28 +235,26 @@ fn live_of<'a, E: MessageSink>(
 fn run_capture<E: MessageSink>(
     rt: &HostRuntime,
     source: &Source,
-    limits: &Limits,
+    limits: RequestLimits,
     output: Option<&Word>,
     quiet: bool,
     err: &mut E,
-) -> Result<u8, AllocError>
-    requires { IfSome limits.now.part (λ n. (1 ≤ n) × (n ≤ 254)) }
-{
-    let Source::Live(tool, folder) = source else {
+) -> Result<u8, AllocError> {
+    let Source::Live(tool, folder, host) = source else {
         return Ok(refuse(&[Text("'capture' needs a live controller")], err));
     };
     let Some(live) = live_of(rt, *tool, folder.as_str(), err)? else {
         return Ok(USAGE);
     };
-    let is_shown = !quiet && rt.stderr().is_terminal();
-    let terminal = if is_shown { Some(rt.stderr()) } else { None };
+    let terminal = Some(rt.stderr()).filter(|stderr| !quiet && stderr.is_terminal());
     let mut counter = Counter::new(terminal);
-    let mut controller = controller_of(rt, live, limits.tries);
+    let mut controller = controller_of(rt, live, limits.tries());
     let mut out = buffered_output(rt)?;
     let status = capture_live(
         rt,
         &mut controller,
-        limits_of(*limits),
+        limits,
+        host.as_ref(),
         output,
         &mut counter,
         &mut out,
@@ -296,6 +280,7 @@ fn run_live<E: MessageSink>(
     rt: &HostRuntime,
     query: &Query,
     live: Live<'_>,
+    host: Option<&Word>,
     settings: &Settings,
     err: &mut E,
 ) -> Result<Outcome, AllocError>
@@ -303,7 +288,8 @@ fn run_live<E: MessageSink>(
 {
     let mut controller = controller_of(rt, live, settings.limits.tries());
     let mut out = buffered_output(rt)?;
-    let outcome = print_live(rt.alloc(), settings, query, &mut controller, &mut out, err);
+    let alloc = rt.alloc();
+    let outcome = print_live(alloc, settings, host, query, &mut controller, &mut out, err);
     discard(out);
     Ok(outcome)
 }
@@ -320,12 +306,7 @@ fn run_images<E: MessageSink>(
 {
     if images.is_empty() && rt.stdin().is_terminal() {
         // otherwise it would wait for an image in silence
-        let _ = write_message(
-            err,
-            &[Text(
-                "waiting for an image from the terminal: write --image FILE to read a file, or use serdimko-live for a live machine",
-            )],
-        );
+        let _ = write_message(err, &[Text(WAITING)]);
     }
     let mut out = buffered_output(rt)?;
     let outcome = print_images(rt, settings, query, images, &mut out, err);

@@ -1,6 +1,6 @@
 //! How runs ended: what the exit status is, and what may follow.
 ghost use Rattle.std.specs.Prelude.{◌≡◌};
-ghost use Rattle.serdimko.specs.RunError.{and, nothing_run, outcome_of};
+ghost use Rattle.serdimko.specs.RunError.{and, outcome_of};
 
 use crate::run_error::RunError;
 use ipmi_output::Failure;
@@ -17,17 +17,6 @@ pub(crate) struct Outcome {
 }
 
 impl Outcome {
-    /// Before the first run.
-    pub(crate) fn new() -> Outcome
-        ensures { result ≡ nothing_run }
-    {
-        Outcome {
-            status: 0,
-            is_output_open: true,
-            lacks_name: false,
-        }
-    }
-
     /// How a run with this error, or without one, ended.
     pub(crate) fn of(error: &Option<RunError<'_>>) -> Outcome
         ensures { result ≡ outcome_of error.now }

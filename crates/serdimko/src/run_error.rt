@@ -171,10 +171,10 @@ impl<'a> RunError<'a> {
             RunError::NoImage(fault, cause) => image_parts(*fault, *cause, name),
             RunError::Lost(said) => {
                 [
-                    Text("no reply from the controller: "),
+                    Text("no reply from "),
+                    Escaped(name),
+                    Text(": "),
                     Escaped(said.as_str()),
-                    none,
-                    none,
                     none,
                     none,
                 ]
@@ -219,7 +219,7 @@ fn failure_parts<'a>(failure: &'a Failure<'a>, name: &'a str, is_only_input: boo
 }
 
 /// The parts of a message about a run, not about its input.
-fn run_parts<'a>(part: Part<'a>, name: &'a str, is_only_input: bool) -> [Part<'a>; 6]
+pub(crate) fn run_parts<'a>(part: Part<'a>, name: &'a str, is_only_input: bool) -> [Part<'a>; 6]
     ensures { joined_parts result ≡ named_text is_only_input name.entry.now (part_text part.entry) }
 {
     let none = Text("");

@@ -69,9 +69,10 @@ fn source_text(rt: &impl Abort, alloc: Global, source: &Source) -> String {
             let images = spaced(rt, alloc, images.as_slice());
             format!(in alloc; "images{images}").expect(rt, "memory")
         }
-        Source::Live(tool, folder) => {
+        Source::Live(tool, folder, host) => {
             let folder = folder.as_str();
-            format!(in alloc; "{tool:?} {folder}").expect(rt, "memory")
+            let host = host.as_ref().map_or("", Word::as_str);
+            format!(in alloc; "{tool:?} {folder} {host}").expect(rt, "memory")
         }
     }
 }
@@ -141,8 +142,9 @@ sel,get,--id,0016|SelGet(22) None; images; None 5; plain; false
 fru,print,254|Fru(Some(254)) None; images; None 5; plain; false
 fru,list,--strict,--strict|Fru(None) None; images; None 5; words; true
 --json,--label,a=1,--label,b=2,fru|Fru(None) None; images; None 5; json a=1 b=2; false
-sdr,info,--live,ipmitool:/tmp/x|Info(Sdr) None; Ipmitool /tmp/x; None 5; plain; false
---live,freeipmi:x,capture,-o,file,--quiet|capture file true; FreeIpmi x; None 5; plain; false
+sdr,info,--live,ipmitool:/tmp/x|Info(Sdr) None; Ipmitool /tmp/x ; None 5; plain; false
+--live,freeipmi:x,capture,-o,file,--quiet|capture file true; FreeIpmi x ; None 5; plain; false
+--live,ipmitool:/tmp/x:fe80::1%eth0,fru|Fru(None) None; Ipmitool /tmp/x fe80::1%eth0; None 5; plain; false
 image,rewrite,--image,a|rewrite; images a; None 5; plain; false
 sdr,get,-h|help Sdr; images; None 5; plain; false
 --help,--version|help General; images; None 5; plain; false

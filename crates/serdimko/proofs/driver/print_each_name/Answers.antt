@@ -6,7 +6,7 @@ use Rattle.serdimko.proofs.driver.print_each_name.Goals as goal
 
 pub loop-name-init : goal.loop-name-init
 loop-name-init g c =
-    rw c.new-outcome.ensures (
+    rw c.of-outcome.ensures (
     printed_none (RunsName c.args.report.now c.args.found.now) c.args.names.now (out_of c.args.out.now) (g.E.MessageSink.received c.args.err.now))
 
 pub returns-then-not-is_recoverable : goal.returns-then-not-is_recoverable

@@ -11,7 +11,7 @@ returns-then-is_empty g c =
 
 pub loop-image-init : goal.loop-image-init
 loop-image-init g c =
-    rw c.new-outcome.ensures (
+    rw c.of-outcome.ensures (
     printed_none (PrintsOne c.args.settings.now c.args.query _) c.args.images.now (out_of c.args.out.now) (g.E.MessageSink.received c.args.err.now))
 
 pub returns-then-not-one : goal.returns-then-not-one

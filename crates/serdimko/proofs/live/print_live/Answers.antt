@@ -1,9 +1,9 @@
-use Rattle.std.proofs.Common.{inl, inr, refl}
+use Rattle.std.proofs.Common.{◌∙◌, inl, inr, refl}
 use Rattle.serdimko.proofs.live.print_live.Goals as goal
 
 pub returns-in_default-clause-prints : goal.returns-in_default-clause-prints
 returns-in_default-clause-prints g c =
-    inl (refl, rw (c.report-report.ensures.name, c.report-report.ensures.input) at c.tell.ensures)
+    inl (refl, rw (c.report-report.ensures.name, c.report-report.ensures.input, c.name_of-is_unknown.ensures.name, c.name_of-is_unknown.ensures.unknown) at c.tell.ensures)
 
 pub returns-clause-prints : goal.returns-clause-prints
 returns-clause-prints g c =
@@ -14,8 +14,8 @@ returns-clause-prints g c =
         labels_are = rw c.as_slice.ensures.value (rw c.labels.ensures at c.in-Ok.ensures);
         wording = c.report-report-2.ensures.wording;
         strict = c.report-report-2.ensures.strict;
-        name_is = c.report-report-2.ensures.name;
-        input = c.report-report-2.ensures.input;
+        name_is = c.report-report-2.ensures.name ∙ c.name_of-is_unknown.ensures.name;
+        input = c.report-report-2.ensures.input ∙ c.name_of-is_unknown.ensures.unknown;
       },
       c.print_query.ensures,
     )
