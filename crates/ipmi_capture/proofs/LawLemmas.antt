@@ -9,7 +9,7 @@ use Rattle.ipmi_capture.specs.Capture.{device_named, devices_of, HasWalk, Invent
 use Rattle.ipmi_capture.specs.Laws.{CapturesPrintTheSame, CapturesPrintWhatTheyHave, devices_asked, is_walked, IsKnownPlace, IsOfCapture, IsUnneeded, PrintsTheSame, SameText, sensors_asked}
 use Rattle.ipmi_capture.specs.Left.{EndIsNoted, LacksInfo, LacksInventory, LacksReading, LacksRecords, SameOrLeft}
 use Rattle.ipmi_capture.specs.declared.left.Left.{Left}
-use Rattle.ipmi_commands.specs.Prelude.{after_names, AtInventory, bytes_of_rows, entries_in, IfChosen, info_plan, inventories_plan, inventory_plan, is_name, IsBlockIn, IsBlockOfName, IsDevicePiece, IsInventoryIn, IsLocatorPiece, IsRowText, Item, last_rows, listing, listing_plan, OfInventory, OnEntries, OnInventories, OnWalk, reading_by, reading_for, row_is_of_kind, row_items, ReadPoint, points_before, view_has_name, with_first_points}
+use Rattle.ipmi_commands.specs.Prelude.{after_names, AtInventory, bytes_of_rows, entries_in, IfChosen, info_plan, inventories_plan, inventory_plan, is_name, IsBlockIn, IsBlockOfName, IsDevicePiece, IsInventoryIn, IsLocatorPiece, IsRowText, Item, last_rows, listing, listing_plan, OfInventory, OnEntries, OnWalk, reading_by, reading_for, row_is_of_kind, row_items, ReadPoint, points_before, view_has_name, with_first_points}
 use Rattle.ipmi_commands.specs.declared.job.Wording.{Wording}
 use Rattle.ipmi_command_line.specs.declared.task.Count.{Count}
 use Rattle.ipmi_command_line.specs.declared.task.Kind.{Kind}
@@ -458,18 +458,18 @@ module _ (exists : WalkExists) (unique : WalkIsUnique) (found : FoundIsRow) (ima
             (All-head (SameInventory image store) 0 (devices_of image.sdr) inventories) one.2,
       )
 
-  -- all devices: the sensor data records are walked first for the name of device 0
+  -- all devices, with the name of device 0
   devices_same : (wording : Wording) → SameWalk Sdr image store
       → All (SameInventory image store) (0 ∷ devices_of image.sdr) → (tries tries' : ℕ)
-      → OnWalk Sdr First store (λ records end. OnInventories wording (device_name 0 (bytes_of_rows records)) tries store (λ plan calls.
-      OnWalk Sdr First image (λ records' end'. OnInventories wording (device_name 0 (bytes_of_rows records')) tries' image (λ plan' calls'.
-      (after_names records' end' plan' ≡ after_names records end plan) × All (SameText image store) (after_names records end plan).items))))
-  devices_same wording walks inventories = λ tries tries' records end is ends walk e w we records' end' is' ends' walk' e' w' we'.
+      → OnWalk Sdr First store (λ records end. let plan = inventories_plan wording (device_name 0 (bytes_of_rows records)) records end in
+      OnWalk Sdr First image (λ records' end'. let plan' = inventories_plan wording (device_name 0 (bytes_of_rows records')) records' end' in
+      (after_names records' end' plan' ≡ after_names records end plan) × All (SameText image store) (after_names records end plan).items))
+  devices_same wording walks inventories = λ tries tries' records end is ends records' end' is' ends'.
       let one = one_walk Sdr First walks tt records records' end end' is ends is' ends' in
       let name = device_name 0 (bytes_of_rows records) in
-      let plan = inventories_plan wording name walk e in
-      let same = inventories_same wording name walks inventories walk e w we walk' e' w' we' in
-      (rw (one.0, one.1) (ap (after_names records end) same.0), first_texts image store (points_before records end plan) plan.items same.1)
+      let plan = inventories_plan wording name records end in
+      let same = inventories_same wording name walks inventories records end is ends records' end' is' ends' in
+      (rw (one.0, one.1) refl, first_texts image store (points_before records end plan) plan.items same.1)
 
   -- one inventory, and an info
   inventory_agrees : (wording : Wording) (id : ℕ) → SameInventory image store id

@@ -3,6 +3,7 @@ mod AskLemmas
 mod BlockLemmas
 mod CallLemmas
 mod CountLemmas
+mod DeviceLemmas
 mod ExistenceLemmas
 mod GrownListing
 mod ItemLemmas
@@ -21,3 +22,4 @@ mod SensorLemmas
 mod PointLemmas
 mod TraceLemmas
 mod UniqueLemmas
+mod WholeLemmas

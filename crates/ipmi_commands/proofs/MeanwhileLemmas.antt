@@ -1,13 +1,13 @@
 -- What is printed while the store changes, over a part of a run and over all of it.
-use Rattle.std.proofs.Common.{◌≡◌, ℕ, Bool, true, false, cond, Option, None, Some, Result, Ok, Err, List, [], ◌∷◌, ◌==◌, is_some, sym, ap, subst, ◌∙◌}
+use Rattle.std.proofs.Common.{◌≡◌, inl, inr, ℕ, ◌-◌, arith, Bool, true, false, cond, Option, None, Some, Result, Ok, Err, List, [], ◌∷◌, ◌==◌, is_some, sym, ap, subst, ◌∙◌}
 use Rattle.ipmi_bus.proofs.HeldLemmas.{begins_refl, begins_trans, grew_first, grew_second, grew_since, grows_over, held_at_first, held_at_last, held_in_first, held_in_second, keeps_first, keeps_same, keeps_second, keeps_through}
 use Rattle.ipmi_bus.proofs.GrowthLaws.{steps_stay}
 use Rattle.ipmi_bus.specs.Seen.{KeepsStore}
-use Rattle.ipmi_commands.specs.Below.{AreSteps, BeginsWith, Count, CursorState, device_name, Done, Ended, First, handed_out, IsHonest, IsLog, Keeps, OnGrowing, OnlyGrew, WasLog, inventory_in, inventory_of, Inventory, Place, place_after, Row, Sdr, SdrFault, SdrView, sdr_view_of, Seen, seen_after, Sel, Shelf, start_of, StaysHonest, Stepped, stays_refl, stays_trans, Store, with_handed}
+use Rattle.ipmi_commands.specs.Below.{AreSteps, BeginsWith, Count, CursorState, Done, Ended, handed_out, IsHonest, IsLog, Keeps, OnGrowing, OnlyGrew, WasLog, inventory_in, inventory_of, Inventory, Place, place_after, Row, SdrFault, SdrView, sdr_view_of, Seen, seen_after, Sel, Shelf, start_of, StaysHonest, Stepped, stays_refl, stays_trans, Store, with_handed}
 use Rattle.ipmi_records.specs.Sdr as sdr
 use Rattle.ipmi_commands.specs.Meanwhile.{IsTextWhile, KeepsAt, KeepsFor, OnGrowingListing}
 use Rattle.ipmi_commands.specs.Traced.{AreTextsOfSteps, IsTextAfter, IsTextOfResult, PrintsSteps, seen_next}
-use Rattle.ipmi_commands.specs.Prelude.{AreTexts, AtInventory, AtRecord, device_points, Entries, Form, inventories_plan, IsPieceOver, entries_in, job_with, Listing, listing, listing_plan, locator_points, NameLookup, named_points, OfRow, OnGrowingInventories, OnGrowingLast, OnGrowingNamed, OnGrowingPlan, Plan, Printed, reading_points, row_items, shelf_of, points_because_of, ReadPoint, Subject, Wording}
+use Rattle.ipmi_commands.specs.Prelude.{AreTexts, AtInventory, AtRecord, device_points, Entries, Form, IsPieceOver, entries_in, entries_job, bytes_of_rows, Listing, listing, listing_plan, locator_points, NameLookup, named_points, OfRow, OnGrowingEntries, OnGrowingLast, OnGrowingNamed, OnGrowingPlan, Plan, Printed, reading_points, row_items, shelf_of, points_because_of, ReadPoint, Subject, Wording}
 use Rattle.ipmi_commands.specs.Output.{and_then, Output}
 use Rattle.ipmi_commands.proofs.OutputLemmas.{nothing_then}
 
@@ -25,6 +25,16 @@ while_second a b c first then_ subject text is = record { store = is.store; held
 pub while_last : (s s' : Seen) (subject : Subject) (text : Output) → IsPieceOver s'.store subject text
     → IsTextWhile s s' subject text
 while_last s s' subject text is = record { store = s'.store; held = held_at_last s s'; is = is }
+
+-- no store was added
+pub while_same : (s s' : Seen) → KeepsStore s s' → s'.stores_added ≡ s.stores_added → (subject : Subject) (text : Output)
+    → IsTextWhile s s' subject text → IsPieceOver s.store subject text
+while_same s s' keeps same subject text is =
+    let n : s'.stores_added - s.stores_added ≡ 0 = omega (arith, same) in
+    elim (rw n at is.held) [
+      | inl at ↦ subst (λ (store : Store). IsPieceOver store subject text) (at ∙ keeps.stays same) is.is
+      | inr none ↦ absurd none
+    ]
 
 module _ {shelf : Shelf} {start : Place} (a b c : Seen) (first : KeepsStore a b) (then_ : KeepsStore b c) where
   pub log_first : (rows log : List Row) → WasLog shelf start a b rows log → WasLog shelf start a c rows log
@@ -83,35 +93,25 @@ module _ (a b c : Seen) (first : StaysHonest a b) (then_ : StaysHonest b c) wher
     last_second entries n from on = growing_second Sel (start_of from) _ _
         (λ counted later. (later.0, log_second a b c first.store then_.store counted counted later.0 (begins_refl counted) later.1, keep _ later.2)) on
 
-    pub inventories_second : (wording : Wording) (name : Option (List ℕ)) → OnGrowingInventories wording name b c Holds
-        → OnGrowingInventories wording name a c More
-    inventories_second wording name on = λ keeps.
-        growing_second Sdr First (λ log. Holds (inventories_plan wording name log Done)) (λ log. More (inventories_plan wording name log Done))
-        (λ log. keep (inventories_plan wording name log Done)) (on (keeps_second (λ (store : Store). store.inventories) a b c first.store then_.store keeps))
-
-    pub named_second : (wording : Wording) (records : List (List ℕ)) (named : NameLookup)
-        → OnGrowingPlan (job_with wording records named) b c Holds → OnGrowingNamed wording records named a c More
-    named_second wording records (NameLookup.Events Count.All from) on =
-        listing_second (listing (Form.EntryLine (entries_in wording records)) (start_of from) None) on
-    named_second wording records (NameLookup.Events (Count.First n) from) on =
-        listing_second (listing (Form.EntryLine (entries_in wording records)) (start_of from) (Some n)) on
-    named_second wording records (NameLookup.Events (Count.Last n) from) on = last_second (entries_in wording records) n from on
-    named_second wording records NameLookup.Devices on = inventories_second wording (device_name 0 records) on
+    pub entries_second : (entries : Entries) (count : Count) (from : Option ℕ)
+        → OnGrowingPlan (entries_job entries count from) b c Holds → OnGrowingEntries entries count from a c More
+    entries_second entries Count.All from on = listing_second (listing (Form.EntryLine entries) (start_of from) None) on
+    entries_second entries (Count.First n) from on = listing_second (listing (Form.EntryLine entries) (start_of from) (Some n)) on
+    entries_second entries (Count.Last n) from on = last_second entries n from on
 
 -- a fact about every plan
 module _ (s s' : Seen) (honest : IsHonest s) (stays : KeepsStore s s') (Holds : Plan → Type 0) (holds : (plan : Plan) → Holds plan) where
-  pub named_growing : (wording : Wording) (records : List (List ℕ)) (named : NameLookup) → OnGrowingNamed wording records named s s' Holds
-  named_growing wording records (NameLookup.Events Count.All from) = λ keeps first log grew. (first, log_now s s' stays honest first log, holds _)
-  named_growing wording records (NameLookup.Events (Count.First n) from) = λ keeps first log grew. (first, log_now s s' stays honest first log, holds _)
-  named_growing wording records (NameLookup.Events (Count.Last n) from) = λ first log grew.
+  pub entries_growing : (entries : Entries) (count : Count) (from : Option ℕ) → OnGrowingPlan (entries_job entries count from) s s' Holds
+  entries_growing entries Count.All from = λ keeps first log grew. (first, log_now s s' stays honest first log, holds _)
+  entries_growing entries (Count.First n) from = λ keeps first log grew. (first, log_now s s' stays honest first log, holds _)
+  entries_growing entries (Count.Last n) from = λ first log grew.
       (first, log_now s s' stays honest first log, (first, log_now s s' stays honest first log, holds _))
-  named_growing wording records NameLookup.Devices = λ keeps first log grew. (first, log_now s s' stays honest first log, holds _)
 
-  pub with_growing : (wording : Wording) (records : List (List ℕ)) (named : NameLookup) → OnGrowingPlan (job_with wording records named) s s' Holds
-  with_growing wording records (NameLookup.Events Count.All from) = named_growing wording records (NameLookup.Events Count.All from)
-  with_growing wording records (NameLookup.Events (Count.First n) from) = named_growing wording records (NameLookup.Events (Count.First n) from)
-  with_growing wording records (NameLookup.Events (Count.Last n) from) = named_growing wording records (NameLookup.Events (Count.Last n) from)
-  with_growing wording records NameLookup.Devices = named_growing wording records NameLookup.Devices
+  pub named_growing : (wording : Wording) (records : List Row) (named : NameLookup) → OnGrowingNamed wording records named s s' Holds
+  named_growing wording records (NameLookup.Events Count.All from) = entries_growing (entries_in wording (bytes_of_rows records)) Count.All from
+  named_growing wording records (NameLookup.Events (Count.First n) from) = entries_growing (entries_in wording (bytes_of_rows records)) (Count.First n) from
+  named_growing wording records (NameLookup.Events (Count.Last n) from) = entries_growing (entries_in wording (bytes_of_rows records)) (Count.Last n) from
+  named_growing wording records NameLookup.Devices = λ keeps. holds _
 
 -- ---- inventories that did not change
 
@@ -138,7 +138,7 @@ device_keeps (Some id) s s' keeps = by (id == 0)
     by true = tt
     by false = (keeps_inventory id s s' keeps, tt)
 
-locator_keeps : (view : Result SdrView SdrFault) (s s' : Seen) → Keeps (λ store. store.inventories) s s' → KeepsAt (locator_points view) s s'
+pub locator_keeps : (view : Result SdrView SdrFault) (s s' : Seen) → Keeps (λ store. store.inventories) s s' → KeepsAt (locator_points view) s s'
 locator_keeps (Ok view) s s' keeps = device_keeps (sdr.fru_of view) s s' keeps
 locator_keeps (Err fault) s s' keeps = tt
 

@@ -1,20 +1,21 @@
 -- Listings with names: a walk reads the sensor data records into memory, then a listing uses the names.
-use Rattle.std.proofs.Common.{◌≡◌, inl, inr, ℕ, ◌+◌, ◌≤◌, true, IsTrue, Option, None, Some, Result, Ok, Err, List, [], ◌∷◌, ◌++◌, length, refl, sym, ap, ◌∙◌, arith}
+use Rattle.std.proofs.Common.{◌≡◌, inl, inr, ℕ, ◌+◌, ◌*◌, ◌≤◌, true, IsTrue, Option, None, Some, Result, Ok, Err, List, [], ◌∷◌, ◌++◌, length, map, refl, sym, ap, ◌∙◌, arith}
 use Rattle.std.specs.List.{AllPass, concat}
-use Rattle.std.proofs.lemmas.Bool.Decides.{nat_tests}
-use Rattle.ipmi_text.specs.SdrHeader.{sdr_len}
 use Rattle.std.proofs.lemmas.List.Elements.{All-cons, All-nil}
-use Rattle.ipmi_commands.specs.Below.{AllOf, Count, CycleAt, Done, Ending, Failure, First, FoundIsRow, IsHonest, IsShelf, IsStore, is_whole_record, MissingAt, Place, place_after, records_in, Row, Sdr, Seen, stays_refl, Store, WalkEnd}
-use Rattle.ipmi_commands.specs.Named.{end_after, ending_then, walk_of}
+use Rattle.std.proofs.lemmas.Nat.{mul-le}
+use Rattle.ipmi_commands.specs.Below.{AllOf, Count, CycleAt, device_name, Done, Ending, EndsBy, Failure, First, FoundIsRow, fru_call_bound, IsHonest, IsShelf, IsStore, IsWalk, is_whole_record, MissingAt, OnGrowing, Place, place_after, records_in, Row, rows_of, Sdr, Seen, stays_refl, Store, WalkEnd}
+use Rattle.ipmi_commands.specs.Named.{end_after, ending_then, listed_end, PrintsDevices, PrintsPlan, walk_of}
 use Rattle.ipmi_commands.specs.declared.named.RecordsEnd.{RecordsEnd}
-use Rattle.ipmi_commands.specs.Prelude.{after_names, AreTexts, AtEnd, bytes_of_rows, Cause, cause_of, Change, change, Dishonest, end_after_names, ending_of, end_points_of_last, EndsNamed, EndsFor, EndsListing, Entries, entries_in, Form, GaveUp, HasFirstItems, IsAllowed, IsAmong, IsPage, IsPieceOver, IsTextWhile, Item, Job, job_with, Leaves, listing, listing_plan, MayEnd, most_calls, most_named, most_on_walk, NameLookup, next_points, NoMemory, NoOutput, OfRow, OnNamed, FollowsPlan, Plan, Printed, Refused, row_items, rows_end, Runs, ReadPoint, points_at_walk_end, points_before, points_of_walk, Subject, TracesJob, with_first_points, Wording}
+use Rattle.ipmi_commands.specs.Prelude.{after_names, AreTexts, AtEnd, AtInventory, bytes_of_rows, calls_for_devices, calls_for_point, inventories_plan, WritesRecords, WritesWhole, walk_call_bound, entries_job, OnEntries, Cause, cause_of, Change, change, Dishonest, end_after_names, ending_of, end_points_of_last, EndsNamed, EndsFor, EndsListing, Entries, entries_in, Form, GaveUp, HasFirstItems, IsAllowed, IsAmong, IsPage, IsPieceOver, IsTextWhile, Item, Job, Leaves, listing, listing_plan, MayEnd, most_calls, most_named, most_on_walk, NameLookup, next_points, NoMemory, NoOutput, OfRow, OnNamed, FollowsPlan, Plan, Printed, Refused, row_items, rows_end, Runs, ReadPoint, points_at_walk_end, points_before, points_of_walk, Subject, TracesJob, with_first_points, Wording}
 use Rattle.ipmi_commands.specs.Output.{no_output, Output}
 use Rattle.ipmi_commands.proofs.CountLemmas.{between, ends_here, ends_since}
-use Rattle.ipmi_bus.proofs.HeldLemmas.{grew_first}
+use Rattle.ipmi_commands.proofs.DeviceLemmas.{row_with}
+use Rattle.ipmi_bus.proofs.HeldLemmas.{grew_first, keeps_same, keeps_second}
 use Rattle.ipmi_commands.proofs.ItemLemmas.{leaves_map, no_items}
-use Rattle.ipmi_commands.proofs.MeanwhileLemmas.{log_first, named_growing, named_second, while_second, with_growing}
+use Rattle.ipmi_commands.proofs.MeanwhileLemmas.{entries_growing, entries_second, log_first, named_growing, while_same, while_second}
 use Rattle.ipmi_commands.proofs.LastLemmas.{leaves_wide}
 use Rattle.ipmi_commands.proofs.PointLemmas.{among_after, quiet_there}
+use Rattle.ipmi_commands.proofs.WholeLemmas.{whole_record}
 
 -- ---- the bytes of the records
 
@@ -28,9 +29,6 @@ bytes_text : (IsText : Subject → Output → Type 0) → AreBytesOf IsText → 
 bytes_text IsText bytes [] start text are = ap (λ (o : Output). o.bytes) are
 bytes_text IsText bytes (row ∷ rows) start text are =
     ap (λ (o : Output). o.bytes) are.joined ∙ rw (bytes row are.first are.is_first, bytes_text IsText bytes rows (place_after row.next) are.rest are.is_rest) refl
-
-whole_record : (bytes : List ℕ) → length bytes ≡ sdr_len bytes → is_whole_record bytes ≡ true
-whole_record bytes is = grind (arith, nat_tests)
 
 whole_rows : FoundIsRow → (rows walk : List Row) → IsShelf Sdr rows → AllOf rows walk
     → AllPass is_whole_record (bytes_of_rows walk)
@@ -68,79 +66,70 @@ next_points-first : (points : List ReadPoint) (items : List Item) (at_end : List
 next_points-first points [] at_end = refl
 next_points-first points (item ∷ items) at_end = refl
 
--- ---- the listing with the names
+-- ---- entries with the names of their sensors
 
--- each kind of listing follows its plan
-module _ (wording : Wording) (records : List (List ℕ)) (tries : ℕ) (store : Store)
-    (Holds : Plan → ℕ → Type 0) where
-  named_map : (More : Plan → ℕ → Type 0) (named : NameLookup)
-      → ((plan : Plan) (calls : ℕ) → Holds plan calls → More plan calls)
-      → FollowsPlan (job_with wording records named) tries store Holds → OnNamed wording records named tries store More
-  named_map More (NameLookup.Events Count.All from) keep on = λ walk end w ends. keep _ _ (on walk end w ends)
-  named_map More (NameLookup.Events (Count.First n) from) keep on = λ walk end w ends. keep _ _ (on walk end w ends)
-  named_map More (NameLookup.Events (Count.Last n) from) keep on = λ walk end w ends. keep _ _ (on walk end w ends)
-  named_map More NameLookup.Devices keep on = λ walk end w ends. keep _ _ (on walk end w ends)
+-- the listing that `count` selects follows its plan
+module _ (entries : Entries) (from : Option ℕ) (tries : ℕ) (store : Store) (Holds : Plan → ℕ → Type 0) where
+  entries_map : (More : Plan → ℕ → Type 0) (count : Count) → ((plan : Plan) (calls : ℕ) → Holds plan calls → More plan calls)
+      → FollowsPlan (entries_job entries count from) tries store Holds → OnEntries entries count from tries store More
+  entries_map More Count.All keep on = λ walk end w ends. keep _ _ (on walk end w ends)
+  entries_map More (Count.First n) keep on = λ walk end w ends. keep _ _ (on walk end w ends)
+  entries_map More (Count.Last n) keep on = λ walk end w ends. keep _ _ (on walk end w ends)
 
-  pub named_all : (named : NameLookup) → ((plan : Plan) (calls : ℕ) → Holds plan calls)
-      → OnNamed wording records named tries store Holds
-  named_all (NameLookup.Events Count.All from) holds = λ walk end w ends. holds _ _
-  named_all (NameLookup.Events (Count.First n) from) holds = λ walk end w ends. holds _ _
-  named_all (NameLookup.Events (Count.Last n) from) holds = λ walk end w ends. holds _ _
-  named_all NameLookup.Devices holds = λ walk end w ends. holds _ _
+  entries_all : (count : Count) → ((plan : Plan) (calls : ℕ) → Holds plan calls) → OnEntries entries count from tries store Holds
+  entries_all Count.All holds = λ walk end w ends. holds _ _
+  entries_all (Count.First n) holds = λ walk end w ends. holds _ _
+  entries_all (Count.Last n) holds = λ walk end w ends. holds _ _
 
-  with_all : (named : NameLookup) → ((plan : Plan) (calls : ℕ) → Holds plan calls)
-      → FollowsPlan (job_with wording records named) tries store Holds
-  with_all (NameLookup.Events Count.All from) holds = λ walk end w ends. holds _ _
-  with_all (NameLookup.Events (Count.First n) from) holds = λ walk end w ends. holds _ _
-  with_all (NameLookup.Events (Count.Last n) from) holds = λ walk end w ends. holds _ _
-  with_all NameLookup.Devices holds = λ walk end w ends. holds _ _
+  job_all : (count : Count) → ((plan : Plan) (calls : ℕ) → Holds plan calls) → FollowsPlan (entries_job entries count from) tries store Holds
+  job_all Count.All holds = λ walk end w ends. holds _ _
+  job_all (Count.First n) holds = λ walk end w ends. holds _ _
+  job_all (Count.Last n) holds = λ walk end w ends. holds _ _
 
-named_calls : (wording : Wording) (records : List (List ℕ)) (named : NameLookup) (tries : ℕ)
-    → most_calls (job_with wording records named) tries ≤ most_named wording named tries
-named_calls wording records (NameLookup.Events Count.All from) tries = omega arith
-named_calls wording records (NameLookup.Events (Count.First n) from) tries = omega arith
-named_calls wording records (NameLookup.Events (Count.Last n) from) tries = omega arith
-named_calls wording records NameLookup.Devices tries = omega arith
+-- a fact about every plan
+pub named_all : (wording : Wording) (records : List Row) (end : WalkEnd) (tries : ℕ) (store : Store) (Holds : Plan → ℕ → Type 0)
+    (named : NameLookup) → ((plan : Plan) (calls : ℕ) → Holds plan calls) → OnNamed wording records end named tries store Holds
+named_all wording records end tries store Holds (NameLookup.Events count from) holds =
+    entries_all (entries_in wording (bytes_of_rows records)) from tries store Holds count holds
+named_all wording records end tries store Holds NameLookup.Devices holds = holds _ _
+
+entries_calls : (entries : Entries) (count : Count) (from : Option ℕ) (tries : ℕ)
+    → most_calls (entries_job entries count from) tries ≤ most_named (NameLookup.Events count from) tries
+entries_calls entries Count.All from tries = omega arith
+entries_calls entries (Count.First n) from tries = omega arith
+entries_calls entries (Count.Last n) from tries = omega arith
 
 pub entries_end : (wording : Wording) (entries : Entries) (count : Count) (from : Option ℕ) (seen : Seen) (ending : Ending)
     → EndsListing (Form.EntryLine entries) seen ending → EndsNamed wording (NameLookup.Events count from) seen ending
 entries_end wording entries count from seen ending ends = grind arith
 
-devices_end : (wording : Wording) (seen : Seen) (ending : Ending) → EndsListing (Form.Device wording) seen ending
-    → EndsNamed wording NameLookup.Devices seen ending
-devices_end wording seen ending ends = grind arith
+entries_may : (wording : Wording) (entries : Entries) (count : Count) (from : Option ℕ) (c : Change) (ending : Ending)
+    → MayEnd (entries_job entries count from) c ending → EndsNamed wording (NameLookup.Events count from) c.seen' ending
+entries_may wording entries Count.All from c ending ends = entries_end wording entries Count.All from c.seen' ending ends
+entries_may wording entries (Count.First n) from c ending ends = entries_end wording entries (Count.First n) from c.seen' ending ends
+entries_may wording entries (Count.Last n) from c ending ends = entries_end wording entries (Count.Last n) from c.seen' ending ends
 
-named_ends : (wording : Wording) (records : List (List ℕ)) (named : NameLookup) (c : Change) (ending : Ending)
-    → MayEnd (job_with wording records named) c ending → EndsNamed wording named c.seen' ending
-named_ends wording records (NameLookup.Events Count.All from) c ending ends = entries_end wording (entries_in wording records) Count.All from c.seen' ending ends
-named_ends wording records (NameLookup.Events (Count.First n) from) c ending ends = entries_end wording (entries_in wording records) (Count.First n) from c.seen' ending ends
-named_ends wording records (NameLookup.Events (Count.Last n) from) c ending ends = entries_end wording (entries_in wording records) (Count.Last n) from c.seen' ending ends
-named_ends wording records NameLookup.Devices c ending ends = devices_end wording c.seen' ending ends
+-- out of memory for the table of sensors
+memory_end : (entries : Entries) (count : Count) (from : Option ℕ) (c : Change) → MayEnd (entries_job entries count from) c (Err Failure.OutOfMemory)
+memory_end entries Count.All from c = tt
+memory_end entries (Count.First n) from c = tt
+memory_end entries (Count.Last n) from c = tt
 
--- out of memory for the table of sensors, or for the name
-with_end : (wording : Wording) (records : List (List ℕ)) (named : NameLookup) (c : Change)
-    → MayEnd (job_with wording records named) c (Err Failure.OutOfMemory)
-with_end wording records (NameLookup.Events Count.All from) c = tt
-with_end wording records (NameLookup.Events (Count.First n) from) c = tt
-with_end wording records (NameLookup.Events (Count.Last n) from) c = tt
-with_end wording records NameLookup.Devices c = tt
+memory_traces : (entries : Entries) (count : Count) (from : Option ℕ) (s : Seen) (text : Output)
+    → TracesJob (entries_job entries count from) (change s s text text) (Err Failure.OutOfMemory)
+memory_traces entries Count.All from s text = (Err Failure.OutOfMemory, refl, inl (inl refl, refl, refl))
+memory_traces entries (Count.First n) from s text = (Err Failure.OutOfMemory, refl, inl (inl refl, refl, refl))
+memory_traces entries (Count.Last n) from s text = tt
 
-with_traces : (wording : Wording) (records : List (List ℕ)) (named : NameLookup) (s : Seen) (text : Output)
-    → TracesJob (job_with wording records named) (change s s text text) (Err Failure.OutOfMemory)
-with_traces wording records (NameLookup.Events Count.All from) s text = (Err Failure.OutOfMemory, refl, inl (inl refl, refl, refl))
-with_traces wording records (NameLookup.Events (Count.First n) from) s text = (Err Failure.OutOfMemory, refl, inl (inl refl, refl, refl))
-with_traces wording records (NameLookup.Events (Count.Last n) from) s text = tt
-with_traces wording records NameLookup.Devices s text = tt
-
-pub with_without_memory : (wording : Wording) (records : List (List ℕ)) (named : NameLookup) (tries : ℕ) (s : Seen) (text : Output)
-    → Runs (job_with wording records named) tries (change s s text text) (Err Failure.OutOfMemory)
-with_without_memory wording records named tries s text = record {
+pub events_without_memory : (entries : Entries) (count : Count) (from : Option ℕ) (tries : ℕ) (s : Seen) (text : Output)
+    → Runs (entries_job entries count from) tries (change s s text text) (Err Failure.OutOfMemory)
+events_without_memory entries count from tries s text = record {
   calls = omega arith;
-  ends = with_end wording records named (change s s text text);
+  ends = memory_end entries count from (change s s text text);
   why = λ h. ends_here h refl tt;
-  prints = λ h same. with_all wording records tries s.store _ named (λ plan calls. (no_items (IsPieceOver s.store) plan text text refl, omega arith));
-  grows = λ h. with_growing s s h (stays_refl s h).store _ (λ plan. no_items (IsTextWhile s s) plan text text refl) wording records named;
-  traces = λ h. with_traces wording records named s text;
+  prints = λ h same. job_all entries from tries s.store _ count (λ plan calls. (no_items (IsPieceOver s.store) plan text text refl, omega arith));
+  grows = λ h. entries_growing s s h (stays_refl s h).store _ (λ plan. no_items (IsTextWhile s s) plan text text refl) entries count from;
+  traces = λ h. memory_traces entries count from s text;
 }
 
 -- ---- the walk of the records was not finished
@@ -232,7 +221,7 @@ module _ (tries : ℕ) (s s' : Seen) (kept : Output) (wording : Wording) (named 
     why = λ h. failed_for (IsTrue s.plain) result failure is (page_of h).ends;
     prints = λ h same records end w ends_.
         let along = (page_of h).along same records end w ends_ in
-        named_all wording (bytes_of_rows records) tries s.store _ named (λ plan calls. (
+        named_all wording records end tries s.store _ named (λ plan calls. (
           stop_by (IsPieceOver s.store) records end plan kept text result failure is (cause_of (ending_of result)) refl along.leaves,
           omega (arith, along.calls),
         ));
@@ -241,17 +230,16 @@ module _ (tries : ℕ) (s s' : Seen) (kept : Output) (wording : Wording) (named 
         let walked = (page_of h).grows tt first log grew in (
           walked.0,
           walked.1,
-          named_growing s s' h ends _ (λ plan. stop_by (IsTextWhile s s') walked.0 Done plan kept text result failure is (cause_of (ending_of result)) refl walked.2) wording (bytes_of_rows walked.0) named,
+          named_growing s s' h ends _ (λ plan. stop_by (IsTextWhile s s') walked.0 Done plan kept text result failure is (cause_of (ending_of result)) refl walked.2) wording walked.0 named,
         );
     traces = λ h. tt;
   }
 
 -- ---- after the walk
 
-pub then_ends : (wording : Wording) (named : NameLookup) (seen : Seen) (ending : Ending) (walked : RecordsEnd)
-    → EndsNamed wording named seen ending → EndsNamed wording named seen (ending_then ending walked)
-then_ends wording (NameLookup.Events count from) seen ending walked ends = grind arith
-then_ends wording NameLookup.Devices seen ending walked ends = grind arith
+pub then_ends : (wording : Wording) (count : Count) (from : Option ℕ) (seen : Seen) (ending : Ending) (walked : RecordsEnd)
+    → EndsNamed wording (NameLookup.Events count from) seen ending → EndsNamed wording (NameLookup.Events count from) seen (ending_then ending walked)
+then_ends wording count from seen ending walked ends = grind arith
 
 pub then_for : (ending : Ending) (walked : RecordsEnd) → cause_of (ending_then ending walked) ≡ cause_of ending
 then_for ending walked = grind arith
@@ -268,53 +256,171 @@ then_allowed IsText records end plan old new ending walked end_is allowed =
     then_end : (e p : Ending) → e ≡ p → ending_then e walked ≡ end_after_names end p
     then_end e p is = grind arith
 
-pub named_run : FoundIsRow → RecordsAreFound → (tries : ℕ) (s s' s'' : Seen)
-    (kept old new : Output) (wording : Wording) (named : NameLookup) (result : Result Place Failure)
-    (walked : RecordsEnd) (ending : Ending)
-    → s'.calls ≤ s.calls + most_on_walk Form.Bytes tries → walk_of result ≡ Ok walked
-    → (IsHonest s → IsPage Form.Bytes First tries None (change s s' no_output kept) result)
-    → Runs (job_with wording (records_in kept.bytes) named) tries (change s' s'' old new) ending
-    → Runs (Job.NameLookup wording named) tries (change s s'' old new) (ending_then ending walked)
-named_run look_row split tries s s' s'' kept old new wording named result walked ending calls is page_of runs = record {
-  calls = omega (arith, calls, runs.calls, named_calls wording (records_in kept.bytes) named tries);
-  ends = then_ends wording named s'' ending walked (named_ends wording (records_in kept.bytes) named (change s' s'' old new) ending runs.ends);
-  why = λ h.
-      let ends = rw (walked_at_end result walked is) at (page_of h).ends in
-      rw (then_for ending walked) (ends_since ends ends.stays.plain (runs.why ends.stays.honest));
-  prints = λ h same.
-      let page = page_of h in
-      let ends = rw (walked_at_end result walked is) at page.ends in
-      let later = runs.why ends.stays.honest in
-      let since = between s s' s'' ends.stays later.stays same in
-      let stays = ends.stays.store.stays since.0 in
-      let printed = rw stays at (runs.prints ends.stays.honest since.1) in
-      λ records end w ends_.
-      let along = page.along since.0 records end w ends_ in
+-- ---- all devices
+
+listed_is : (wording : Wording) (records : List Row) (end : WalkEnd) (result : Result Place Failure) (walked : RecordsEnd)
+    → walk_of result ≡ Ok walked → ending_of result ≡ rows_end Form.Bytes records end
+    → listed_end walked ≡ rows_end (Form.Device wording) records end
+listed_is wording records Done result walked is at = grind arith
+listed_is wording records (CycleAt n) result walked is at = grind arith
+listed_is wording records (MissingAt n) result walked is at = grind arith
+
+-- rows with these bytes, and such an end
+bytes_with : (records : List (List ℕ)) → bytes_of_rows (map row_with records) ≡ records
+bytes_with [] = refl
+bytes_with (bytes ∷ records) = ap (λ (l : List (List ℕ)). bytes ∷ l) (bytes_with records)
+
+abbrev end_of_walk : RecordsEnd → WalkEnd
+end_of_walk RecordsEnd.Whole = Done
+end_of_walk (RecordsEnd.Cycle n) = CycleAt n
+end_of_walk (RecordsEnd.Missing n) = MissingAt n
+
+listed_with : (wording : Wording) (rows : List Row) (walked : RecordsEnd)
+    → listed_end walked ≡ rows_end (Form.Device wording) rows (end_of_walk walked)
+listed_with wording rows RecordsEnd.Whole = refl
+listed_with wording rows (RecordsEnd.Cycle n) = refl
+listed_with wording rows (RecordsEnd.Missing n) = refl
+
+-- at most 65,536 records were written
+few : RecordsAreFound → (bytes : List ℕ) → (count : ℕ) × (count ≤ 65536) × WritesRecords count [] bytes → length (records_in bytes) ≤ 65536
+few split bytes whole =
+    let records = whole.2.records in
+    rw (whole.2.new_is, split records whole.2.whole) (omega (arith, whole.1, whole.2.count_is))
+
+few_records : RecordsAreFound → (ending : Ending) (bytes : List ℕ) → cause_of ending ≡ AtEnd → WritesWhole Form.Bytes [] bytes ending
+    → length (records_in bytes) ≤ 65536
+few_records split (Ok done) bytes at whole = few split bytes whole
+few_records split (Err Failure.WriteFault) bytes at whole = cc at
+few_records split (Err failure) bytes at whole = few split bytes whole
+
+few_calls : (count each : ℕ) → count ≤ 65536 → (count + 1) * each ≤ 65537 * each
+few_calls count each few = mul-le (count + 1) each 65537 each (omega (arith, few)) (omega arith)
+
+-- the walk of the records is also that of the devices
+devices_allowed : (IsText : Subject → Output → Type 0) (wording : Wording) (records : List Row) (end : WalkEnd) (old new : Output) (ending : Ending)
+    → let plan = inventories_plan wording (device_name 0 (bytes_of_rows records)) records end in
+    IsAllowed IsText plan old new ending → IsAllowed IsText (after_names records end plan) old new ending
+devices_allowed IsText wording records end old new ending allowed =
+    let plan = inventories_plan wording (device_name 0 (bytes_of_rows records)) records end in
+    leaves_wide IsText (points_before records end plan) plan plan.end_points (end_after_names end plan.end) refl
+    (λ point among. among_after (points_of_walk First records end) (next_points plan.items plan.end_points) point among)
+    old new ending ending (cause_of ending) (λ is. is ∙ kept_end end) allowed
+  where
+    kept_end : (end : WalkEnd) → rows_end (Form.Device wording) records end ≡ end_after_names end (rows_end (Form.Device wording) records end)
+    kept_end Done = refl
+    kept_end (CycleAt n) = refl
+    kept_end (MissingAt n) = refl
+
+-- ---- after the walk of the records
+
+-- the walk of the records, over an honest controller
+module _ (look_row : FoundIsRow) (split : RecordsAreFound) (tries : ℕ) (s s' s'' : Seen) (kept old new : Output) (wording : Wording)
+    (result : Result Place Failure) (walked : RecordsEnd) (is : walk_of result ≡ Ok walked)
+    (page_of : IsHonest s → IsPage Form.Bytes First tries None (change s s' no_output kept) result) where
+  abbrev read_ends : IsHonest s → EndsFor tries (IsTrue s.plain) s s' AtEnd
+  read_ends h = rw (walked_at_end result walked is) at (page_of h).ends
+
+  -- the records on the walk are those in memory
+  pub records_of_walk : (h : IsHonest s) → s'.stores_added ≡ s.stores_added → (records : List Row) (end : WalkEnd)
+      → IsWalk (rows_of Sdr s.store) First records → EndsBy (rows_of Sdr s.store) First records end
+      → (records_in kept.bytes ≡ bytes_of_rows records) × (ending_of result ≡ rows_end Form.Bytes records end)
+      × (s'.calls ≤ s.calls + walk_call_bound Form.Bytes s.store tries records)
+  records_of_walk h same records end w ends =
+      let along = (page_of h).along same records end w ends in
       let all = rw (walked_at_end result walked is) at along.leaves in
-      let records_are = read_records look_row split (IsPieceOver s.store) (λ row text is. is.is_text) s.store records kept h.store w.of_shelf all.0 in
-      let on = rw records_are at printed in
-      named_map wording (bytes_of_rows records) tries s.store _ _ named (λ plan calls_. λ both. (
-        then_allowed (IsPieceOver s.store) records end plan old new ending walked (walked_end records end result walked is all.1) both.0,
-        omega (arith, both.1, along.calls),
-      )) on;
-  grows = λ h first log grew.
-      let page = page_of h in
-      let ends = rw (walked_at_end result walked is) at page.ends in
-      let later = runs.why ends.stays.honest in
-      let a = ends.stays.store in
-      let b = later.stays.store in
-      let read = page.grows tt first log (grew_first Sdr First s s' s'' a b grew) in
+      (read_records look_row split (IsPieceOver s.store) (λ row text is. is.is_text) s.store records kept h.store w.of_shelf all.0, all.1, along.calls)
+
+  pub records_of_log : IsHonest s → OnGrowing Sdr First s s' (λ records.
+      (records_in kept.bytes ≡ bytes_of_rows records) × (ending_of result ≡ rows_end Form.Bytes records Done))
+  records_of_log h = λ first log grew.
+      let read = (page_of h).grows tt first log grew in
       let all = rw (walked_at_end result walked is) at read.2 in
-      let was = read.1 in
-      let records_are = read_records look_row split (IsTextWhile s s') (λ row text is. is.is.is_text) was.store read.0 kept was.is_store was.is_log.walks.of_shelf all.0 in
-      let on = rw records_are at (runs.grows ends.stays.honest) in (
-        read.0,
-        log_first s s' s'' a b first read.0 was,
-        named_second s s' s'' ends.stays later.stays (λ plan. IsAllowed (IsTextWhile s' s'') plan old new ending)
-            (λ plan. IsAllowed (IsTextWhile s s'') (after_names read.0 Done plan) old new (ending_then ending walked))
-            (λ plan allowed. then_allowed (IsTextWhile s s'') read.0 Done plan old new ending walked (walked_end read.0 Done result walked is all.1)
-            (leaves_map (IsTextWhile s' s'') (IsTextWhile s s'') (while_second s s' s'' a b) plan old new ending (cause_of ending) allowed))
-            wording (bytes_of_rows read.0) named on,
-      );
-  traces = λ h. tt;
-}
+      (read.0, read.1, (read_records look_row split (IsTextWhile s s') (λ row text is. is.is.is_text) read.1.store read.0 kept read.1.is_store read.1.is_log.walks.of_shelf all.0, all.1))
+
+  pub events_run : (count : Count) (from : Option ℕ) (ending : Ending) → s'.calls ≤ s.calls + most_on_walk Form.Bytes tries
+      → Runs (entries_job (entries_in wording (records_in kept.bytes)) count from) tries (change s' s'' old new) ending
+      → Runs (Job.NameLookup wording (NameLookup.Events count from)) tries (change s s'' old new) (ending_then ending walked)
+  events_run count from ending calls runs = record {
+    calls = omega (arith, calls, runs.calls, entries_calls (entries_in wording (records_in kept.bytes)) count from tries);
+    ends = then_ends wording count from s'' ending walked (entries_may wording (entries_in wording (records_in kept.bytes)) count from (change s' s'' old new) ending runs.ends);
+    why = λ h.
+        let ends = read_ends h in
+        rw (then_for ending walked) (ends_since ends ends.stays.plain (runs.why ends.stays.honest));
+    prints = λ h same.
+        let ends = read_ends h in
+        let later = runs.why ends.stays.honest in
+        let since = between s s' s'' ends.stays later.stays same in
+        let printed = rw (ends.stays.store.stays since.0) at (runs.prints ends.stays.honest since.1) in
+        λ records end w ends_.
+        let walk = records_of_walk h since.0 records end w ends_ in
+        let on = rw walk.0 at printed in
+        entries_map (entries_in wording (bytes_of_rows records)) from tries s.store _ _ count (λ plan calls_. λ both. (
+          then_allowed (IsPieceOver s.store) records end plan old new ending walked (walked_end records end result walked is walk.1) both.0,
+          omega (arith, both.1, walk.2),
+        )) on;
+    grows = λ h first log grew.
+        let ends = read_ends h in
+        let later = runs.why ends.stays.honest in
+        let a = ends.stays.store in
+        let b = later.stays.store in
+        let read = records_of_log h first log (grew_first Sdr First s s' s'' a b grew) in
+        let on = rw read.2.0 at (runs.grows ends.stays.honest) in (
+          read.0,
+          log_first s s' s'' a b first read.0 read.1,
+          entries_second s s' s'' ends.stays later.stays (λ plan. IsAllowed (IsTextWhile s' s'') plan old new ending)
+              (λ plan. IsAllowed (IsTextWhile s s'') (after_names read.0 Done plan) old new (ending_then ending walked))
+              (λ plan allowed. then_allowed (IsTextWhile s s'') read.0 Done plan old new ending walked (walked_end read.0 Done result walked is read.2.1)
+              (leaves_map (IsTextWhile s' s'') (IsTextWhile s s'') (while_second s s' s'' a b) plan old new ending (cause_of ending) allowed))
+              (entries_in wording (bytes_of_rows read.0)) count from on,
+        );
+    traces = λ h. tt;
+  }
+
+  pub devices_run : (ending : Ending) → s'.calls ≤ s.calls + most_on_walk Form.Bytes tries
+      → WritesWhole Form.Bytes [] kept.bytes (ending_of result)
+      → s''.calls ≤ s'.calls + (length (records_in kept.bytes) + 1) * fru_call_bound tries 65535
+      → EndsNamed wording NameLookup.Devices s'' ending
+      → (IsHonest s' → PrintsDevices wording walked tries (records_in kept.bytes) (change s' s'' old new) ending)
+      → Runs (Job.NameLookup wording NameLookup.Devices) tries (change s s'' old new) ending
+  devices_run ending calls whole later_calls may devices_of = record {
+    calls = omega (arith, calls, later_calls, few_calls (length (records_in kept.bytes)) (fru_call_bound tries 65535) (few_records split (ending_of result) kept.bytes (walked_at_end result walked is) whole));
+    ends = may;
+    why = λ h.
+        let ends = read_ends h in
+        ends_since ends ends.stays.plain (later h).ends;
+    prints = λ h same.
+        let ends = read_ends h in
+        let since = between s s' s'' ends.stays (later h).ends.stays same in
+        let devices = devices_of ends.stays.honest in
+        λ records end w ends_.
+        let walk = records_of_walk h since.0 records end w ends_ in
+        let plan = inventories_plan wording (device_name 0 (bytes_of_rows records)) records end in
+        let printed = (rw walk.0 at devices) records end refl (listed_is wording records end result walked is walk.1) in
+        let of : Store → _ = λ store. store.inventories in (
+          devices_allowed (IsPieceOver s.store) wording records end old new ending
+              (rw (ends.stays.store.stays since.0) at (leaves_map (IsTextWhile s' s'') (IsPieceOver s'.store) (while_same s' s'' (later h).ends.stays.store since.1) plan old new ending (cause_of ending)
+              (printed.prints (keeps_same of s' s'' (later h).ends.stays.store since.1)))),
+          omega (arith, walk.2, rw (ends.stays.store.stays since.0) at (printed.calls_are since.1)),
+        );
+    grows = λ h first log grew.
+        let ends = read_ends h in
+        let a = ends.stays.store in
+        let b = (later h).ends.stays.store in
+        let read = records_of_log h first log (grew_first Sdr First s s' s'' a b grew) in
+        let plan = inventories_plan wording (device_name 0 (bytes_of_rows read.0)) read.0 Done in
+        let printed = (rw read.2.0 at (devices_of ends.stays.honest)) read.0 Done refl (listed_is wording read.0 Done result walked is read.2.1) in (
+          read.0,
+          log_first s s' s'' a b first read.0 read.1,
+          λ keeps. devices_allowed (IsTextWhile s s'') wording read.0 Done old new ending
+              (leaves_map (IsTextWhile s' s'') (IsTextWhile s s'') (while_second s s' s'' a b) plan old new ending (cause_of ending)
+              (printed.prints (keeps_second (λ (store : Store). store.inventories) s s' s'' a b keeps))),
+        );
+    traces = λ h. tt;
+  }
+    where
+      -- of any rows with these bytes
+      later : (h : IsHonest s) → PrintsPlan tries (inventories_plan wording (device_name 0 (records_in kept.bytes)) (map row_with (records_in kept.bytes)) (end_of_walk walked))
+          (λ store. calls_for_point tries store (AtInventory 0) + calls_for_devices tries store (map row_with (records_in kept.bytes))) (change s' s'' old new) ending
+      later h =
+          let rows = map row_with (records_in kept.bytes) in
+          devices_of (read_ends h).stays.honest rows (end_of_walk walked) (bytes_with (records_in kept.bytes)) (listed_with wording rows walked)

@@ -51,7 +51,7 @@ module _ (tries : ℕ) (s s' : Seen) (kept : Output) (wording : Wording) (from :
       let one : IsHonest s' → OneListing form (start_of from) tries sizes (change s' s'' old new) ending = λ h. pages_are_one tail form tries (start_of from) sizes s' s'' old new ending tt h (pages h) in
       record {
         calls = omega (arith, reads.calls, calls);
-        ends = then_ends wording (NameLookup.Events Count.All from) s'' ending walked (entries_end wording (entries_in wording (records_in kept.bytes)) Count.All from s'' ending ends);
+        ends = then_ends wording Count.All from s'' ending walked (entries_end wording (entries_in wording (records_in kept.bytes)) Count.All from s'' ending ends);
         why = λ h.
             let ends_ = rw at_end at (reads.page h).ends in
             rw (then_for ending walked) (ends_since ends_ ends_.stays.plain (one ends_.stays.honest).ends);

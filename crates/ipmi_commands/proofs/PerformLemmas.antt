@@ -39,13 +39,13 @@ text_leaves IsText subject points old new text (Err Failure.WriteFault) is write
 text_leaves IsText subject points old new text (Err _) is writes = absurd writes
 
 -- the reason for the ending is the result of writing
-text_ends : (tries : ℕ) (IsPlain : Type 0) (s s' : Seen) (text old new : Output) (ending : Ending)
+pub text_ends : (tries : ℕ) (IsPlain : Type 0) (s s' : Seen) (text old new : Output) (ending : Ending)
     → EndsFor tries IsPlain s s' AtEnd → WritesPiece text old new ending
     → EndsFor tries IsPlain s s' (cause_of ending)
 text_ends tries IsPlain s s' text old new ending ends writes = grind (arith, ends_as)
 
 -- if the text was not found: given up or refused before anything is printed, or out of memory
-none_leaves : (IsText : Subject → Output → Type 0) (p : Plan) (text : Output) (ending : Ending)
+pub none_leaves : (IsText : Subject → Output → Type 0) (p : Plan) (text : Output) (ending : Ending)
     → IsStopAmong (next_points p.items p.end_points) (cause_of ending) → IsAllowed IsText p text text ending
 none_leaves IsText p text ending may = stops_after IsText p text text ending (cause_of ending) (no_items IsText p text text refl) may
 

@@ -1,7 +1,7 @@
 -- A run over an image, and rewriting an image.
 use Rattle.std.proofs.Common.{◌≡◌, ◌⊎◌, inl, inr, ℕ, ◌+◌, arith, false, IsTrue, Option, None, Some, Result, Ok, Err, List, [], refl, subst, sym, ap₂, ◌∙◌}
-use Rattle.ipmi_commands.specs.Below.{CommandState, Count, Failure, failure_of_image, ImageFault, Store, Seen, IsHonest, image_text_of, Ending, Task}
-use Rattle.ipmi_commands.specs.Prelude.{after_names, AnswersJob, bytes_of_rows, change, Form, IsAllowed, IsRewriting, IsPieceOver, Job, job_in, job_of, job_of_command, NameLookup, no_output, OnBytes, OfImage, OnNamed, FollowsPlan, pieces_of, faults_of, Plan, printed, rewrite_plan, Runs, RunsCommand, RunsOver, walk_call_bound, Wording, WritesPiece}
+use Rattle.ipmi_commands.specs.Below.{CommandState, Count, Failure, failure_of_image, ImageFault, Row, Store, Seen, WalkEnd, IsHonest, image_text_of, Ending, Task}
+use Rattle.ipmi_commands.specs.Prelude.{after_names, AnswersJob, change, Form, IsAllowed, IsRewriting, IsPieceOver, Job, job_in, job_of, job_of_command, NameLookup, no_output, OnBytes, OfImage, OnNamed, FollowsPlan, pieces_of, faults_of, Plan, printed, rewrite_plan, Runs, RunsCommand, RunsOver, walk_call_bound, Wording, WritesPiece}
 use Rattle.ipmi_commands.specs.Output.{Output, piece_of}
 use Rattle.ipmi_commands.specs.declared.summary.Summary.{Summary}
 use Rattle.ipmi_commands.proofs.NamedLemmas.{named_all}
@@ -39,15 +39,15 @@ module _ (command : CommandState) (found : Option Job) (is : job_of_command comm
 -- ---- a run over an image
 
 -- a fact about the plan that does not depend on the tries
-named_kept : (Holds : Plan → Type 0) (wording : Wording) (records : List (List ℕ)) (named : NameLookup) (tries : ℕ)
+named_kept : (Holds : Plan → Type 0) (wording : Wording) (records : List Row) (end : WalkEnd) (named : NameLookup) (tries : ℕ)
     (store : Store) (More : Plan → ℕ → Type 0)
     → ((plan : Plan) (calls : ℕ) → More plan calls → Holds plan)
-    → OnNamed wording records named tries store More
-    → OnNamed wording records named 0 store (λ plan calls. Holds plan)
-named_kept Holds wording records (NameLookup.Events Count.All from) tries store More keep on = λ walk end w ends. keep _ _ (on walk end w ends)
-named_kept Holds wording records (NameLookup.Events (Count.First n) from) tries store More keep on = λ walk end w ends. keep _ _ (on walk end w ends)
-named_kept Holds wording records (NameLookup.Events (Count.Last n) from) tries store More keep on = λ walk end w ends. keep _ _ (on walk end w ends)
-named_kept Holds wording records NameLookup.Devices tries store More keep on = λ walk end w ends. keep _ _ (on walk end w ends)
+    → OnNamed wording records end named tries store More
+    → OnNamed wording records end named 0 store (λ plan calls. Holds plan)
+named_kept Holds wording records end (NameLookup.Events Count.All from) tries store More keep on = λ walk e w ends. keep _ _ (on walk e w ends)
+named_kept Holds wording records end (NameLookup.Events (Count.First n) from) tries store More keep on = λ walk e w ends. keep _ _ (on walk e w ends)
+named_kept Holds wording records end (NameLookup.Events (Count.Last n) from) tries store More keep on = λ walk e w ends. keep _ _ (on walk e w ends)
+named_kept Holds wording records end NameLookup.Devices tries store More keep on = keep _ _ on
 
 plan_kept : (Holds : Plan → Type 0) (job : Job) (tries : ℕ) (store : Store) (More : Plan → ℕ → Type 0)
     → ((plan : Plan) (calls : ℕ) → More plan calls → Holds plan)
@@ -55,7 +55,7 @@ plan_kept : (Holds : Plan → Type 0) (job : Job) (tries : ℕ) (store : Store) 
 plan_kept Holds (Job.Records l) tries store More keep on = λ walk end w ends. keep _ _ (on walk end w ends)
 plan_kept Holds (Job.Last entries n from) tries store More keep on = λ walk end w ends. keep _ _ (on walk end w ends)
 plan_kept Holds (Job.NameLookup wording named) tries store More keep on = λ records end w ends.
-    named_kept (λ plan. Holds (after_names records end plan)) wording (bytes_of_rows records) named tries store
+    named_kept (λ plan. Holds (after_names records end plan)) wording records end named tries store
     (λ plan calls. More (after_names records end plan) (walk_call_bound Form.Bytes store tries records + calls))
     (λ plan calls more. keep _ _ more) (on records end w ends)
 plan_kept Holds (Job.AllInventories wording name) tries store More keep on = λ walk end w ends. keep _ _ (on walk end w ends)
@@ -85,7 +85,7 @@ plan_all : (Holds : Plan → Type 0) (job : Job) (store : Store) → ((plan : Pl
 plan_all Holds (Job.Records l) store holds = λ walk end w ends. holds _
 plan_all Holds (Job.Last entries n from) store holds = λ walk end w ends. holds _
 plan_all Holds (Job.NameLookup wording named) store holds = λ records end w ends.
-    named_all wording (bytes_of_rows records) 0 store (λ plan calls. Holds (after_names records end plan)) named (λ plan calls. holds _)
+    named_all wording records end 0 store (λ plan calls. Holds (after_names records end plan)) named (λ plan calls. holds _)
 plan_all Holds (Job.AllInventories wording name) store holds = λ walk end w ends. holds _
 plan_all Holds _ store holds = holds _
 

@@ -137,29 +137,27 @@ module _ (one : ItemsHaveOneText) (exists : WalkExists) (look_row : FoundIsRow) 
       (x.0.new_is ∙ rw (one store items x.0.text y.0.text bytes x.0.are y.0.are) (sym y.0.new_is), x.1 ∙ sym y.1)
 
   -- after reading the names
-  one_named : (store : Store) (old a b : Output) (e f : Ending) (wording : Wording) (records : List (List ℕ)) (named : NameLookup)
-      (tries tries' : ℕ) (rows : List Row) (end : WalkEnd) → IsStore store
-      → OnNamed wording records named tries store (λ plan calls. PrintsAll (IsPieceOver store) (after_names rows end plan) old a e)
-      → OnNamed wording records named tries' store (λ plan calls. PrintsAll (IsPieceOver store) (after_names rows end plan) old b f)
+  one_named : (store : Store) (old a b : Output) (e f : Ending) (wording : Wording) (named : NameLookup)
+      (tries tries' : ℕ) (rows : List Row) (end : WalkEnd) → IsStore store → AllOf store.sdr rows
+      → OnNamed wording rows end named tries store (λ plan calls. PrintsAll (IsPieceOver store) (after_names rows end plan) old a e)
+      → OnNamed wording rows end named tries' store (λ plan calls. PrintsAll (IsPieceOver store) (after_names rows end plan) old b f)
       → (a ≡ b) × (e ≡ f)
-  one_named store old a b e f wording records (NameLookup.Events Count.All from) tries tries' rows end ok x y =
+  one_named store old a b e f wording (NameLookup.Events Count.All from) tries tries' rows end ok all x y =
       let there = exists Sel store.sel (start_of from) ok.sel in
-      one_plan store (first_kept _ _ (rows_are_bytes look_row (Form.EntryLine (entries_in wording records)) Sel store.sel (start_of from) there.0 ok.sel there.2.of_shelf))
+      one_plan store (first_kept _ _ (rows_are_bytes look_row (Form.EntryLine (entries_in wording (bytes_of_rows rows))) Sel store.sel (start_of from) there.0 ok.sel there.2.of_shelf))
       (x there.0 there.1 there.2 there.3) (y there.0 there.1 there.2 there.3)
-  one_named store old a b e f wording records (NameLookup.Events (Count.First n) from) tries tries' rows end ok x y =
+  one_named store old a b e f wording (NameLookup.Events (Count.First n) from) tries tries' rows end ok all x y =
       let there = exists Sel store.sel (start_of from) ok.sel in
-      one_plan store (first_kept _ _ (rows_are_bytes look_row (Form.EntryLine (entries_in wording records)) Sel store.sel (start_of from) (take n there.0) ok.sel (parts_of_shelf n store.sel there.0 there.2.of_shelf).0))
+      one_plan store (first_kept _ _ (rows_are_bytes look_row (Form.EntryLine (entries_in wording (bytes_of_rows rows))) Sel store.sel (start_of from) (take n there.0) ok.sel (parts_of_shelf n store.sel there.0 there.2.of_shelf).0))
       (x there.0 there.1 there.2 there.3) (y there.0 there.1 there.2 there.3)
-  one_named store old a b e f wording records (NameLookup.Events (Count.Last n) from) tries tries' rows end ok x y =
+  one_named store old a b e f wording (NameLookup.Events (Count.Last n) from) tries tries' rows end ok all x y =
       let start = start_of from in
       let there = exists Sel store.sel start ok.sel in
-      one_plan store (first_kept _ _ (first_kept (points_of_walk start there.0 there.1) (last_items (entries_in wording records) n start there.0 there.1)
-      (rows_are_bytes look_row (Form.EntryLine (entries_in wording records)) Sel store.sel (place_after_rows start (take (length there.0 - n) there.0)) (last_rows n there.0 there.1) ok.sel (grind (arith, parts_of_shelf (length there.0 - n) store.sel there.0 there.2.of_shelf)))))
+      one_plan store (first_kept _ _ (first_kept (points_of_walk start there.0 there.1) (last_items (entries_in wording (bytes_of_rows rows)) n start there.0 there.1)
+      (rows_are_bytes look_row (Form.EntryLine (entries_in wording (bytes_of_rows rows))) Sel store.sel (place_after_rows start (take (length there.0 - n) there.0)) (last_rows n there.0 there.1) ok.sel (grind (arith, parts_of_shelf (length there.0 - n) store.sel there.0 there.2.of_shelf)))))
       (x there.0 there.1 there.2 there.3) (y there.0 there.1 there.2 there.3)
-  one_named store old a b e f wording records NameLookup.Devices tries tries' rows end ok x y =
-      let there = exists Sdr store.sdr First ok.sdr in
-      one_plan store (tt, rows_are_bytes look_row (Form.Device wording) Sdr store.sdr First there.0 ok.sdr there.2.of_shelf)
-      (x there.0 there.1 there.2 there.3) (y there.0 there.1 there.2 there.3)
+  one_named store old a b e f wording NameLookup.Devices tries tries' rows end ok all x y =
+      one_plan store (tt, rows_are_bytes look_row (Form.Device wording) Sdr store.sdr First rows ok.sdr all) x y
 
   pub one_output : FinishedRunsAreOne
   one_output (Job.Records l) tries tries' store old a b e f ok x y =
@@ -176,7 +174,7 @@ module _ (one : ItemsHaveOneText) (exists : WalkExists) (look_row : FoundIsRow) 
       (x there.0 there.1 there.2 there.3) (y there.0 there.1 there.2 there.3)
   one_output (Job.NameLookup wording named) tries tries' store old a b e f ok x y =
       let there = exists Sdr store.sdr First ok.sdr in
-      one_named store old a b e f wording (bytes_of_rows there.0) named tries tries' there.0 there.1 ok
+      one_named store old a b e f wording named tries tries' there.0 there.1 ok there.2.of_shelf
       (x there.0 there.1 there.2 there.3) (y there.0 there.1 there.2 there.3)
   one_output (Job.Info wording shelf) tries tries' store old a b e f ok x y = let bytes : AreOfBytes (info_plan wording shelf (info_of shelf store)).items = grind arith in one_plan store bytes x y
   one_output (Job.Inventory wording id name) tries tries' store old a b e f ok x y = one_plan store (tt, tt) x y

@@ -10,10 +10,10 @@ use Rattle.ipmi_commands.specs.declared.read_error.ReadError.{ReadError}
 use Rattle.ipmi_commands.specs.Allowed.{AtEnd, Cause, cause_of, EndsFor}
 use Rattle.ipmi_commands.specs.Calls.{calls_for_points}
 use Rattle.ipmi_commands.specs.Meanwhile.{KeepsAt}
-use Rattle.ipmi_commands.specs.Plan.{ReadPoint}
+use Rattle.ipmi_commands.specs.Plan.{locator_points, ReadPoint}
 use Rattle.ipmi_commands.specs.Run.{LacksValue, NoneIsTrue, ShowsInventory}
 use Rattle.ipmi_commands.specs.Output.{Output, piece_of}
-use Rattle.ipmi_commands.specs.Texts.{IsDevicePiece, IsElsewhereIn, IsInfoIn, is_faulty_there}
+use Rattle.ipmi_commands.specs.Texts.{IsDevicePiece, IsElsewhereIn, IsInfoIn, is_faulty_there, IsPieceOver, OfRow}
 use Rattle.ipmi_commands.specs.Traced.{IsStopAmong}
 
 -- ---- found, or not
@@ -71,6 +71,12 @@ pub record IsCountedDevice (wording : Wording) (store : Store) (name : List ℕ)
   pub is_text : IsDevicePiece wording store name id piece.bytes
   pub counted : piece ≡ piece_of piece.bytes (is_faulty_there wording store id)
 
+-- the result for the device of a record with these bytes, whatever its ids
+abbrev pub FindsLocator : Wording → List ℕ → ℕ → Seen → Seen → Result Piece ReadError → Type 0
+FindsLocator wording bytes tries s s' result = (id next : ℕ) → Finds (λ store piece.
+    IsPieceOver store (OfRow (Form.Device wording) (record { id = id; next = next; bytes = bytes })) (shown piece))
+    (locator_points (sdr_view_of bytes)) tries s s' result
+
 -- the controller has no such inventory
 abbrev pub is_absent : FruEnded → Bool
 is_absent (FruEnded.Refused code) = code.0 == 0xCB
@@ -110,8 +116,9 @@ ShowsLocator wording (Ok (SdrView.Fru bytes)) seen text =
     ShowsDevice wording (printed_name (SdrView.Fru bytes)) (fru_of (SdrView.Fru bytes)) seen text
 ShowsLocator wording _ seen text = text ≡ piece_of [] false
 
--- the same for a row in a listing of devices; nothing is said of other forms
+-- the same for a row in a listing of devices; in a listing of bytes, those of the record; nothing is said of other forms
 abbrev pub ShowsRow : Form → Row → Seen → Output → Type 0
+ShowsRow Form.Bytes row seen text = text.bytes ≡ row.bytes
 ShowsRow (Form.Device wording) row seen text = ShowsLocator wording (sdr_view_of row.bytes) seen text
 ShowsRow form row seen text = Unit {0}
 

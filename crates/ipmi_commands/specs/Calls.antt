@@ -1,10 +1,10 @@
 -- The largest number of calls in a run. For each record, reading, info or inventory, `tries`
 -- troubles are allowed; one more ends the run.
 use Rattle.std.specs.Prelude.{ℕ, ◌+◌, ◌*◌, List, [], ◌∷◌, length}
-use Rattle.ipmi_commands.specs.Below.{step_call_bound, fru_call_bound, inventory_len, Row, largest_len, Store}
+use Rattle.ipmi_commands.specs.Below.{step_call_bound, fru_call_bound, inventory_len, Row, largest_len, sdr_view_of, Store}
 use Rattle.ipmi_commands.specs.declared.job.Form.{Form}
 use Rattle.ipmi_commands.specs.Job.{shelf_of}
-use Rattle.ipmi_commands.specs.Plan.{ReadPoint, AtRecord, AtInventory, points_because_of}
+use Rattle.ipmi_commands.specs.Plan.{ReadPoint, AtRecord, AtInventory, locator_points, points_because_of}
 
 -- the largest number of calls at a point of a reading, which is that of its record, or of an
 -- inventory
@@ -31,6 +31,12 @@ calls_for form store tries (row ∷ rows) =
 abbrev pub walk_call_bound : Form → Store → ℕ → List Row → ℕ
 walk_call_bound form store tries rows =
     calls_for form store tries rows + step_call_bound tries 0 + 7
+
+-- for the inventories of the devices that these records locate, once the records are in memory
+abbrev pub calls_for_devices : ℕ → Store → List Row → ℕ
+calls_for_devices tries store [] = 0
+calls_for_devices tries store (row ∷ rows) =
+    calls_for_points tries store (locator_points (sdr_view_of row.bytes)) + calls_for_devices tries store rows
 
 -- over any controller: for the reading or inventory that a record requires
 abbrev pub most_after : Form → ℕ → ℕ

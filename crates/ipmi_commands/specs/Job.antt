@@ -1,7 +1,7 @@
 -- The job of each command.
 use Rattle.std.specs.Prelude.{ℕ, ◌<◌, ◌≤◌, ◌&&◌, not, Bool, true, false, is_none, Option, None, Some, List}
 use Rattle.std.specs.Option.{ForSome}
-use Rattle.ipmi_commands.specs.Below.{Place, First, Id, End, start_of, Shelf, Sdr, Sel, Count, IsCount, Task, device_name}
+use Rattle.ipmi_commands.specs.Below.{Place, First, Id, End, start_of, Shelf, Sdr, Sel, Count, IsCount, Task}
 use Rattle.ipmi_commands.specs.declared.job.Detail.{Detail}
 use Rattle.ipmi_commands.specs.declared.job.Entries.{Entries}
 use Rattle.ipmi_commands.specs.declared.job.Form.{Form}
@@ -34,12 +34,6 @@ entries_job entries Count.All from =
 entries_job entries (Count.First n) from =
     Job.Records (listing (Form.EntryLine entries) (start_of from) (Some n))
 entries_job entries (Count.Last n) from = Job.Last entries n from
-
--- the job of listing with the names in these sensor data records, in this wording
-abbrev pub job_with : Wording → List (List ℕ) → NameLookup → Job
-job_with wording records (NameLookup.Events count from) =
-    entries_job (entries_in wording records) count from
-job_with wording records NameLookup.Devices = Job.AllInventories wording (device_name 0 records)
 
 -- the job of a task; a listing starts at the id `from`, or at the first record if there is none; `image
 -- rewrite` has none, since only an image can do it

@@ -1,8 +1,9 @@
 -- The results of a listing by a cursor, and of the two walks for the last entries: for the
 -- contracts of private functions.
-use Rattle.std.specs.Prelude.{◌≡◌, Bool, false, ℕ, ◌+◌, ◌-◌, ◌*◌, ◌<◌, ◌≤◌, ◌==◌, ◌⊎◌, IsTrue, Option, None, Some, IsSome, IfOk, Result, Ok, Err, List, length, take, drop}
+use Rattle.std.specs.Prelude.{◌≡◌, Bool, false, ℕ, ◌+◌, ◌-◌, ◌*◌, ◌<◌, ◌≤◌, ◌==◌, ◌⊎◌, IsTrue, Option, None, Some, IsSome, IfOk, Result, Ok, Err, List, ◌++◌, length, take, drop}
 use Rattle.std.specs.FinSet as set
-use Rattle.ipmi_commands.specs.Below.{step_call_bound, digits, IsLog, OnGrowing, OnlyGrew, WasLog, End, Place, Row, Shelf, Sel, Store, rows_of, IsWalk, WalkEnd, Done, EndsBy, place_after_rows, Seen, IsHonest, CursorState, StandsAt, CursorHoldsCurrent, Ending, Failure}
+use Rattle.std.specs.List.{AllPass, concat}
+use Rattle.ipmi_commands.specs.Below.{step_call_bound, digits, IsLog, OnGrowing, is_whole_record, OnlyGrew, WasLog, End, Place, Row, Shelf, Sel, Store, rows_of, IsWalk, WalkEnd, Done, EndsBy, place_after_rows, Seen, IsHonest, CursorState, StandsAt, CursorHoldsCurrent, Ending, Failure}
 use Rattle.ipmi_commands.specs.declared.job.Entries.{Entries}
 use Rattle.ipmi_commands.specs.declared.job.Form.{Form}
 use Rattle.ipmi_commands.specs.Allowed.{ending_of, IsAllowed, EndsFor, cause_of, Change}
@@ -32,6 +33,20 @@ abbrev pub ReachesEnd : Option ℕ → CursorState → Result ℕ Failure → Ty
 ReachesEnd most now (Ok count) = (most ≡ Some count) ⊎ (now.place ≡ End)
 ReachesEnd most now (Err (Failure.NoName name)) = IsSome most ⊎ (now.place ≡ End)
 ReachesEnd most now (Err failure) = Unit {0}
+
+-- these many whole records were written, one after another
+pub record WritesRecords (count : ℕ) (old new : List ℕ) : Type 0 where
+  pub records : List (List ℕ)
+  pub whole : AllPass is_whole_record records
+  pub count_is : length records ≡ count
+  pub new_is : new ≡ old ++ concat records
+
+-- of a listing of the bytes of records that did not end amid a record: at most 65,536 whole records
+-- were written
+abbrev pub WritesWhole : Form → List ℕ → List ℕ → Ending → Type 0
+WritesWhole form old new (Err Failure.WriteFault) = Unit {0}
+WritesWhole Form.Bytes old new ending = (count : ℕ) × (count ≤ 65536) × WritesRecords count old new
+WritesWhole form old new ending = Unit {0}
 
 -- the cursor can continue the listing
 pub record KeepsListing (begun now : CursorState) : Type 0 where

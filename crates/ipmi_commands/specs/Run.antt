@@ -9,7 +9,7 @@ use Rattle.ipmi_commands.specs.declared.job.NameLookup.{NameLookup}
 use Rattle.ipmi_commands.specs.declared.job.Wording.{Wording}
 use Rattle.ipmi_commands.specs.declared.read_error.ReadError.{ReadError}
 use Rattle.ipmi_commands.specs.Allowed.{NoMemory, cause_of, ending_of, EndsFor, IsAllowed, IsFine, Change}
-use Rattle.ipmi_commands.specs.Calls.{calls_for_point, walk_call_bound, most_on_walk}
+use Rattle.ipmi_commands.specs.Calls.{calls_for_devices, calls_for_point, walk_call_bound, most_on_walk}
 use Rattle.ipmi_commands.specs.Job.{entries_in, shelf_of, job_of, listing}
 use Rattle.ipmi_commands.specs.Meanwhile.{IsTextWhile, OnGrowingListing}
 use Rattle.ipmi_commands.specs.Output.{and_then, IsCut, Output, piece_of}
@@ -20,16 +20,12 @@ use Rattle.ipmi_commands.specs.Traced.{Traces}
 
 -- ---- over any controller
 
--- the largest number of calls for all inventories; an inventory has at most 65,535 bytes
-abbrev pub most_for_all : Wording → ℕ → ℕ
-most_for_all wording tries =
-    fru_call_bound tries 65535 + most_on_walk (Form.Device wording) tries
-
--- for what is listed with names, after the walk that reads them
-abbrev pub most_named : Wording → NameLookup → ℕ → ℕ
-most_named wording (NameLookup.Events count from) tries =
+-- the largest number of calls for what is listed with names, after the walk that reads them; an
+-- inventory has at most 65,535 bytes, and at most 65,536 records locate a device besides device 0
+abbrev pub most_named : NameLookup → ℕ → ℕ
+most_named (NameLookup.Events count from) tries =
     most_on_walk Form.Skipped tries + most_on_walk Form.Skipped tries
-most_named wording NameLookup.Devices tries = most_for_all wording tries
+most_named NameLookup.Devices tries = 65537 * fru_call_bound tries 65535
 
 -- the largest number of calls of a job
 abbrev pub most_calls : Job → ℕ → ℕ
@@ -37,10 +33,11 @@ most_calls (Job.Records l) tries = most_on_walk l.form tries
 most_calls (Job.Last entries n from) tries =
     most_on_walk Form.Skipped tries + most_on_walk Form.Skipped tries
 most_calls (Job.NameLookup wording named) tries =
-    most_on_walk Form.Bytes tries + most_named wording named tries
+    most_on_walk Form.Bytes tries + most_named named tries
 most_calls (Job.Info wording shelf) tries = tries + 1
 most_calls (Job.Inventory wording id name) tries = fru_call_bound tries 65535
-most_calls (Job.AllInventories wording name) tries = most_for_all wording tries
+most_calls (Job.AllInventories wording name) tries =
+    fru_call_bound tries 65535 + most_on_walk (Form.Device wording) tries
 
 -- an entry of the log has a fixed length, so only a sensor data record can be malformed
 abbrev pub MayEndOn : Shelf → Ended → Type 0
@@ -62,12 +59,14 @@ EndsListing form seen (Err Failure.WriteFault) = Unit {0}
 EndsListing form seen (Err Failure.OutOfMemory) = Unit {0}
 EndsListing form seen _ = ⊥
 
--- the possible ends of a listing after the walk that reads names; names may be missing if that walk
--- did not end with `Done`
+-- The possible ends of a listing after the walk that reads names. If that walk did not end with
+-- `Done`, names of sensors may be missing. It is also the walk of the locators: if no record had the
+-- next id, the last call was for an inventory.
 abbrev pub EndsNamed : Wording → NameLookup → Seen → Ending → Type 0
-EndsNamed wording named seen (Err (Failure.NamesCycle n)) = Unit {0}
-EndsNamed wording named seen (Err (Failure.NamesMissing n)) = Unit {0}
+EndsNamed wording (NameLookup.Events count from) seen (Err (Failure.NamesCycle n)) = Unit {0}
+EndsNamed wording (NameLookup.Events count from) seen (Err (Failure.NamesMissing n)) = Unit {0}
 EndsNamed wording (NameLookup.Events count from) seen ending = EndsListing Form.Bytes seen ending
+EndsNamed wording NameLookup.Devices seen (Err (Failure.Ended (Ended.Missing n))) = Unit {0}
 EndsNamed wording NameLookup.Devices seen ending = EndsListing (Form.Device wording) seen ending
 
 -- the result of writing an item
@@ -161,19 +160,14 @@ OnEntries entries (Count.First n) from tries store Holds =
     OnListing (listing (Form.EntryLine entries) (start_of from) (Some n)) tries store Holds
 OnEntries entries (Count.Last n) from tries store Holds = OnLast entries n from tries store Holds
 
--- all inventories, with this name of device 0
-abbrev pub OnInventories : Wording → Option (List ℕ) → ℕ → Store → (Plan → ℕ → Type 0) → Type 0
-OnInventories wording name tries store Holds =
-    OnWalk Sdr First store (λ walk end. Holds (inventories_plan wording name walk end)
-    (calls_for_point tries store (AtInventory 0)
-    + walk_call_bound (Form.Device wording) store tries walk))
-
--- what is listed with the names in these sensor data records, in this wording
-abbrev pub OnNamed : Wording → List (List ℕ) → NameLookup → ℕ → Store → (Plan → ℕ → Type 0) → Type 0
-OnNamed wording records (NameLookup.Events count from) tries store Holds =
-    OnEntries (entries_in wording records) count from tries store Holds
-OnNamed wording records NameLookup.Devices tries store Holds =
-    OnInventories wording (device_name 0 records) tries store Holds
+-- what is listed with the names in the sensor data records on this walk, in this wording; devices are
+-- those that these records locate
+abbrev pub OnNamed : Wording → List Row → WalkEnd → NameLookup → ℕ → Store → (Plan → ℕ → Type 0) → Type 0
+OnNamed wording records end (NameLookup.Events count from) tries store Holds =
+    OnEntries (entries_in wording (bytes_of_rows records)) count from tries store Holds
+OnNamed wording records end NameLookup.Devices tries store Holds =
+    Holds (inventories_plan wording (device_name 0 (bytes_of_rows records)) records end)
+    (calls_for_point tries store (AtInventory 0) + calls_for_devices tries store records)
 
 -- `Holds` for the job's plan over a store and the largest number of its calls, for each walk from
 -- the start that has an end; `tries` affects only the number of calls
@@ -181,7 +175,7 @@ abbrev pub FollowsPlan : Job → ℕ → Store → (Plan → ℕ → Type 0) →
 FollowsPlan (Job.Records l) tries store Holds = OnListing l tries store Holds
 FollowsPlan (Job.Last entries n from) tries store Holds = OnLast entries n from tries store Holds
 FollowsPlan (Job.NameLookup wording named) tries store Holds =
-    OnWalk Sdr First store (λ records end. OnNamed wording (bytes_of_rows records) named tries store
+    OnWalk Sdr First store (λ records end. OnNamed wording records end named tries store
     (λ plan calls. Holds (after_names records end plan)
     (walk_call_bound Form.Bytes store tries records + calls)))
 FollowsPlan (Job.Info wording shelf) tries store Holds =
@@ -189,7 +183,9 @@ FollowsPlan (Job.Info wording shelf) tries store Holds =
 FollowsPlan (Job.Inventory wording id name) tries store Holds =
     Holds (inventory_plan wording id name) (calls_for_point tries store (AtInventory id))
 FollowsPlan (Job.AllInventories wording name) tries store Holds =
-    OnInventories wording name tries store Holds
+    OnWalk Sdr First store (λ walk end. Holds (inventories_plan wording name walk end)
+    (calls_for_point tries store (AtInventory 0)
+    + walk_call_bound (Form.Device wording) store tries walk))
 
 -- the output agrees with the plan and with how the run ended, and the number of calls is within the
 -- bound
@@ -214,16 +210,11 @@ OnGrowingEntries entries (Count.First n) from s s' Holds =
     OnGrowingListing (listing (Form.EntryLine entries) (start_of from) (Some n)) s s' Holds
 OnGrowingEntries entries (Count.Last n) from s s' Holds = OnGrowingLast entries n from s s' Holds
 
--- if no inventory changes
-abbrev pub OnGrowingInventories : Wording → Option (List ℕ) → Seen → Seen → (Plan → Type 0) → Type 0
-OnGrowingInventories wording name s s' Holds = Keeps (λ store. store.inventories) s s'
-    → OnGrowing Sdr First s s' (λ log. Holds (inventories_plan wording name log Done))
-
-abbrev pub OnGrowingNamed : Wording → List (List ℕ) → NameLookup → Seen → Seen → (Plan → Type 0) → Type 0
+abbrev pub OnGrowingNamed : Wording → List Row → NameLookup → Seen → Seen → (Plan → Type 0) → Type 0
 OnGrowingNamed wording records (NameLookup.Events count from) s s' Holds =
-    OnGrowingEntries (entries_in wording records) count from s s' Holds
-OnGrowingNamed wording records NameLookup.Devices s s' Holds =
-    OnGrowingInventories wording (device_name 0 records) s s' Holds
+    OnGrowingEntries (entries_in wording (bytes_of_rows records)) count from s s' Holds
+OnGrowingNamed wording records NameLookup.Devices s s' Holds = Keeps (λ store. store.inventories) s s'
+    → Holds (inventories_plan wording (device_name 0 (bytes_of_rows records)) records Done)
 
 -- `Holds` for the job's plan over the records as they were meanwhile: all that were there when the
 -- run began, in order, and perhaps some that were appended. An info is as it was when the run ended;
@@ -232,14 +223,15 @@ abbrev pub OnGrowingPlan : Job → Seen → Seen → (Plan → Type 0) → Type 
 OnGrowingPlan (Job.Records l) s s' Holds = OnGrowingListing l s s' Holds
 OnGrowingPlan (Job.Last entries n from) s s' Holds = OnGrowingLast entries n from s s' Holds
 OnGrowingPlan (Job.NameLookup wording named) s s' Holds = OnGrowing Sdr First s s' (λ records.
-    OnGrowingNamed wording (bytes_of_rows records) named s s'
+    OnGrowingNamed wording records named s s'
     (λ plan. Holds (after_names records Done plan)))
 OnGrowingPlan (Job.Info wording shelf) s s' Holds =
     Holds (info_plan wording shelf (info_of shelf s'.store))
 OnGrowingPlan (Job.Inventory wording id name) s s' Holds =
     Keeps (inventory_of id) s s' → Holds (inventory_plan wording id name)
 OnGrowingPlan (Job.AllInventories wording name) s s' Holds =
-    OnGrowingInventories wording name s s' Holds
+    Keeps (λ store. store.inventories) s s'
+    → OnGrowing Sdr First s s' (λ log. Holds (inventories_plan wording name log Done))
 
 -- the output agrees with that plan and with how the run ended; each text is over a store that the
 -- controller held meanwhile, each perhaps over another one

@@ -1,14 +1,14 @@
 //! Prints the inventories of FRU devices.
 ghost use Rattle.std.specs.Prelude.{◌≡◌, ℕ, ◌+◌, ◌≤◌, ◌∷◌, [], None, Some, Err, IfErr, IfOk, OnOk, option_map, string_bytes, ◌++◌};
-ghost use Rattle.ipmi_commands.specs.Below.{Appends, AsksAtMost, LastFailed, NotPresent, LastFruCallSays, fru_call_bound, row_of_record, ReadsInventory, Seen, IsHonest, inventory_of, fru_of, printed_name, sdr_view_of};
+ghost use Rattle.ipmi_commands.specs.Below.{Appends, AsksAtMost, LastFailed, NotPresent, LastFruCallSays, fru_call_bound, ReadsInventory, Seen, IsHonest, inventory_of, fru_of, printed_name, sdr_view_of};
 ghost use Rattle.ipmi_commands.specs.declared.job.Form.{Form};
-ghost use Rattle.ipmi_commands.specs.Prelude.{LacksInventory, in_parentheses, is_absent, Finds, IsCountedDevice, IsElsewhereIn, is_faulty_device, IsInventoryIn, IsInventoryPiece, IsInventoryText, IsPieceOver, AtInventory, device_points, locator_points, NoneIsTrue, OfInventory, OfRow, shown, ShowsDevice, ShowsInventory, ShowsLocator};
+ghost use Rattle.ipmi_commands.specs.Prelude.{LacksInventory, in_parentheses, is_absent, Finds, FindsLocator, IsCountedDevice, IsElsewhereIn, is_faulty_device, IsInventoryIn, IsInventoryPiece, IsInventoryText, IsPieceOver, AtInventory, device_points, locator_points, NoneIsTrue, OfInventory, OfRow, shown, ShowsDevice, ShowsInventory, ShowsLocator};
 
 use crate::job::Wording;
 use crate::limits::RequestLimits;
 use crate::piece::Piece;
 use crate::read_error::ReadError;
-use ipmi_bus::{Code, Controller, FruEnded, Record, read_fru};
+use ipmi_bus::{Code, Controller, FruEnded, read_fru};
 use ipmi_fru::{FruView, elsewhere_line, fru_line, has_fault, push_fru};
 use ipmi_json::fru_elsewhere_line;
 use ipmi_records::{SdrView, push_name};
@@ -213,27 +213,25 @@ fn device_piece<C: Controller>(
     }
 }
 
-/// The text for a record in a listing of inventories: that of the device for a FRU device locator, empty for any
-/// other record.
+/// The text for a sensor data record in a listing of inventories: that of the device for a FRU device locator, empty
+/// for any other record.
 pub(crate) fn locator_piece<C: Controller>(
     alloc: Global,
     ctl: &mut C,
     limits: RequestLimits,
     wording: Wording<'_>,
-    lent: &Record<'_>,
+    bytes: &[u8],
 ) -> Result<Piece, ReadError>
     ensures calls { (C.seen ctl.new).calls ≤ (C.seen ctl.old).calls + fru_call_bound limits.tries
         65535 }
     ensures asked { AsksAtMost limits.part (C.seen ctl.old) (C.seen ctl.new) }
     ensures says { IfErr result (λ unread. LacksInventory unread (C.seen ctl.new)) }
-    ensures shows { IfOk result (λ piece. ShowsLocator wording.entry (sdr_view_of lent.now.bytes.now) (C.seen ctl.new)
+    ensures shows { IfOk result (λ piece. ShowsLocator wording.entry (sdr_view_of bytes.now) (C.seen ctl.new)
         (shown piece)) }
-    ensures honest { let row = row_of_record lent.now in IsHonest (C.seen ctl.old) →
-        Finds (λ store piece. IsPieceOver store (OfRow (Form.Device wording.entry) row) (shown piece))
-        (locator_points (sdr_view_of row.bytes)) limits.tries (C.seen ctl.old) (C.seen ctl.new)
-        result }
+    ensures honest { IsHonest (C.seen ctl.old) →
+        FindsLocator wording.entry bytes.now limits.tries (C.seen ctl.old) (C.seen ctl.new) result }
 {
-    let Ok(view) = SdrView::read(lent.bytes) else {
+    let Ok(view) = SdrView::read(bytes) else {
         return Ok(Piece::sound(Vec::new(alloc)));
     };
     match &view {

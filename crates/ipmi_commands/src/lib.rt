@@ -1,6 +1,7 @@
 //! Runs the commands of `ipmitool` over any controller or over a saved image.
 #![tactic(auto)]
 
+mod devices;
 mod info;
 mod inventory;
 mod job;

@@ -2,7 +2,7 @@
 ghost use Rattle.std.specs.Prelude.{◌≡◌, ◌≤◌, ◌+◌};
 ghost use Rattle.std.specs.FinSet as set;
 ghost use Rattle.ipmi_commands.specs.Below.{AsksAtMost, write_faults};
-ghost use Rattle.ipmi_commands.specs.Prelude.{change, ending_of, EndsListing, is_reached, Lists, printed, ReachesEnd, shelf_of};
+ghost use Rattle.ipmi_commands.specs.Prelude.{change, ending_of, EndsListing, is_reached, Lists, printed, ReachesEnd, shelf_of, WritesWhole};
 
 use crate::job::Form;
 use crate::limits::RequestLimits;
@@ -39,6 +39,7 @@ pub(crate) fn list_records<'a, C: Controller, O: Sink>(
     ensures faults { O.faults out.new ≡ O.faults out.old + write_faults (ending_of result) }
     ensures asked { AsksAtMost limits.part (C.seen ctl.old) (C.seen ctl.new) }
     ensures ends { EndsListing form.now (C.seen ctl.new) (ending_of result) }
+    ensures whole { WritesWhole form.now (O.taken out.old) (O.taken out.new) (ending_of result) }
     ensures reaches { ReachesEnd most cursor.new result }
     ensures lists { Lists form.now limits.tries most cursor.old cursor.new
         (change (C.seen ctl.old) (C.seen ctl.new) (printed (O.taken out.old) summary.old) (printed (O.taken out.new) summary.new)) result }

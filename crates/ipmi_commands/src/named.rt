@@ -1,17 +1,19 @@
 //! Lists events and FRU devices with names from the sensor data records.
 ghost use Rattle.std.specs.Prelude.{◌≡◌, ◌+◌};
-ghost use Rattle.ipmi_commands.specs.Below.{AsksAtMost, records_in, write_faults};
-ghost use Rattle.ipmi_commands.specs.Named.{end_after, ReadsRecords, walk_of};
+ghost use Rattle.ipmi_commands.specs.Below.{AsksAtMost, IsCount, records_in, write_faults};
+ghost use Rattle.ipmi_commands.specs.Named.{end_after, listed_end, ReadsRecords, walk_of};
 ghost use Rattle.ipmi_commands.specs.declared.job.Job.{Job};
-ghost use Rattle.ipmi_commands.specs.Prelude.{change, IsFrom, IsNamed, job_with, printed, Runs, RunsNamedInPages};
+ghost use Rattle.ipmi_commands.specs.Prelude.{change, entries_in, entries_job, IsFrom, IsNamed, printed, Runs, RunsNamedInPages};
 
+use crate::devices::print_devices;
 use crate::job::{Entries, Form, Listing, NameLookup, Wording};
 use crate::limits::RequestLimits;
 use crate::pages::{list_page, list_pages};
-use crate::perform::{list_entries, print_inventories};
+use crate::perform::list_entries;
 use crate::summary::Summary;
 use ipmi_bus::{Controller, Ended, Place};
-use ipmi_events::{Sensors, device_name};
+use ipmi_command_line::Count;
+use ipmi_events::Sensors;
 use ipmi_output::{Failure, Sink, Written};
 use std::alloc::Global;
 
@@ -37,6 +39,17 @@ impl RecordsEnd {
             RecordsEnd::Missing(id) => Err(Failure::NamesMissing(id)),
         }
     }
+
+    /// The end of a finished listing of these records themselves.
+    pub(crate) fn listed_end<'a>(self) -> Result<(), Failure<'a>>
+        ensures { result ≡ listed_end self }
+    {
+        match self {
+            RecordsEnd::Whole => Ok(()),
+            RecordsEnd::Cycle(id) => Err(Failure::Ended(Ended::Cycle(id))),
+            RecordsEnd::Missing(id) => Err(Failure::Ended(Ended::Missing(id))),
+        }
+    }
 }
 
 /// How the walk ended, from the result of listing the records into memory. A write fault of that listing means out of
@@ -53,34 +66,28 @@ fn walk_of<'a>(listed: Result<Place, Failure<'a>>) -> Result<RecordsEnd, Failure
     }
 }
 
-/// Lists with the names in these concatenated sensor data records, in this wording. Of the records it keeps a table with
-/// one slot for each possible sensor, or one name.
-fn list_with<'a, C: Controller, O: Sink>(
+/// Lists the entries that `count` selects, starting at the id `from` or at the first entry, in this wording, with the names
+/// in these concatenated sensor data records. Keeps a table with one slot for each possible sensor.
+fn list_events<'a, C: Controller, O: Sink>(
     alloc: Global,
     ctl: &mut C,
     limits: RequestLimits,
     wording: Wording<'a>,
     records: Vec<u8>,
-    named: NameLookup,
+    count: Count,
+    from: Option<u16>,
     out: &mut O,
     summary: &mut Summary,
 ) -> Result<(), Failure<'a>>
-    requires { IsNamed named }
+    requires count { IsCount count }
+    requires from { IsFrom from }
     ensures faults { O.faults out.new ≡ O.faults out.old + write_faults result }
     ensures asked { AsksAtMost limits.part (C.seen ctl.old) (C.seen ctl.new) }
-    ensures runs { Runs (job_with wording.entry (records_in records.items) named) limits.tries
+    ensures runs { Runs (entries_job (entries_in wording.entry (records_in records.items)) count from) limits.tries
         (change (C.seen ctl.old) (C.seen ctl.new) (printed (O.taken out.old) summary.old) (printed (O.taken out.new) summary.new)) result }
 {
-    match named {
-        NameLookup::Events(count, from) => {
-            let entries = Entries::of(wording, Sensors::of(alloc, records)?);
-            list_entries(alloc, ctl, limits, entries, count, from, out, summary)
-        }
-        NameLookup::Devices => {
-            let name = device_name(alloc, &records, 0)?;
-            print_inventories(alloc, ctl, limits, wording, name.as_deref(), out, summary)
-        }
-    }
+    let entries = Entries::of(wording, Sensors::of(alloc, records)?);
+    list_entries(alloc, ctl, limits, entries, count, from, out, summary)
 }
 
 /// Writes the bytes of all sensor data records to `records`. Returns how their walk ended.
@@ -129,17 +136,18 @@ pub(crate) fn list_named<'a, C: Controller, O: Sink>(
     let mut records = Written::new(Vec::new(alloc));
     let mut counted = Summary::new();
     let walked = read_records(alloc, ctl, limits, &mut records, &mut counted)?;
-    list_with(
-        alloc,
-        ctl,
-        limits,
-        wording,
-        records.into_inner(),
-        named,
-        out,
-        summary,
-    )?;
-    walked.end()
+    let records = records.into_inner();
+    match named {
+        NameLookup::Events(count, from) => {
+            list_events(
+                alloc, ctl, limits, wording, records, count, from, out, summary,
+            )?;
+            walked.end()
+        }
+        NameLookup::Devices => {
+            print_devices(alloc, ctl, limits, wording, &records, walked, out, summary)
+        }
+    }
 }
 
 /// Like [`list_named`], for all entries, in pages of these sizes and then in a page without a limit.

@@ -1,7 +1,7 @@
 //! Lists records in pages, each with a cursor of its own.
 ghost use Rattle.std.specs.Prelude.{◌≡◌, ◌≢◌, ◌+◌, ◌*◌, ◌≤◌, None, Some, IfOk};
 ghost use Rattle.ipmi_commands.specs.Below.{AsksAtMost, End, start_of, IsHonest, write_faults};
-ghost use Rattle.ipmi_commands.specs.Prelude.{ArePages, change, ending_of, EndsListing, IsFresh, IsFrom, IsPage, IsPlace, most_on_walk, pages_made, printed};
+ghost use Rattle.ipmi_commands.specs.Prelude.{ArePages, change, ending_of, EndsListing, IsFresh, IsFrom, IsPage, IsPlace, most_on_walk, pages_made, printed, WritesWhole};
 
 use crate::job::Form;
 use crate::limits::RequestLimits;
@@ -42,6 +42,7 @@ fn list_from<'a, C: Controller, O: Sink>(
     ensures faults { O.faults out.new ≡ O.faults out.old + write_faults (ending_of result) }
     ensures asked { AsksAtMost limits.part (C.seen ctl.old) (C.seen ctl.new) }
     ensures ends { EndsListing form.now (C.seen ctl.new) (ending_of result) }
+    ensures whole { WritesWhole form.now (O.taken out.old) (O.taken out.new) (ending_of result) }
     ensures place { IfOk result (λ next. IsPlace next) }
     ensures reaches { most ≡ None → IfOk result (λ next. next ≡ End) }
     ensures calls { (C.seen ctl.new).calls ≤ (C.seen ctl.old).calls + most_on_walk form.now
@@ -71,6 +72,7 @@ pub(crate) fn list_page<'a, C: Controller, O: Sink>(
     ensures faults { O.faults out.new ≡ O.faults out.old + write_faults (ending_of result) }
     ensures asked { AsksAtMost limits.part (C.seen ctl.old) (C.seen ctl.new) }
     ensures ends { EndsListing form.now (C.seen ctl.new) (ending_of result) }
+    ensures whole { WritesWhole form.now (O.taken out.old) (O.taken out.new) (ending_of result) }
     ensures place { IfOk result (λ next. IsPlace next) }
     ensures reaches { most ≡ None → IfOk result (λ next. next ≡ End) }
     ensures calls { (C.seen ctl.new).calls ≤ (C.seen ctl.old).calls + most_on_walk form.now

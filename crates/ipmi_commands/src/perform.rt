@@ -144,7 +144,7 @@ fn text_of<'a>(name: &Option<RecordName<'a>>) -> Option<&'a str>
 }
 
 /// Prints the inventory of one device with this name, in this wording.
-fn print_inventory<'a, C: Controller, O: Sink>(
+pub(crate) fn print_inventory<'a, C: Controller, O: Sink>(
     alloc: Global,
     ctl: &mut C,
     limits: RequestLimits,
@@ -165,7 +165,7 @@ fn print_inventory<'a, C: Controller, O: Sink>(
 }
 
 /// Prints all inventories, in this wording: that of device 0 with this name, then those of the locators.
-pub(crate) fn print_inventories<'a, C: Controller, O: Sink>(
+fn print_inventories<'a, C: Controller, O: Sink>(
     alloc: Global,
     ctl: &mut C,
     limits: RequestLimits,

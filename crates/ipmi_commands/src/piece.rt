@@ -315,7 +315,8 @@ pub(crate) fn row_text<C: Controller>(
             Ok(RowText::Own(Piece::sound(block)))
         }
         Form::Device(wording) => {
-            Ok(RowText::Own(locator_piece(alloc, ctl, limits, *wording, lent)?))
+            let device = locator_piece(alloc, ctl, limits, *wording, lent.bytes)?;
+            Ok(RowText::Own(device))
         }
         Form::EntryLine(entries) => {
             let entry = SelView::read(entry_bytes(lent.bytes));

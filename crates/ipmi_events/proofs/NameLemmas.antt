@@ -1,5 +1,5 @@
 -- Appending names and their suffixes; finding locators among records.
-use Rattle.std.proofs.Common.{◌≡◌, ◌∙◌, ℕ, ◌+◌, ◌-◌, None, Option, Some, List, [], ◌∷◌, ◌++◌, length, take, drop, take_all, filter_map, append_assoc, append-nil, length-append, codes, nat_eq, refl, sym, ap, arith}
+use Rattle.std.proofs.Common.{◌≡◌, ◌∙◌, ℕ, ◌+◌, ◌-◌, ◌<◌, None, Option, Some, List, [], ◌∷◌, ◌++◌, length, take, drop, take_all, filter_map, append_assoc, append-nil, length-append, codes, nat_eq, refl, sym, ap, arith}
 use Rattle.std.specs.List.{ends_with, find}
 use Rattle.std.specs.Option.{option_or}
 use Rattle.std.proofs.Math.Seq.{drop-append-add}
@@ -9,7 +9,7 @@ use Rattle.std.proofs.lemmas.List.Folds.{find-append}
 use Rattle.ipmi_records.specs.declared.sdr.SdrView.{SdrView}
 use Rattle.ipmi_events.specs.Name.{followed_by, locates, locator_for, suffix_text}
 use Rattle.ipmi_events.specs.Sensors.{first_record, records_in, view_of}
-use Rattle.ipmi_events.proofs.RecordLemmas.{last_record, next_record}
+use Rattle.ipmi_events.proofs.RecordLemmas.{len_of_first, next_record}
 
 -- what comes before a name does not change how it ends
 ends_alike : (old : List ℕ) (c : ℕ) (name : List ℕ)
@@ -32,29 +32,34 @@ followed_some old text [] suffix new is differs new_is = absurd (differs (ap len
 followed_some old text (c ∷ name) suffix new is differs new_is =
     new_is ∙ rw (is, suffix_alike old c name suffix) (append_assoc old (c ∷ name) (suffix_text (c ∷ name) suffix))
 
+-- ---- the first record, and those after it
+
+pub split_first : (bytes first : List ℕ) → Some first ≡ first_record bytes
+    → let after = take (length bytes - length first) (drop (length first) bytes) in
+    (records_in bytes ≡ first ∷ records_in after) × (length after < length bytes)
+split_first bytes first is =
+    let len = len_of_first bytes first (sym is) in
+    let all = take_all (length bytes - length first) (drop (length first) bytes) (omega (arith, length-drop (length first) bytes)) in
+    rw all (next_record bytes first (sym is), omega (arith, len, length-drop (length first) bytes))
+
 -- the first record is the locator, or the locator is among the later records
-locator_for-next : (id : ℕ) (bytes first : List ℕ) → Some first ≡ first_record bytes
-    → locator_for id (records_in bytes)
-    ≡ option_or (locator_for id (first ∷ [])) (locator_for id (records_in (drop (length first) bytes)))
-locator_for-next id bytes first is =
-    let rest = records_in (drop (length first) bytes) in
-    ap (locator_for id) (next_record bytes first (sym is))
-    ∙ (ap (find (locates id)) (filter_map-append view_of (first ∷ []) rest)
-    ∙ find-append (locates id) (filter_map view_of (first ∷ [])) (filter_map view_of rest))
+module _ (id : ℕ) (bytes first after : List ℕ) (is : records_in bytes ≡ first ∷ records_in after) where
+  locator_for-next : locator_for id (records_in bytes)
+      ≡ option_or (locator_for id (first ∷ [])) (locator_for id (records_in after))
+  locator_for-next =
+      let rest = records_in after in
+      ap (locator_for id) is
+      ∙ (ap (find (locates id)) (filter_map-append view_of (first ∷ []) rest)
+      ∙ find-append (locates id) (filter_map view_of (first ∷ [])) (filter_map view_of rest))
 
-pub locator_is_first : (id : ℕ) (bytes first : List ℕ) (view : SdrView)
-    → Some first ≡ first_record bytes → Some view ≡ locator_for id (first ∷ [])
-    → Some view ≡ locator_for id (records_in bytes)
-locator_is_first id bytes first view is found = rw (locator_for-next id bytes first is, ← found) refl
+  pub locator_is_first : (view : SdrView) → Some view ≡ locator_for id (first ∷ [])
+      → Some view ≡ locator_for id (records_in bytes)
+  locator_is_first view found = rw (locator_for-next, ← found) refl
 
-pub locator_is_later : (id : ℕ) (bytes first : List ℕ)
-    → Some first ≡ first_record bytes → None ≡ locator_for id (first ∷ [])
-    → locator_for id (records_in (take (length bytes - length first) (drop (length first) bytes)))
-    ≡ locator_for id (records_in bytes)
-locator_is_later id bytes first is none =
-    rw (locator_for-next id bytes first is, ← none)
-    (ap (λ (l : List ℕ). locator_for id (records_in l)) (take_all (length bytes - length first) (drop (length first) bytes) (omega (arith, length-drop (length first) bytes))))
+  pub locator_is_later : None ≡ locator_for id (first ∷ [])
+      → locator_for id (records_in after) ≡ locator_for id (records_in bytes)
+  locator_is_later none = rw (locator_for-next, ← none) refl
 
-pub locator_for-none : (id : ℕ) (bytes : List ℕ) → None ≡ first_record bytes
+pub locator_for-none : (id : ℕ) (bytes : List ℕ) → records_in bytes ≡ []
     → None ≡ locator_for id (records_in bytes)
-locator_for-none id bytes none = rw (last_record bytes (sym none)) refl
+locator_for-none id bytes none = rw none refl

@@ -27,7 +27,7 @@ mod words;
 pub use details::push_details;
 pub use entities::EntityWords;
 pub use event_lines::{event_line, record_for};
-pub use name::{device_name, push_sensor_name};
+pub use name::{device_name, push_sensor_name, split_record};
 pub use sensor_blocks::sensor_block;
 pub use sensor_lines::sensor_line;
 pub use sensors::Sensors;

@@ -1,5 +1,5 @@
 //! The names of sensors, including sensors that share a record, and of FRU devices (IPMI v2.0, section 43).
-ghost use Rattle.std.specs.Prelude.{◌≡◌, ◌<◌, ◌++◌, ◌∷◌, [], IfOk, OnOk, option_map, string_bytes};
+ghost use Rattle.std.specs.Prelude.{◌≡◌, ◌<◌, ◌++◌, ◌∷◌, [], IfOk, length, MatchOption, OnOk, option_map, string_bytes};
 ghost use Rattle.ipmi_records.specs.Prelude.{sensor_of, sharing_of};
 ghost use Rattle.ipmi_events.specs.Name.{device_name, letter, letters, locator_for, modifier_text, sensor_name, space_after, suffix_of, suffix_text};
 ghost use Rattle.ipmi_events.specs.Sensors.{records_in};
@@ -113,16 +113,26 @@ fn locator_in(bytes: &[u8], id: u8) -> Option<SdrView<'_>>
     }
 }
 
+/// The first of these concatenated sensor data records, each as long as its header says, and the bytes after it. None if
+/// no whole record is left.
+pub fn split_record(records: &[u8]) -> Option<(&[u8], &[u8])>
+    ensures { MatchOption result (records_in records.now ≡ []) (λ split.
+        (records_in records.now ≡ split.0.now ∷ records_in split.1.now) × (length split.1.now < length records.now)) }
+{
+    let first = first_record(records)?;
+    Some((first, &records[first.len()..]))
+}
+
 /// The first of these concatenated records that is a locator of this FRU device.
 fn locator_for(records: &[u8], id: u8) -> Option<SdrView<'_>>
     ensures { result ≡ locator_for id (records_in records.now) }
 {
     let mut rest = records;
-    'records: while let Some(bytes) = first_record(rest) {
+    'records: while let Some((bytes, after)) = split_record(rest) {
         if let Some(locator) = locator_in(bytes, id) {
             return Some(locator);
         }
-        rest = &rest[bytes.len()..];
+        rest = after;
     }
     None
 }

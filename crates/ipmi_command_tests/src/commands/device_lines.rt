@@ -20,30 +20,30 @@ fn assert_outputs_in_words(rt: &impl Abort, alloc: Global, cases: &str) {
 
 /// `words|image|moods`, then the outcome.
 const LINES: &str = "fru|inventories|
-0 16
+0 10
 --
 0 | - | present | - | - | -
 1 | PSU1 | faulty | - | - | -
 ====
 fru|products|
-0 15
+0 10
 --
 0 | AB | present | - | PQ | SX
 1 | PSU1 | present | CD | - | -
 ====
 fru|one inventory|
-0 15
+0 9
 --
 0 | - | present | - | - | -
 1 | PSU1 | not present | - | - | -
 ====
 fru|empty|
-0 5
+0 3
 --
 0 | - | not present | - | - | -
 ====
 fru|elsewhere in three ways|
-0 15
+0 8
 --
 0 | - | not present | - | - | -
 - | AB | elsewhere | - | - | -
@@ -51,7 +51,7 @@ fru|elsewhere in three ways|
 - | EF | elsewhere | - | - | -
 ====
 fru|locators of each sort|
-0 29
+0 17
 --
 0 | AB | present | - | - | -
 - | CD | elsewhere | - | - | -
@@ -59,14 +59,14 @@ fru|locators of each sort|
 255 | EF | not present | - | - | -
 ====
 fru|two names of device 0|
-0 18
+0 10
 --
 0 | CD | faulty | - | - | -
 - | AB | elsewhere | - | - | -
 ";
 
-// A walk of the records for the name of device 0, from its first locator, and then the calls of the inventories. Device 0
-// is not printed again at its locators.
+// One walk of the records, and then the calls of the inventories. Device 0 has its name from its first locator, and is not
+// printed again at its locators.
 #[test]
 fn each_device_has_a_line(rt: HostRuntime) {
     assert_outputs_in_words(&rt, rt.alloc(), LINES);
@@ -74,14 +74,14 @@ fn each_device_has_a_line(rt: HostRuntime) {
 
 /// `words|image|moods`, then the outcome.
 const ENDED: &str = "fru|locator to nowhere|
-1 11
+1 7
 record 0009h not present
 --
 0 | - | not present | - | - | -
 1 | PSU1 | faulty | - | - | -
 ====
 fru|cycle|
-1 7
+1 4
 cycle at 0007h
 --
 0 | - | not present | - | - | -
@@ -101,14 +101,14 @@ fru|two locators|.....R
 fru 0 refused with code D4h
 --
 ====
-fru|two locators|..........R
-1 11
+fru|two locators|.......R
+1 8
 fru 1 refused with code D4h
 --
 0 | - | present | - | - | -
 ====
---tries 1 fru|two locators|..........BB
-1 12
+--tries 1 fru|two locators|.......BB
+1 9
 fru 1 gave up
 --
 0 | - | present | - | - | -

@@ -132,7 +132,7 @@ fn entries_have_an_object_with_the_name_of_the_sensor(rt: HostRuntime) {
 
 /// `words|image|moods`, then the outcome.
 const DEVICES: &str = r#"fru print|devices|
-0 13
+0 8
 --
 {"object":"fru","fru_device_id":0,"name":null,"state":"faulty","fault":"header_short","chassis":null,"chassis_fault":null,"board":null,"board_fault":null,"product":null,"product_fault":null,"records":null,"records_fault":null,"size":1,"raw":"00","host":"web 17"}
 {"object":"fru","fru_device_id":1,"name":"PSU1","state":"not_present","fault":null,"chassis":null,"chassis_fault":null,"board":null,"board_fault":null,"product":null,"product_fault":null,"records":null,"records_fault":null,"size":null,"raw":null,"host":"web 17"}

@@ -1,11 +1,12 @@
-use Rattle.std.proofs.Common.{inl, inr, refl, rules, ◌++◌, List, ℕ, Ok, ◌∙◌, ap, sym, arith}
-use Rattle.ipmi_commands.specs.Below.{row_of_record}
+use Rattle.std.proofs.Common.{inl, inr, refl, rules, ◌++◌, List, ℕ, Err, Ok, ◌∙◌, ap, sym, arith}
+use Rattle.ipmi_commands.specs.Below.{Failure, row_of_record}
 use Rattle.ipmi_commands.specs.Prelude.{printed}
 use Rattle.ipmi_commands.proofs.AskLemmas.{end_ends, reaches_end, step_ends_listing, unread_ends, unread_reaches}
 use Rattle.ipmi_commands.proofs.CallLemmas.{at_limit, len-next_ids}
 use Rattle.ipmi_commands.proofs.ListingLemmas.{listing_cut, listing_done, listing_ended, listing_full, listing_more, listing_none}
 use Rattle.ipmi_commands.proofs.OutputLemmas.{counted_more}
 use Rattle.ipmi_commands.proofs.TraceLemmas.{traced_none}
+use Rattle.ipmi_commands.proofs.WholeLemmas.{writes_more, writes_none, writes_whole}
 use Rattle.ipmi_commands.proofs.listing.list_records.Goals as goal
 
 pub returns-then-is_reached-clause-lists : goal.returns-then-is_reached-clause-lists
@@ -56,6 +57,7 @@ records-preserved g c =
       rw (c.is_empty.ensures, c.bytes-bytes.ensures) (listing_more c.records.invariant.2 (sym c.is_reached.ensures ∙ c.if-is_reached.false) step c.row_text.ensures.calls
           _ _ c.in-Ok.ensures.honest _ (counted_more _ _ _ _ _ _ _ _ (wrote.0 ∙ ap (λ (l : List ℕ). g.O.Sink.taken c.records.out ++ l) c.bytes-bytes.ensures)
           (rw c.bytes-bytes.ensures at c.add.ensures.pieces) (rw (c.bytes-bytes.ensures, c.has_fault.ensures) at c.add.ensures.faults))),
+      writes_more c.args.form.now c.records.count _ _ _ _ (row_of_record c.in-Ok-Some.record) _ _ c.records.invariant.3 (search rules) c.in-Ok.ensures.shows c.bytes-bytes.ensures wrote.0,
     )
 
 pub returns-then-is_reached-clause-ends : goal.returns-then-is_reached-clause-ends
@@ -81,6 +83,7 @@ records-init g c = (
       tracing = traced_none c.args.form.now c.args.cursor.now (g.C.Controller.seen c.args.ctl.now) (printed (g.O.Sink.taken c.args.out.now) c.args.summary.now) h;
     };
   },
+  writes_none c.args.form.now (g.O.Sink.taken c.args.out.now),
 )
 
 pub returns-then-is_reached-clause-reaches : goal.returns-then-is_reached-clause-reaches
@@ -97,3 +100,15 @@ returns-in-Err-row_text-clause-reaches g c = rw c.from.ensures (unread_reaches c
 
 pub returns-in-Err-clause-reaches : goal.returns-in-Err-clause-reaches
 returns-in-Err-clause-reaches g c = tt
+
+pub returns-then-is_reached-clause-whole : goal.returns-then-is_reached-clause-whole
+returns-then-is_reached-clause-whole g c = writes_whole c.args.form.now c.records.count _ _ _ c.records.invariant.2.called c.records.invariant.3
+
+pub returns-in-Ok-None-clause-whole : goal.returns-in-Ok-None-clause-whole
+returns-in-Ok-None-clause-whole g c = writes_whole c.args.form.now c.records.count _ _ _ c.records.invariant.2.called c.records.invariant.3
+
+pub returns-in-Err-clause-whole : goal.returns-in-Err-clause-whole
+returns-in-Err-clause-whole g c = writes_whole c.args.form.now c.records.count _ _ (Err (Failure.Ended c.in-Err.ended)) c.records.invariant.2.called c.records.invariant.3
+
+pub returns-in-Err-row_text-clause-whole : goal.returns-in-Err-row_text-clause-whole
+returns-in-Err-row_text-clause-whole g c = writes_whole c.args.form.now c.records.count _ _ (Err c.from.result) c.records.invariant.2.called c.records.invariant.3

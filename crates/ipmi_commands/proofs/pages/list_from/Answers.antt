@@ -2,6 +2,8 @@ use Rattle.std.proofs.Common.{Ok, Err}
 use Rattle.ipmi_commands.proofs.AskLemmas.{passed}
 use Rattle.ipmi_commands.proofs.ListingLemmas.{fresh_room}
 use Rattle.ipmi_commands.proofs.PageLemmas.{page_by_cursor, page_without_memory}
+use Rattle.ipmi_commands.proofs.WholeLemmas.{whole_none}
+use Rattle.ipmi_commands.specs.Prelude.{ending_of}
 use Rattle.ipmi_commands.proofs.pages.list_from.Goals as goal
 
 pub returns-in_err-cursor-clause-honest : goal.returns-in_err-cursor-clause-honest
@@ -16,3 +18,6 @@ returns-in_err-list_records-clause-honest g c = λ some h.
 
 pub returns-clause-honest : goal.returns-clause-honest
 returns-clause-honest g c = λ some h. rw c.resume_at.ensures (page_by_cursor (Ok _) c.in_ok-cursor.ensures some h (c.in_ok-list_records.ensures.lists.honest h))
+
+pub returns-in_err-cursor-clause-whole : goal.returns-in_err-cursor-clause-whole
+returns-in_err-cursor-clause-whole g c = whole_none c.args.form.now _ (ending_of c.from_residual.result)

@@ -1,0 +1,17 @@
+use Rattle.std.proofs.Common.{rules}
+use Rattle.ipmi_commands.proofs.AskLemmas.{passed}
+use Rattle.ipmi_commands.proofs.DeviceLemmas.{devices_printed, devices_stopped, devices_without_memory}
+use Rattle.ipmi_commands.proofs.devices.print_devices.Goals as goal
+
+pub returns-in_err-name-clause-honest : goal.returns-in_err-name-clause-honest
+returns-in_err-name-clause-honest g c = λ h.
+    rw (passed _ _ c.from_residual.ensures.1) (devices_without_memory c.args.wording c.args.walked c.args.limits.tries _ _ _ h)
+
+pub returns-in_err-print_inventory-clause-honest : goal.returns-in_err-print_inventory-clause-honest
+returns-in_err-print_inventory-clause-honest g c = λ h.
+    rw (passed _ _ c.from_residual-in_err-print_inventory.ensures.1)
+    (devices_stopped c.args.wording c.args.walked c.args.limits.tries _ _ (search rules) _ _ _ _ _ h c.in_err-print_inventory.ensures.runs)
+
+pub returns-clause-honest : goal.returns-clause-honest
+returns-clause-honest g c = λ h.
+    devices_printed c.args.wording c.args.walked c.args.limits.tries _ _ (search rules) _ _ _ _ _ _ _ h c.in_ok-print_inventory.ensures.runs c.print_located.ensures.honest

@@ -1,0 +1,24 @@
+use Rattle.std.proofs.Common.{arith}
+use Rattle.ipmi_commands.specs.Below.{fru_call_bound}
+use Rattle.ipmi_commands.proofs.DeviceLemmas.{fewer_calls, leads_no_further, leads_on, leads_to_end}
+use Rattle.ipmi_commands.proofs.devices.print_located.Goals as goal
+
+pub records-preserved : goal.records-preserved
+records-preserved g c = (
+  omega (arith, c.records.invariant.0, c.in-Ok.ensures.faults),
+  omega (arith, c.records.invariant.1, c.print_locator.ensures.asked),
+  fewer_calls _ _ c.in-Some.bytes.now (fru_call_bound c.args.limits.tries 65535) _ _ _ c.in-Some.ensures.0 c.records.invariant.2 c.print_locator.ensures.calls,
+  λ h.
+      let before = c.records.invariant.3 h in
+      leads_on c.args.wording c.args.walked c.args.limits.tries c.in-Some.bytes.now _ c.in-Some.ensures.0 before.1 (c.in-Ok.ensures.honest before.0),
+)
+
+pub returns-in-Err-clause-honest : goal.returns-in-Err-clause-honest
+returns-in-Err-clause-honest g c = λ h.
+    let before = c.records.invariant.3 h in
+    leads_no_further c.args.wording c.args.walked c.args.limits.tries c.in-Some.bytes.now _ c.in-Err.failure c.in-Some.ensures.0 before.1 (c.in-Err.ensures.honest before.0)
+
+pub returns-clause-honest : goal.returns-clause-honest
+returns-clause-honest g c = λ h.
+    let before = c.records.invariant.3 h in
+    rw c.listed_end.ensures (leads_to_end c.args.wording c.args.walked c.args.limits.tries c.in_default.ensures before.0 before.1)
