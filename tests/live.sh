@@ -83,8 +83,8 @@ for dialect in --ipmitool --freeipmi; do
   same $dialect sdr list
   same $dialect sel list
 
-  # the fourth request is for the second record
-  TOOL_TROUBLES='refuse=d4,4'
+  # the third request is for the second record
+  TOOL_TROUBLES='refuse=d4,3'
   says 1 'record 0002h refused with code D4h' $dialect -- --part 254 sdr hex
   if [ "$(cat "$work/out")" != "$("$SERDIMKO" --image "$TOOL_IMAGE" sdr hex | head -n 1)" ]; then
     fault "$dialect, refused: $(cat "$work/out")"
@@ -127,6 +127,31 @@ for dialect in --ipmitool --freeipmi; do
 done
 TOOL_TROUBLES=
 
+# With the records of an image, a listing of sensors takes a request for the info and one for each of the 46 readings. An image with
+# another time of the last erasure is not used, which is said. A file that is no image ends the run before the first request.
+sed 's/^\(info sdr .\{20\}\)f1/\1f2/' "$TOOL_IMAGE" > "$work/older"
+for dialect in --ipmitool --freeipmi; do
+  # ipmitool also sends a Get Device ID on each of the three units
+  opening=0
+  if [ $dialect = --ipmitool ]; then opening=3; fi
+  for command in sensor 'sdr elist' 'sel elist last 5' 'fru list' 'sdr list --json'; do
+    # shellcheck disable=SC2086  # the words of a command
+    "$SERDIMKO" --image "$TOOL_IMAGE" $command > "$work/wanted"
+    # shellcheck disable=SC2086
+    live $dialect -- --records "$TOOL_IMAGE" $command
+    if [ "$status" -ne 0 ] || ! cmp -s "$work/wanted" "$work/out"; then fault "$dialect --records $command: $status, $(cat "$work/err")"; fi
+  done
+  : > "$TOOL_LOG"
+  live $dialect -- --records "$TOOL_IMAGE" sensor
+  sent=$(wc -l < "$TOOL_LOG")
+  if [ "$sent" -ne $((opening + 47)) ]; then fault "$dialect --records: $sent requests"; fi
+  says 0 "$work/older: its info is not that of the controller, whose sensor data records are read" $dialect -- --records "$work/older" sdr hex
+  "$SERDIMKO" --image "$TOOL_IMAGE" sdr hex | cmp -s - "$work/out" || fault "$dialect --records, an older image: differs"
+  : > "$TOOL_LOG"
+  says 3 "cannot read $work/none: no such file" $dialect -- --records "$work/none" sdr hex
+  if [ -s "$TOOL_LOG" ]; then fault "$dialect --records, no file: sent $(cat "$TOOL_LOG")"; fi
+done
+
 # A warning of ipmitool as it opens its session is not taken for a reply.
 TOOL_TROUBLES=$'warn=Unable to Get Channel Cipher Suites\n'
 same --ipmitool sdr list
@@ -146,7 +171,7 @@ captured() {
   cmp -s "$work/one" "$work/other" || fault "$what: the image differs: $(cat "$work/message" "$work/err") $(diff "$work/one" "$work/other" | head -n 3)"
 }
 for dialect in --ipmitool --freeipmi; do
-  for TOOL_TROUBLES in '' 'cancel=13|grant=7' 'most=9' 'busy=150' 'silent=150' 'unreserved=1'; do
+  for TOOL_TROUBLES in '' 'cancel=13|grant=7' 'most=9' 'busy=50' 'silent=50' 'unreserved=1'; do
     live $dialect -- capture
     if [ "$status" -ne 0 ]; then fault "$dialect capture ($TOOL_TROUBLES): status $status"; fi
     captured "$dialect capture ($TOOL_TROUBLES)" "$work/out"
@@ -157,7 +182,7 @@ for dialect in --ipmitool --freeipmi; do
   if [ "$status" -ne 0 ] || [ -s "$work/out" ]; then fault "$dialect capture -o: status $status"; fi
   captured "$dialect capture -o" "$work/saved"
   echo before > "$work/saved"
-  for TOOL_TROUBLES in 'refuse=ff,5' 'die=9' 'garbage=200' 'cut=100'; do
+  for TOOL_TROUBLES in 'refuse=ff,5' 'die=9' 'garbage=130' 'cut=100'; do
     live $dialect -- capture -o "$work/saved"
     if [ "$status" -ne 1 ] || [ "$(cat "$work/saved")" != before ] || [ -e "$work/saved.part" ]; then
       fault "$dialect capture -o ($TOOL_TROUBLES): status $status, $(head -n 1 "$work/saved")"
@@ -178,6 +203,11 @@ says 2 "--strict does not go with 'capture'" -- --strict capture
 says 2 "unexpected word 'all' with 'capture'" -- capture all
 says 2 "--output does not go with 'sdr'" -- -o x sdr
 
+# A listing of sensors makes a request for a reservation, one for each of the 56 records, and one for each of the 46 readings.
+: > "$TOOL_LOG"
+live --freeipmi -- sensor
+if [ "$(wc -l < "$TOOL_LOG")" -ne 103 ]; then fault "sensor: $(wc -l < "$TOOL_LOG") requests"; fi
+
 # ipmitool has one session for each unit used.
 : > "$TOOL_LOG"
 live --ipmitool -- sdr list all
@@ -197,6 +227,17 @@ if [ "$status" -ne 0 ]; then fault "sensor get: status $status, $(cat "$work/err
 if [ "$(wc -l < "$TOOL_LOG")" -gt "$requests" ]; then fault "sensor get: $(wc -l < "$TOOL_LOG") requests, and $requests of all sensors"; fi
 "$SERDIMKO" --image "$TOOL_IMAGE" sensor get "${names[@]}" > "$work/other"
 cmp -s "$work/out" "$work/other" || fault 'sensor get: the blocks differ from those of the image'
+
+# The last events take one walk, as all events do.
+for command in list elist; do
+  : > "$TOOL_LOG"
+  live --freeipmi -- sel $command
+  requests=$(wc -l < "$TOOL_LOG")
+  : > "$TOOL_LOG"
+  live --freeipmi -- sel $command last 5
+  asked=$(wc -l < "$TOOL_LOG")
+  if [ "$status" -ne 0 ] || [ "$asked" -ne "$requests" ]; then fault "sel $command last 5: status $status, $asked requests, and $requests of all events"; fi
+done
 
 # A wrong command line starts no session, and is reported.
 says 2 "unknown command 'srd': did you mean 'sdr'?" -- srd

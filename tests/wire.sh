@@ -21,7 +21,7 @@ printf 'ipmi-image 1\nsdr 0001 - 010051c001aa\nend\n' > "$TOOL_IMAGE"
 run() {
   local folder=$work/$1.$2
   mkdir -p "$folder/sent"
-  TOOL_SENT=$folder/sent TOOL_TROUBLES=$2 timeout 60 scripts/live "--$1" -- --part 254 sdr hex > "$folder/out" 2> "$folder/err"
+  TOOL_SENT=$folder/sent TOOL_TROUBLES=$2 timeout 60 scripts/live "--$1" -- --part 5 sdr hex > "$folder/out" 2> "$folder/err"
   echo $? > "$folder/status"
 }
 export -f run
@@ -56,7 +56,7 @@ def sent(folder):
     return b"|".join(open(file.path, "rb").read() for file in os.scandir(os.path.join(work, folder, "sent")))
 
 
-# Get Device ID, Reserve SDR Repository, and Get SDR of the header and then of the byte after it
+# Get Device ID, Reserve SDR Repository, and Get SDR of five bytes and then of the byte after them
 dialogues = {
     "ipmitool": b"raw 0x06 0x01\necho .\nraw 0x0a 0x22\necho .\nraw 0x0a 0x23 0x01 0x00 0x00 0x00 0x00 0x05\necho .\n"
     b"raw 0x0a 0x23 0x01 0x00 0x00 0x00 0x05 0x01\necho .\n",

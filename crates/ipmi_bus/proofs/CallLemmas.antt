@@ -15,15 +15,15 @@ rows-kept shelf s s' n keeps store now = elim (cases_lt s.stores_added s'.stores
       λ m row found. (row, rw same found, record { id = refl; bytes = refl })
 ]
 
--- a call without a result keeps the bytes read so far; the part size and the number of troubles may change
-pub reading_kept : (r : Retrieval) (s s' : Seen) (part troubles : ℕ)
+-- a call without a result keeps the bytes read so far; the part size, reading ahead and the number of troubles may change
+pub reading_kept : (r : Retrieval) (s s' : Seen) (part : ℕ) (ahead : Bool) (troubles : ℕ)
     → MayLoseReservation r.shelf s s' → KeepsStore s s' → (0 < r.have → IsSome r.reservation)
-    → IsReading r s → IsReading (record r { part = part; troubles = troubles }) s'
-reading_kept r s s' part troubles keeps store reserved reading = record { piece = λ some now. at r.reservation refl (reserved some) some now }
+    → IsReading r s → IsReading (record r { part = part; ahead = ahead; troubles = troubles }) s'
+reading_kept r s s' part ahead troubles keeps store reserved reading = record { piece = λ some now. at r.reservation refl (reserved some) some now }
   where
     at : (o : Option ℕ) → r.reservation ≡ o → IsSome o → 0 < r.have
         → current r.shelf s' ≡ r.reservation
-        → (row : Row) × HasBytes (record r { part = part; troubles = troubles }) s' row
+        → (row : Row) × HasBytes (record r { part = part; ahead = ahead; troubles = troubles }) s' row
     at None is h some now = cc h
     at (Some n) is h some now =
         let held : current r.shelf s' ≡ Some n = now ∙ is in
@@ -35,7 +35,7 @@ after_reading : (is_cancelled : Bool) (r : Retrieval) (s s' : Seen)
     → MayLoseReservation r.shelf s s' → KeepsStore s s' → (0 < r.have → IsSome r.reservation)
     → IsReading r s → IsReading (after_trouble is_cancelled r) s'
 after_reading true r s s' keeps store reserved reading = record { piece = λ some now. absurd (omega arith) }
-after_reading false r s s' keeps store reserved reading = reading_kept r s s' r.part (r.troubles + 1) keeps store reserved reading
+after_reading false r s s' keeps store reserved reading = reading_kept r s s' r.part r.ahead (r.troubles + 1) keeps store reserved reading
 
 after_have : (is_cancelled : Bool) (r : Retrieval) → (after_trouble is_cancelled r).have ≤ r.have
 after_have is_cancelled r = grind arith
@@ -112,7 +112,7 @@ module _ (start old : Retrieval) (s s' s'' : Seen) (same : SameRequest start old
         keeps = λ some e. let held = (since.keeps some (omega (arith, quiet.troubles))).held in cc (held, none, some);
         met = search arith;
         fresh_troubles = quiet.fresh_troubles ∙ since.fresh_troubles;
-        plain = λ p holds. record { holds = record { held = λ m e. answers.gives.1 ∙ e }; part = (since.plain p holds).part };
+        plain = λ p holds. record { holds = record { held = λ m e. answers.gives.1 ∙ e }; part = (since.plain p holds).part; ahead = (since.plain p holds).ahead };
         within = λ e. since.within (first e);
       }
 

@@ -1,9 +1,9 @@
 -- The record that a cursor returns is the row that it requested.
-use Rattle.std.proofs.Common.{◌≡◌, ℕ, ◌+◌, ◌*◌, ◌<◌, ◌≤◌, false, nat_eq, None, Some, IfSome, IsSome, List, length, take, get_or, inl, inr, refl, sym, ◌∙◌, arith, nat_cmp, take_all, get_or-take, length-take}
+use Rattle.std.proofs.Common.{◌≡◌, ℕ, ◌+◌, ◌*◌, ◌<◌, ◌≤◌, Bool, false, nat_eq, None, Some, IfSome, IsSome, List, length, take, get_or, inl, inr, refl, sym, ◌∙◌, arith, nat_cmp, take_all, get_or-take, length-take}
 use Rattle.std.specs.FinSet as set
 use Rattle.std.specs.FinSet.{contains-empty, len-empty}
 use Rattle.std.proofs.lemmas.Bool.Decides.{nat_tests}
-use Rattle.ipmi_bus.specs.Prelude.{Shelf, Place, First, Id, End, Retrieval, Handed, Progress, Row, IsShelf, id_in, whole_len, largest_len, look, first_row, place_after, rows_of, store_shelf, Seen, IsHonest, wanted_len, handed_id, IsAsked, cycle_at, asked_at, HandsOut, CursorState, IsCursor}
+use Rattle.ipmi_bus.specs.Prelude.{Shelf, Place, First, Id, End, Retrieval, Handed, Progress, Row, IsShelf, id_in, whole_len, largest_len, look, first_row, place_after, rows_of, store_shelf, Seen, IsHonest, wanted_len, handed_id, IsAsked, cycle_at, asked_at, HandsOut, CursorState, IsCursor, asked_to, begun, first_len, FirstAsks, ReadFirstAsks, state_of}
 use Rattle.ipmi_bus.specs.Retrieval.{HasRead}
 use Rattle.ipmi_bus.proofs.PartLemmas.{get_or-read}
 use Rattle.ipmi_bus.proofs.WalkLemmas.{id-row_at}
@@ -98,6 +98,16 @@ hands_out old new asked r row is asks first place ids at_most next shelf room so
       next = next;
       reserved = reserved;
     }
+
+-- the first request for a record
+first_is : (ahead : Bool) (shelf : Shelf) (buffer : List ℕ) → asked_to ahead shelf 0 buffer ≡ first_len ahead shelf
+first_is ahead shelf buffer = grind arith
+
+pub first_asks : (p : Progress) (id : ℕ) (s s' : Seen) → ReadFirstAsks (begun p.retrieval id) s s'
+    → FirstAsks (state_of p) s s'
+first_asks p id s s' first some one =
+    let is = first_is p.retrieval.ahead p.retrieval.shelf p.retrieval.buffer in
+    omega (arith, first some one, is)
 
 -- a cursor stays one if its part size does not grow
 pub is_cursor-after : (old new : Progress) → IsCursor old → 0 < new.retrieval.part

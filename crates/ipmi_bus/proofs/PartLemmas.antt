@@ -2,8 +2,8 @@
 use Rattle.std.proofs.Common.{◌≡◌, ℕ, ◌+◌, ◌<◌, ◌≤◌, Bool, true, false, nat_eq, Option, None, Some, Result, Ok, Err, List, length, take, drop, get_or, slice_range, refl, sym, ap, subst, ◌∙◌, inl, inr, arith, IsTrue, IsSome, ne_eqb, get_or-take, take-take, take-add, MatchOption, IsOk}
 use Rattle.std.proofs.lemmas.Bool.{cases_lt}
 use Rattle.std.proofs.lemmas.Bool.Decides.{nat_tests}
-use Rattle.ipmi_bus.specs.Prelude.{Shelf, Code, CodeClass, Cancelled, Busy, SmallerPart, NotPresent, Refusal, Part, Ended, Stalled, Malformed, CallOutcome, Again, Over, Whole, Absent, Retrieval, Row, IsRow, look, whole_len, len_of, largest_len, rows_of, store_shelf, Seen, stays_trans, IsHonest, StaysHonest, MayLoseReservation, IsQuiet, IsFinished, current, CountsPiece, FailsWith, GivesPiece, PartAnswers, smaller_part, class_of, SameRequest, IsReading, HoldsCurrent, HasMet, KeepsHeld, HonestSince, IsPlainSince, ReadIsHonest, ReadNext, wanted_len, after_part, Asked, part_asked, not_present}
-use Rattle.ipmi_bus.specs.Retrieval.{IsOpenRecord, HasRead, request_len, TakesRecordPart, MakesSmaller, PartFails}
+use Rattle.ipmi_bus.specs.Prelude.{Shelf, Code, CodeClass, Cancelled, Busy, SmallerPart, NotPresent, Refusal, Part, Ended, Stalled, Malformed, CallOutcome, Again, Over, Whole, Absent, Retrieval, Row, IsRow, look, whole_len, len_of, largest_len, rows_of, store_shelf, Seen, stays_trans, IsHonest, StaysHonest, MayLoseReservation, IsQuiet, IsFinished, current, CountsPiece, FailsWith, GivesPiece, PartAnswers, smaller_part, class_of, SameRequest, IsReading, HoldsCurrent, HasMet, KeepsHeld, HonestSince, IsPlainSince, ReadIsHonest, ReadNext, asked_to, wanted_len, after_part, Asked, part_asked, not_present}
+use Rattle.ipmi_bus.specs.Retrieval.{IsOpenRecord, HasRead, TakesRecordPart, MakesSmaller, PartFails}
 use Rattle.ipmi_bus.proofs.ShelfLemmas.{look_row}
 use Rattle.ipmi_bus.proofs.CallLemmas.{reading_kept, held_on, within_calm, trouble_answers, refusal_answers}
 
@@ -28,10 +28,16 @@ open_requested r buffer is front =
     let wanted = wanted_read r.shelf r.have buffer r.buffer front in
     record { part = is.part; part_fits = is.part_fits; more = rw wanted is.more; fits = rw wanted is.fits; troubles = is.troubles; reserved = is.reserved }
 
-pub part_within : (r : Retrieval) (buffer : List ℕ) (asked got : ℕ) → IsOpenRecord r
-    → take r.have buffer ≡ take r.have r.buffer → asked ≡ request_len r → got ≤ asked
-    → r.have + got ≤ wanted_len r.shelf r.have buffer
-part_within r buffer asked got is front len fits = rw (wanted_read r.shelf r.have buffer r.buffer front) (omega (arith, is.more))
+-- a request is for at least one byte, and for none after the first 256
+asked_within : (ahead : Bool) (shelf : Shelf) (have : ℕ) (buffer : List ℕ)
+    → have < wanted_len shelf have buffer → wanted_len shelf have buffer ≤ largest_len shelf
+    → (have < asked_to ahead shelf have buffer) × (asked_to ahead shelf have buffer ≤ 256)
+asked_within ahead shelf have buffer more fits = grind (arith, nat_tests)
+
+pub reaches_within : (r : Retrieval) → IsOpenRecord r
+    → (r.have < asked_to r.ahead r.shelf r.have r.buffer)
+    × (asked_to r.ahead r.shelf r.have r.buffer ≤ 256)
+reaches_within r is = asked_within r.ahead r.shelf r.have r.buffer is.more is.fits
 
 -- the wanted length is at most that of the row
 pub wanted_within : (shelf : Shelf) (have : ℕ) (buffer : List ℕ) (row : Row) → IsRow shelf row
@@ -91,7 +97,7 @@ module _ (start old : Retrieval) (buffer : List ℕ) (s s' s'' : Seen) (n asked 
 
   read : HasRead (taken old buffer part) s'' row
   read =
-      let kept = reading_kept old s' s'' old.part old.troubles keeps stays.store open_.reserved since.reading in
+      let kept = reading_kept old s' s'' old.part old.ahead old.troubles keeps stays.store open_.reserved since.reading in
       let before = take-before old s'' row (record { piece = kept.piece }) (λ some. gives.reserved some ∙ sym held) gives.found in
       record {
         read = record {
@@ -110,6 +116,7 @@ module _ (start old : Retrieval) (buffer : List ℕ) (s s' s'' : Seen) (n asked 
   holds p h = record {
     holds = record { held = λ m e. keeps.plain (since.stays.plain p) ∙ (since.plain p h).holds.held m e };
     part = (since.plain p h).part;
+    ahead = (since.plain p h).ahead;
   }
 
   piece_goes_on : old.have + part.got < wanted_len old.shelf (old.have + part.got) buffer
@@ -128,23 +135,31 @@ module _ (start old : Retrieval) (buffer : List ℕ) (s s' s'' : Seen) (n asked 
         within = λ e. let len = rw (same.shelf, same.id, all.store.stays e) at (ap len_of gives.found) in omega (arith, gives.piece.within, len);
       }
 
+  -- no byte comes after the end of the row, so none is left out
+  whole_answers : (new : Retrieval)
+      → new ≡ record (record old { buffer = buffer }) { have = new.have; next = part.next }
+      → new.have ≤ old.have + part.got → new.have ≡ wanted_len old.shelf new.have buffer
+      → ReadNext start new s s'' (Ok (Over Whole))
+  whole_answers new is fits wanted =
+      let front : take new.have buffer ≡ take new.have row.bytes = sym (take-take new.have (old.have + part.got) buffer fits) ∙ ap (take new.have) read.read.bytes ∙ take-take new.have (old.have + part.got) row.bytes fits in
+      let whole = wanted_whole old.shelf new.have buffer row ok front wanted in
+      let all_of_it : new.have ≡ old.have + part.got = omega (arith, whole, fits, gives.piece.within) in
+      let base : ReadIsHonest start (taken old buffer part) s s'' (Ok Whole) = record {
+        stays = all;
+        answers = (within_calm start old s s' s'' same since stays open_ calm, (row, read, sym all_of_it ∙ whole));
+        keeps = keeps_held;
+        plain = λ p h. (holds p h, tt);
+      } in
+      rw (is, all_of_it) base
+
   piece_answers : (new : Retrieval) (result : Result CallOutcome Ended)
       → TakesRecordPart part (record old { buffer = buffer }) new result
       → ReadNext start new s s'' result
   piece_answers new (Ok Again) takes = rw takes.1 (piece_goes_on (rw takes.1 at takes.2))
-  piece_answers new (Ok (Over Whole)) takes =
-      let is : old.have + part.got ≡ wanted_len old.shelf (old.have + part.got) buffer = rw takes.1 at takes.2 in
-      let within = within_calm start old s s' s'' same since stays open_ calm in
-      let base : ReadIsHonest start (taken old buffer part) s s'' (Ok Whole) = record {
-        stays = all;
-        answers = (within, (row, read, wanted_whole old.shelf (old.have + part.got) buffer row ok read.read.bytes is));
-        keeps = keeps_held;
-        plain = λ p h. (holds p h, tt);
-      } in
-      rw takes.1 base
+  piece_answers new (Ok (Over Whole)) takes = whole_answers new takes.1 takes.2 (rw takes.1 at takes.3)
   piece_answers new (Err (Stalled id)) takes = absurd (omega (arith, takes.0, gives.piece.some))
   piece_answers new (Err (Malformed id)) takes =
-      let five : old.have + part.got ≡ 5 = ap (λ (r : Retrieval). r.have) (sym takes.1) ∙ takes.4 in
+      let five : 5 ≤ old.have + part.got = rw takes.1 at takes.4 in
       let whole : length row.bytes ≡ 5 + get_or row.bytes 4 0 = subst (λ (shelf : Shelf). length row.bytes ≡ whole_len shelf row.bytes) takes.3 ok.whole in
       let byte = get_or-read (old.have + part.got) 4 buffer row.bytes (omega arith) read.read.bytes in
       let largest : largest_len old.shelf ≡ 256 = ap largest_len takes.3 in
@@ -206,11 +221,11 @@ module _ (start old new : Retrieval) (s s' s'' : Seen) (n asked : ℕ) (code : C
 
   -- a smaller part is to be requested
   with_smaller : (part : ℕ) → IsQuiet s' s'' → (IsTrue s.plain → HoldsCurrent start s → ⊥)
-      → HonestSince start (record old { part = part }) s s''
+      → HonestSince start (record old { part = part; ahead = false }) s s''
   with_smaller part quiet not_plain = record {
     stays = over_all;
-    reading = reading_kept old s' s'' part old.troubles parts.keeps stays.store open_.reserved since.reading;
-    keeps = keeps_on (record old { part = part }) (omega (arith, quiet.troubles)) refl;
+    reading = reading_kept old s' s'' part false old.troubles parts.keeps stays.store open_.reserved since.reading;
+    keeps = keeps_on (record old { part = part; ahead = false }) (omega (arith, quiet.troubles)) refl;
     met = search arith;
     fresh_troubles = quiet.fresh_troubles ∙ since.fresh_troubles;
     plain = λ p h. absurd (not_plain p h);
@@ -236,6 +251,7 @@ module _ (start old new : Retrieval) (s s' s'' : Seen) (n asked : ℕ) (code : C
           record {
             holds = record { held = λ m e. parts.keeps.plain (since.stays.plain p) ∙ (since.plain p h).holds.held m e };
             part = (since.plain p h).part;
+            ahead = (since.plain p h).ahead;
           },
           tt,
         );

@@ -1,7 +1,7 @@
 -- Reading a record, call by call.
-use Rattle.std.proofs.Common.{◌≡◌, ℕ, ◌+◌, ◌*◌, ◌<◌, ◌≤◌, Option, None, Some, Ok, refl, ap, ◌∙◌, arith, ◌-◌}
-use Rattle.ipmi_bus.specs.Prelude.{AreWithin, AsksAtMost, digits, step_call_bound, Again, Retrieval, largest_len, Seen, IsHonest, StaysHonest, SameRequest, CallLeaves, unreserved, begun, HonestSince, len_of, look, rows_of}
-use Rattle.ipmi_bus.specs.Retrieval.{IsOpenRecord, calls_left}
+use Rattle.std.proofs.Common.{◌≡◌, ℕ, ◌+◌, ◌*◌, ◌<◌, ◌≤◌, Option, None, Some, IsSome, Ok, refl, ap, ◌∙◌, arith, ◌-◌}
+use Rattle.ipmi_bus.specs.Prelude.{AreWithin, AsksAtMost, digits, step_call_bound, Again, Retrieval, largest_len, Seen, IsHonest, StaysHonest, SameRequest, CallLeaves, unreserved, begun, HonestSince, ReadFirstAsks, len_of, look, rows_of}
+use Rattle.ipmi_bus.specs.Retrieval.{IsOpenRecord, calls_left, request_len}
 
 -- the length of the requested row, 0 if there is none
 abbrev row_len : Retrieval → Seen → ℕ
@@ -12,6 +12,8 @@ pub record Since (start now : Retrieval) (s s' : Seen) : Type 0 where
   pub is_open : IsOpenRecord now
   pub request : SameRequest start now
   pub asked : AsksAtMost start.part s s'
+  pub grows : s.calls ≤ s'.calls
+  pub fresh : s'.calls ≡ s.calls → now ≡ start
   pub calls : s'.calls + calls_left (largest_len start.shelf) now
       ≤ s.calls + calls_left (largest_len start.shelf) start
   pub honest : IsHonest s → HonestSince start now s s'
@@ -19,7 +21,7 @@ pub record Since (start now : Retrieval) (s s' : Seen) : Type 0 where
       → s'.calls + calls_left (row_len start s) now ≤ s.calls + calls_left (row_len start s) start
 
 same_request_trans : (a b c : Retrieval) → SameRequest a b → SameRequest b c → SameRequest a c
-same_request_trans a b c p q = record { shelf = q.shelf ∙ p.shelf; tries = q.tries ∙ p.tries; id = q.id ∙ p.id; part = omega (arith, p.part, q.part); some = q.some }
+same_request_trans a b c p q = record { shelf = q.shelf ∙ p.shelf; tries = q.tries ∙ p.tries; id = q.id ∙ p.id; part = omega (arith, p.part, q.part); some = q.some; ahead = λ is. p.ahead (q.ahead is) }
 
 -- one more call
 module _ (start now new : Retrieval) (s s' s'' : Seen) (since : Since start now s s')
@@ -41,6 +43,8 @@ module _ (start now new : Retrieval) (s s' s'' : Seen) (since : Since start now 
     is_open = leaves.0;
     request = same_request_trans start now new since.request request;
     asked = omega (arith, asked, since.asked, since.request.part);
+    grows = omega (arith, counted, since.grows);
+    fresh = λ none. absurd (omega (arith, counted, since.grows, none));
     calls = calls_more (largest_len start.shelf) (omega (arith, leaves.0.more, leaves.0.fits, ap largest_len (request.shelf ∙ since.request.shelf))) since.calls;
     honest = honest;
     row_calls = λ h e.
@@ -66,6 +70,11 @@ unreserved_le (Some n) = omega arith
 -- the last call
 module _ (old : Retrieval) (id : ℕ) (now new : Retrieval) (s s' s'' : Seen)
     (since : Since (begun old id) now s s') (counted : s''.calls ≡ s'.calls + 1) where
+  -- if no call was made before it, it is the first request
+  pub first_request : (IsSome now.reservation → s''.last_asked ≡ request_len now)
+      → ReadFirstAsks (begun old id) s s''
+  first_request last some one = (rw (since.fresh (omega (arith, counted, one))) at last) some
+
   -- the largest number of calls for a record, from its beginning
   bound_by : (len tries : ℕ) (r : Retrieval) → r.tries ≡ tries → r.troubles ≡ 0 → r.have ≡ 0
       → calls_left len r ≤ step_call_bound tries len + digits r.part

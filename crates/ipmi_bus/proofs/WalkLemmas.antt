@@ -2,7 +2,7 @@
 use Rattle.std.proofs.Common.{◌≡◌, ◌≢◌, ℕ, ◌+◌, ◌<◌, ◌≤◌, Bool, false, nat_eq, ◌||◌, Option, None, Some, Result, Ok, Err, List, [], ◌∷◌, ◌++◌, length, take, drop, refl, sym, ap, subst, ◌∙◌, inl, inr, rules, arith, ◌⊎◌, ne_eqb, nat_cmp, take_all, take-append-drop, length-drop, take-add}
 use Rattle.std.specs.FinSet as set
 use Rattle.std.proofs.Math.Bool.{or-false, or_assoc, or_comm}
-use Rattle.ipmi_bus.specs.Prelude.{Shelf, Place, First, Id, End, Row, IsShelf, look, len_of, first_row, DistinctIds, LacksId, row_at, IsWalk, place_after, place_after_rows, has_id, WalkEnd, Done, CycleAt, MissingAt, EndsBy, EndsAfter, EndsEmpty, last_next, Ended, Cycle, Missing, CursorState, asked_at, cycle_at, AsksAlong, AsksNothing, StaysThere, StepLeaves, StepAnswers, StepIsHonest, StepSays, KeepsSettings, AsksAtMost, AreWithin, largest_len, IsStep, StandsAt, WalkStep, MayFail, FollowsWalks, store_shelf, Store, rows_of, Seen, IsHonest, StaysHonest, Refused, GaveUp}
+use Rattle.ipmi_bus.specs.Prelude.{Shelf, Place, First, Id, End, Row, IsShelf, look, len_of, first_row, DistinctIds, LacksId, row_at, IsWalk, place_after, place_after_rows, has_id, WalkEnd, Done, CycleAt, MissingAt, EndsBy, EndsAfter, EndsEmpty, last_next, Ended, Cycle, Missing, CursorState, asked_at, cycle_at, AsksAlong, AsksNothing, StaysThere, StepLeaves, StepAnswers, StepIsHonest, StepSays, KeepsSettings, AsksAtMost, AreWithin, FirstAsks, largest_len, IsStep, StandsAt, WalkStep, MayFail, FollowsWalks, store_shelf, Store, rows_of, Seen, IsHonest, StaysHonest, Refused, GaveUp}
 use Rattle.std.specs.FinSet.{contains-insert, contains-empty}
 use Rattle.std.specs.Cmp.{nat_cmp_total, unsigned_tied}
 use Rattle.std.proofs.lemmas.Bool.Decides.{nat_tests}
@@ -301,14 +301,15 @@ stands_at_start rows start walk c place ids = record {
 pub whole_step : (old new : CursorState) (s s' : Seen) (result : Result (Option Row) Ended)
     → KeepsSettings old new → StepLeaves old new result
     → AreWithin old.tries (largest_len old.shelf) old.part new.part s s' → AsksAtMost old.part s s'
-    → StepSays old.place result s' → (AsksNothing old → s' ≡ s)
+    → FirstAsks old s s' → StepSays old.place result s' → (AsksNothing old → s' ≡ s)
     → AsksNothing old ⊎ (set.len old.ids < 65536)
     → (IsHonest s → StepIsHonest old new s s' result) → IsStep old new s s' result
-whole_step old new s s' result same leaves calls asked says no_call room honest = record {
+whole_step old new s s' result same leaves calls asked first says no_call room honest = record {
   same = same;
   leaves = leaves;
   calls = calls;
   asked = asked;
+  first = first;
   says = says;
   no_call = no_call;
   room = room;

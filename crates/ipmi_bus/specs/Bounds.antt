@@ -12,6 +12,10 @@ step_call_bound tries len = (tries + 1) * (len + 2)
 abbrev pub fru_call_bound : ℕ → ℕ → ℕ
 fru_call_bound tries len = len + tries + 8
 
+-- the same if the calls for its size and for each byte have `tries` of their own
+abbrev pub retrying_call_bound : ℕ → ℕ → ℕ
+retrying_call_bound tries len = (tries + 1) * (len + 1) + 7
+
 -- 1 if the number is at least this power of two, otherwise 0
 abbrev pub reaches : ℕ → ℕ → ℕ
 reaches power n = if nat_le power n then 1 else 0

@@ -13,6 +13,7 @@ state_of p = record {
   place = p.place;
   part = p.retrieval.part;
   tries = p.retrieval.tries;
+  ahead = p.retrieval.ahead;
   ids = p.ids;
   reservation = p.retrieval.reservation;
 }

@@ -1,11 +1,11 @@
 -- The results of the readers of infos, sensor readings and inventories.
-use Rattle.std.specs.Prelude.{◌≡◌, ℕ, ◌+◌, ◌≤◌, ◌==◌, Bool, true, false, IsTrue, Option, None, Some, IsSome, unwrap_or, Result, Ok, Err, List, [], length, Vec}
+use Rattle.std.specs.Prelude.{◌≡◌, ℕ, ◌+◌, ◌<◌, ◌≤◌, ◌==◌, zero, suc, Bool, true, false, IsTrue, Option, None, Some, IsSome, unwrap_or, Result, Ok, Err, List, [], length, Vec}
 use Rattle.std.specs.declared.alloc.Global.{Global}
 use Rattle.ipmi_bus.specs.Types.{Ended, FruEnded, GaveUp, NotPresent, Refused, Sdr, Sel}
 use Rattle.ipmi_bus.specs.Store.{Store, inventory_of}
 use Rattle.ipmi_bus.specs.Seen.{Seen, StaysHonest, current}
 use Rattle.ipmi_bus.specs.Held.{Keeps}
-use Rattle.ipmi_bus.specs.Bounds.{fru_call_bound}
+use Rattle.ipmi_bus.specs.Bounds.{fru_call_bound, retrying_call_bound}
 use Rattle.ipmi_bus.specs.Tries.{LastCallSays, LastFailed, RefusesValue, WithinTries, GivesUp, GivesUpOverChange, IsRefusedWith}
 
 -- ---- a value: an info, a reading
@@ -106,6 +106,44 @@ pub record ReadsInventory (id tries : ℕ) (s s' : Seen)
   pub is : Keeps (inventory_of id) s s' → InventoryIs id tries s s' result
   pub calls : Keeps (inventory_of id) s s'
       → s'.calls ≤ s.calls + fru_call_bound tries (inventory_len id s.store)
+  pub plain : IsTrue s.plain → PlainMayAnswer result × KeepsReservations s s'
+
+-- the last call was for a part, and brought bytes
+abbrev pub BroughtBytes : Seen → Type 0
+BroughtBytes seen = (0 < seen.last_asked) × (seen.last_failure ≡ None)
+
+-- parts that brought bytes, one after another: since the one before there were at most `tries` troubles, and no refusal
+abbrev pub PartsCame : (Seen → Type 0) → ℕ → ℕ → Seen → Seen → Type 0
+PartsCame IsState tries zero s s' = s' ≡ s
+PartsCame IsState tries (suc parts) s s' = (before : Seen) × PartsCame IsState tries parts s before
+    × IsState s' × BroughtBytes s' × WithinTries tries before s'
+
+-- calls, one after another, of which none brought bytes
+abbrev pub NoneCame : (Seen → Type 0) → ℕ → Seen → Seen → Type 0
+NoneCame IsState zero s s' = s' ≡ s
+NoneCame IsState (suc calls) s s' = (before : Seen) × NoneCame IsState calls s before
+    × IsState s' × (s'.calls ≡ before.calls + 1) × (BroughtBytes s' → ⊥)
+
+-- `last` is the state after the last part that brought bytes, or the first state if none did
+pub record IsLastPart (IsState : Seen → Type 0) (tries : ℕ) (s last s' : Seen) : Type 0 where
+  pub first : StaysHonest s last
+  pub later : StaysHonest last s'
+  pub parts : ℕ
+  pub came : PartsCame IsState tries parts s last
+  pub calls : ℕ
+  pub none : NoneCame IsState calls last s'
+
+-- the same as `ReadsInventory`, but troubles are counted afresh after each part that brought bytes
+pub record ReadsRetryingParts (IsState : Seen → Type 0) (id tries : ℕ) (s s' : Seen)
+    (result : Result (List ℕ) FruEnded) : Type 0 where
+  pub stays : StaysHonest s s'
+  pub last : Seen
+  pub is_last : IsLastPart IsState tries s last s'
+  pub counts : InventoryCounts id tries last s' result
+  pub kept : Keeps (inventory_of id) s s' → inventory_of id last.store ≡ inventory_of id s.store
+  pub is : Keeps (inventory_of id) s s' → InventoryIs id tries last s' result
+  pub calls : Keeps (inventory_of id) s s'
+      → s'.calls ≤ s.calls + retrying_call_bound tries (inventory_len id s.store)
   pub plain : IsTrue s.plain → PlainMayAnswer result × KeepsReservations s s'
 
 -- an inventory's bytes, as a list

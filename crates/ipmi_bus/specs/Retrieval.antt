@@ -1,5 +1,5 @@
 -- A record being read in parts: what is read so far, and the state after one call.
-use Rattle.std.specs.Prelude.{◌≡◌, ℕ, min, ◌+◌, ◌-◌, ◌*◌, ◌<◌, ◌≤◌, Bool, true, false, MatchResult, nat_lt, if◌then◌else◌, Option, None, Some, IsSome, Result, Ok, Err, List, length, take, slice_index}
+use Rattle.std.specs.Prelude.{◌≡◌, ℕ, min, ◌+◌, ◌-◌, ◌*◌, ◌<◌, ◌≤◌, Bool, true, false, IsTrue, MatchResult, nat_lt, if◌then◌else◌, Option, None, Some, IsSome, Result, Ok, Err, List, length, take, slice_index}
 use Rattle.ipmi_text.specs.SdrHeader.{sdr_len}
 use Rattle.ipmi_bus.specs.Types.{Absent, Again, Busy, CallOutcome, Cancelled, Code, CodeClass, Ended, GaveUp, Malformed, NotPresent, Over, Part, Refusal, Refused, Retrieval, Sdr, Sel, Shelf, SmallerPart, Stalled, Whole}
 use Rattle.ipmi_bus.specs.Shelf.{Row, look, largest_len}
@@ -15,9 +15,16 @@ abbrev pub wanted_len : Shelf → ℕ → List ℕ → ℕ
 wanted_len Sdr have buffer = if nat_lt have 5 then 5 else sdr_len buffer
 wanted_len Sel have buffer = 16
 
+-- How far into the record the next request may reach. Until the header of a sensor data record is
+-- read, its length is not known. A retrieval that reads ahead then asks for as many bytes as the
+-- longest record of the standard has, which is 64.
+abbrev pub asked_to : Bool → Shelf → ℕ → List ℕ → ℕ
+asked_to true Sdr have buffer = if nat_lt have 5 then 64 else sdr_len buffer
+asked_to _ shelf have buffer = wanted_len shelf have buffer
+
 -- the number of bytes in the next request
 abbrev pub request_len : Retrieval → ℕ
-request_len r = min r.part (wanted_len r.shelf r.have r.buffer - r.have)
+request_len r = min r.part (asked_to r.ahead r.shelf r.have r.buffer - r.have)
 
 -- a record that is not whole yet
 pub record IsOpenRecord (r : Retrieval) : Type 0 where
@@ -28,13 +35,15 @@ pub record IsOpenRecord (r : Retrieval) : Type 0 where
   pub troubles : r.troubles ≤ r.tries
   pub reserved : 0 < r.have → IsSome r.reservation
 
--- what a call does not change, and that the part size does not grow
+-- what a call does not change, that the part size does not grow, and that reading ahead is not
+-- begun
 pub record SameRequest (old new : Retrieval) : Type 0 where
   pub shelf : new.shelf ≡ old.shelf
   pub tries : new.tries ≡ old.tries
   pub id : new.id ≡ old.id
   pub part : new.part ≤ old.part
   pub some : 0 < new.part
+  pub ahead : IsTrue new.ahead → IsTrue old.ahead
 
 -- the bytes read so far are those of the row
 pub record HasBytes (r : Retrieval) (seen : Seen) (row : Row) : Type 0 where
@@ -86,11 +95,12 @@ ReserveFails Cancelled code old new result = CountsTrouble false old new result
 ReserveFails Busy code old new result = CountsTrouble false old new result
 ReserveFails _ code old new result = (result ≡ Err (Refused old.id code)) × (new ≡ old)
 
--- the part size is reduced, or the read stalls because it is already one byte
+-- the part size is reduced and nothing more is read ahead, or the read stalls because the part size
+-- is already one byte
 abbrev pub MakesSmaller : ℕ → Retrieval → Retrieval → Result CallOutcome Ended → Type 0
 MakesSmaller asked old new result = MatchResult result
     (λ turn. (turn ≡ Again) × (smaller_part asked ≡ Some new.part)
-    × (new ≡ record old { part = new.part }))
+    × (new ≡ record old { part = new.part; ahead = false }))
     (λ ended. (ended ≡ Stalled old.id) × (smaller_part asked ≡ None) × (new ≡ old))
 
 -- a failed call for a part of `asked` bytes, by the class of its code
@@ -107,21 +117,21 @@ PartFails Refusal code asked old new result =
 abbrev pub after_part : Part → Retrieval → Retrieval
 after_part part r = record r { have = r.have + part.got; next = part.next }
 
--- the received bytes make the record whole or not; the read ends if the header's length is too
--- large, or if there are no bytes
+-- The received bytes make the record whole or not; bytes after its end are left out. The read ends
+-- if the header's length is too large, or if there are no bytes.
 abbrev pub TakesRecordPart : Part → Retrieval → Retrieval → Result CallOutcome Ended → Type 0
 TakesRecordPart part old new (Ok Again) =
     (0 < part.got) × (new ≡ after_part part old)
     × (new.have < wanted_len new.shelf new.have new.buffer)
     × (wanted_len new.shelf new.have new.buffer ≤ largest_len new.shelf)
 TakesRecordPart part old new (Ok (Over Whole)) =
-    (0 < part.got) × (new ≡ after_part part old)
-    × (new.have ≡ wanted_len new.shelf new.have new.buffer) × (new.have ≤ largest_len new.shelf)
-    × (5 ≤ new.have)
+    (0 < part.got) × (new ≡ record old { have = new.have; next = part.next })
+    × (new.have ≤ old.have + part.got) × (new.have ≡ wanted_len new.shelf new.have new.buffer)
+    × (new.have ≤ largest_len new.shelf) × (5 ≤ new.have)
 TakesRecordPart part old new (Err (Stalled id)) = (part.got ≡ 0) × (id ≡ old.id) × (new ≡ old)
 TakesRecordPart part old new (Err (Malformed id)) =
     (0 < part.got) × (new ≡ after_part part old) × (id ≡ old.id) × (old.shelf ≡ Sdr)
-    × (new.have ≡ 5) × (0xFB < slice_index old.buffer 4)
+    × (5 ≤ new.have) × (0xFB < slice_index old.buffer 4)
 TakesRecordPart part old new _ = ⊥
 
 -- the call agrees with its outcome: the last part came, or there is no such record

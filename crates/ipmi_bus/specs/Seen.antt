@@ -46,6 +46,10 @@ pub record IsPlain (seen : Seen) : Type 0 where
   pub said : IsTrue seen.plain
   pub honest : IsHonest seen
 
+-- A state that a controller of this type has. Code that works with any such type meets no other states than those of its run.
+abbrev pub IsStateOf : {C : Type 0} → (C → Seen) → Seen → Type 0
+IsStateOf {C} seen s = (ctl : C) × (seen ctl ≡ s)
+
 -- ---- what each call counts, for any controller
 
 -- the code with which a call failed, if it did

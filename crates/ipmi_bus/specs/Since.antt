@@ -6,16 +6,18 @@ use Rattle.ipmi_bus.specs.Store.{rows_of}
 use Rattle.ipmi_bus.specs.Seen.{Seen, StaysHonest}
 use Rattle.ipmi_bus.specs.Tries.{WithinTries, GivesUp, IsRefusedWith, NotGivenUpOrRefused}
 use Rattle.ipmi_bus.specs.Failures.{HasMet}
-use Rattle.ipmi_bus.specs.Retrieval.{HasRead, IsReading, HoldsCurrent, KeepsHeld, CallSays, wanted_len, NamesId}
+use Rattle.ipmi_bus.specs.Retrieval.{HasRead, IsReading, HoldsCurrent, KeepsHeld, CallSays, wanted_len, NamesId, request_len}
 
 -- a retrieval at the start of a record
 abbrev pub begun : Retrieval → ℕ → Retrieval
 begun r id = record r { id = id; troubles = 0; have = 0 }
 
--- over a plain controller, a held reservation is current, and the part size is unchanged
+-- over a plain controller, a held reservation is current, and the part size and reading ahead are
+-- unchanged
 pub record IsPlainSince (start now : Retrieval) (seen : Seen) : Type 0 where
   pub holds : HoldsCurrent now seen
   pub part : now.part ≡ start.part
+  pub ahead : now.ahead ≡ start.ahead
 
 pub record HonestSince (start now : Retrieval) (s s' : Seen) : Type 0 where
   pub stays : StaysHonest s s'
@@ -53,6 +55,11 @@ abbrev pub ReadNext : Retrieval → Retrieval → Seen → Seen → Result CallO
 ReadNext start new s s' (Ok Again) = HonestSince start new s s'
 ReadNext start new s s' (Ok (Over found)) = ReadIsHonest start new s s' (Ok found)
 ReadNext start new s s' (Err ended) = ReadIsHonest start new s s' (Err ended)
+
+-- a read that makes one call under the reservation that is held makes its first request
+abbrev pub ReadFirstAsks : Retrieval → Seen → Seen → Type 0
+ReadFirstAsks start s s' =
+    IsSome start.reservation → s'.calls ≡ s.calls + 1 → s'.last_asked ≡ request_len start
 
 -- the last call agrees with how the read ended
 abbrev pub ReadSays : Result Found Ended → Seen → Type 0

@@ -1,8 +1,8 @@
 -- One step of a cursor: the state after it over any controller, and its result over an honest one.
-use Rattle.std.specs.Prelude.{◌≡◌, ◌≢◌, ℕ, ◌<◌, ◌≤◌, ◌==◌, ◌||◌, false, IsTrue, if◌then◌else◌, Option, None, Some, IsSome, ◌⊎◌, Result, Ok, Err, IsOk, List, length, drop}
+use Rattle.std.specs.Prelude.{◌≡◌, ◌≢◌, ℕ, ◌+◌, min, ◌<◌, ◌≤◌, ◌==◌, ◌||◌, Bool, true, false, IsTrue, if◌then◌else◌, Option, None, Some, IsSome, ◌⊎◌, Result, Ok, Err, IsOk, List, length, drop}
 use Rattle.std.specs.FinSet as set
 use Rattle.std.specs.Ordering.{nat_cmp}
-use Rattle.ipmi_bus.specs.Types.{Cycle, End, Ended, First, GaveUp, Id, Malformed, Missing, NotPresent, Place, Refused, Sdr, Shelf, Stalled}
+use Rattle.ipmi_bus.specs.Types.{Cycle, End, Ended, First, GaveUp, Id, Malformed, Missing, NotPresent, Place, Refused, Sdr, Sel, Shelf, Stalled}
 use Rattle.ipmi_bus.specs.Shelf.{Row, first_row, look, len_of, largest_len, whole_len, id_in}
 use Rattle.ipmi_bus.specs.Store.{rows_of}
 use Rattle.ipmi_bus.specs.Walk.{IsWalk, WalkEnd, EndsBy, place_after}
@@ -25,12 +25,26 @@ cycle_at _ ids = None
 
 -- ---- over any controller
 
--- the shelf and the tries are unchanged, and the part size does not grow
+-- the shelf and the tries are unchanged, the part size does not grow, and reading ahead is not begun
 pub record KeepsSettings (old new : CursorState) : Type 0 where
   pub shelf : new.shelf ≡ old.shelf
   pub tries : new.tries ≡ old.tries
   pub part : new.part ≤ old.part
   pub part_not_zero : 0 < new.part
+  pub ahead : IsTrue new.ahead → IsTrue old.ahead
+
+-- how far the first request for a record may reach: over the header of a sensor data record, or when
+-- reading ahead over the longest that the standard has; an entry of the log is asked for whole
+abbrev pub first_len : Bool → Shelf → ℕ
+first_len true Sdr = 64
+first_len false Sdr = 5
+first_len _ Sel = 16
+
+-- a step that makes one call under the reservation that it holds asks for so many bytes
+abbrev pub FirstAsks : CursorState → Seen → Seen → Type 0
+FirstAsks old s s' =
+    IsSome old.reservation → s'.calls ≡ s.calls + 1
+    → s'.last_asked ≡ min old.part (first_len old.ahead old.shelf)
 
 -- the id of a record requested with this id: at the start, the id in its bytes
 abbrev pub handed_id : Place → ℕ → List ℕ → ℕ
@@ -129,11 +143,13 @@ StepAnswers old s s' _ = ⊥
 pub record CursorHoldsCurrent (c : CursorState) (seen : Seen) : Type 0 where
   pub held : (n : ℕ) → c.reservation ≡ Some n → current c.shelf seen ≡ Some n
 
--- over a plain controller the part size is unchanged, and the step neither gives up nor is refused
+-- over a plain controller the part size and reading ahead are unchanged, and the step neither gives
+-- up nor is refused
 pub record StepIsPlain (old new : CursorState) (s' : Seen)
     (result : Result (Option Row) Ended) : Type 0 where
   pub holds : CursorHoldsCurrent new s'
   pub part : new.part ≡ old.part
+  pub ahead : new.ahead ≡ old.ahead
   pub fine : NotGivenUpOrRefused result
 
 -- if a reservation is held and there is no trouble, no new one becomes current, and the cursor
@@ -166,6 +182,7 @@ pub record IsStep (old new : CursorState) (s s' : Seen)
   pub leaves : StepLeaves old new result
   pub calls : AreWithin old.tries (largest_len old.shelf) old.part new.part s s'
   pub asked : AsksAtMost old.part s s'
+  pub first : FirstAsks old s s'
   pub says : StepSays old.place result s'
   pub no_call : AsksNothing old → s' ≡ s
   pub room : AsksNothing old ⊎ (set.len old.ids < 65536)

@@ -13,6 +13,7 @@ pub use Rattle.ipmi_bus.specs.declared.cursor.Progress.{Progress}
 pub use Rattle.ipmi_bus.specs.declared.inventory_reader.FruEnded.{FruEnded}
 pub use Rattle.ipmi_bus.specs.declared.inventory_reader.FruRetrieval.{FruRetrieval}
 pub use Rattle.ipmi_bus.specs.declared.inventory_reader.Size.{Size}
+pub use Rattle.ipmi_bus.specs.declared.inventory_reader.TriesFor.{TriesFor}
 pub use Rattle.ipmi_bus.specs.declared.readers.ValueFailure.{ValueFailure}
 pub use Rattle.ipmi_bus.specs.declared.retrieval.CallOutcome.{CallOutcome}
 pub use Rattle.ipmi_bus.specs.declared.retrieval.CallOutcome.TheVariants.{Again, Over}

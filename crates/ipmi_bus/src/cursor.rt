@@ -1,5 +1,5 @@
 //! Returns the records of a shelf one by one, following their next ids.
-ghost use Rattle.std.specs.Prelude.{◌≡◌, ◌<◌, ◌≤◌, Ok, Err, Some, None, IfOk, IfSome, List, length};
+ghost use Rattle.std.specs.Prelude.{◌≡◌, ◌<◌, ◌≤◌, false, Ok, Err, Some, None, IfOk, IfSome, List, length};
 ghost use Rattle.std.specs.FinSet as set;
 ghost use Rattle.std.specs.Option.{ForSome};
 ghost use Rattle.std.specs.Borrow.{sem};
@@ -174,6 +174,7 @@ impl Cursor {
           place = start_of from;
           part = part;
           tries = tries;
+          ahead = false;
           ids = set.empty;
           reservation = None;
         }) }
@@ -184,6 +185,7 @@ impl Cursor {
                     shelf,
                     part,
                     tries,
+                    ahead: false,
                     reservation: None,
                     id: 0,
                     troubles: 0,
@@ -198,6 +200,15 @@ impl Cursor {
                 ids: IdTable::new(alloc)?,
             },
         })
+    }
+
+    /// Sets whether the cursor reads ahead. Then it doesn't ask for the header of a sensor data record alone, but for up
+    /// to 64 bytes at once, as the longest record of the standard has. So a record costs one request if the controller
+    /// gives it whole. Once a request is too long for the controller, nothing more is read ahead.
+    pub fn read_ahead(&mut self, ahead: bool)
+        ensures { self.new ≡ record self.old { ahead = ahead } }
+    {
+        self.progress.retrieval.ahead = ahead;
     }
 
     /// The place where the next step begins.

@@ -1,6 +1,6 @@
 //! Reads a FRU inventory in parts.
-ghost use Rattle.std.specs.Prelude.{◌≡◌, ◌+◌, ◌<◌, ◌≤◌, Ok, Err, IfOk, OnErr, OnOk, IfErr, length, take, slice_range, vec_len, MatchResult};
-ghost use Rattle.ipmi_bus.specs.Prelude.{Seen, AsksAtMost, IsCall, failing_code, IsHonest, StaysHonest, BytesAnswers, LastFruCallSays, ReadsInventory, as_inventory, class_of, SizeFails, TakesSize, fru_call_bound, HasSize, FruEnds};
+ghost use Rattle.std.specs.Prelude.{ℕ, ◌≡◌, ◌+◌, ◌<◌, ◌≤◌, Ok, Err, IfOk, OnErr, OnOk, IfErr, length, take, slice_range, vec_len, MatchResult};
+ghost use Rattle.ipmi_bus.specs.Prelude.{Seen, AsksAtMost, IsCall, failing_code, IsHonest, StaysHonest, BytesAnswers, LastFruCallSays, ReadsInventory, ReadsRetryingParts, ReadsWithTries, as_inventory, class_of, SizeFails, TakesSize, fru_call_bound, read_call_bound, retrying_call_bound, HasSize, FruEnds, IsStateOf, NoneCame};
 
 use crate::calls::{Failure, after_failure, asked_len, smaller_part};
 use crate::code::Code;
@@ -39,6 +39,29 @@ impl From<AllocError> for FruEnded {
     }
 }
 
+/// What the tries are for.
+#[derive(Clone, Copy)]
+enum TriesFor {
+    /// The whole inventory.
+    Inventory,
+    /// Each part: troubles are counted afresh after a part that brought bytes.
+    EachPart,
+}
+
+impl TriesFor {
+    ghost use Rattle.ipmi_bus.specs.FruRetrieval.{troubles_after};
+
+    /// The number of troubles that count after a part that brought bytes.
+    fn troubles_after(self, troubles: u16) -> u16
+        ensures { result ≡ troubles_after self troubles }
+    {
+        match self {
+            TriesFor::Inventory => troubles,
+            TriesFor::EachPart => 0,
+        }
+    }
+}
+
 /// An inventory being read.
 #[derive(Drop)]
 struct FruRetrieval {
@@ -47,7 +70,8 @@ struct FruRetrieval {
     part: u8,
     /// The number of troubles allowed.
     tries: u8,
-    /// The number of troubles so far.
+    tries_for: TriesFor,
+    /// The number of troubles so far that count.
     troubles: u16,
     /// The number of bytes read so far.
     have: usize,
@@ -93,6 +117,7 @@ impl FruRetrieval {
             return Err(FruEnded::Stalled);
         }
         self.have += usize::from(got);
+        self.troubles = self.tries_for.troubles_after(self.troubles);
         Ok(())
     }
 
@@ -126,8 +151,8 @@ impl FruRetrieval {
         ensures same { SameInventory self.old self.new }
         ensures leaves { OnOk result (calls_left self.new < calls_left self.old) }
         ensures stays { IsHonest (C.seen ctl.old) → StaysHonest (C.seen ctl.old) (C.seen ctl.new) }
-        ensures honest { (s : Seen) → FruSince self.old s (C.seen ctl.old) →
-            FruNext self.old self.new s (C.seen ctl.new) result }
+        ensures honest { (s : Seen) → FruSince (IsStateOf C.seen) self.old s (C.seen ctl.old) →
+            FruNext (IsStateOf C.seen) self.old self.new s (C.seen ctl.new) result }
     {
         let asked = asked_len(self.part, self.bytes.len() - self.have);
         match self.request(ctl, asked) {
@@ -145,8 +170,8 @@ impl FruRetrieval {
         ensures says { IfErr result (λ ended. LastFruCallSays ended (C.seen ctl.new)) }
         ensures calls { (C.seen ctl.new).calls + 1 ≤ (C.seen ctl.old).calls + calls_left self.old }
         ensures stays { IsHonest (C.seen ctl.old) → StaysHonest (C.seen ctl.old) (C.seen ctl.new) }
-        ensures honest { (s : Seen) → FruSince self.old s (C.seen ctl.old) →
-            FruNext self.old self.new s (C.seen ctl.new) result }
+        ensures honest { (s : Seen) → FruSince (IsStateOf C.seen) self.old s (C.seen ctl.old) →
+            FruNext (IsStateOf C.seen) self.old self.new s (C.seen ctl.new) result }
     {
         'parts: while self.have < self.bytes.len() {
             self.ask_part(ctl)?;
@@ -192,9 +217,10 @@ fn read_size<C: Controller>(ctl: &mut C, id: u8, tries: u8) -> Result<Size, FruE
     ensures err { OnErr result ((C.seen ctl.new).calls ≤ (C.seen ctl.old).calls + tries + 1) }
     ensures asked { AsksAtMost 0 (C.seen ctl.old) (C.seen ctl.new) }
     ensures says { IfErr result (λ ended. LastFruCallSays ended (C.seen ctl.new)) }
+    ensures none { (calls : ℕ) × NoneCame (IsStateOf C.seen) calls (C.seen ctl.old) (C.seen ctl.new) }
     ensures honest { IsHonest (C.seen ctl.old) → MatchResult result
         (λ size. HasSize id size (C.seen ctl.old) (C.seen ctl.new))
-        (λ ended. FruEnds id tries (C.seen ctl.old) (C.seen ctl.new) ended) }
+        (λ ended. FruEnds id tries (C.seen ctl.old) (C.seen ctl.old) (C.seen ctl.new) ended) }
 {
     let mut troubles = 0;
     'asking: loop {
@@ -204,6 +230,38 @@ fn read_size<C: Controller>(ctl: &mut C, id: u8, tries: u8) -> Result<Size, FruE
         }
         troubles += 1;
     }
+}
+
+/// The bytes of the inventory of the FRU device with this id, with as many tries for it or for each part.
+fn read_with_tries<C: Controller>(
+    alloc: Global,
+    ctl: &mut C,
+    id: u8,
+    part: u8,
+    tries: u8,
+    tries_for: TriesFor,
+) -> Result<Vec<u8>, FruEnded>
+    requires some { 0 < part }
+    requires fits { part < 255 }
+    ensures fits { IfOk result (λ bytes. vec_len bytes ≤ 65535) }
+    ensures calls { (C.seen ctl.new).calls ≤ (C.seen ctl.old).calls + read_call_bound tries_for tries 65535 }
+    ensures asked { AsksAtMost part (C.seen ctl.old) (C.seen ctl.new) }
+    ensures says { IfErr result (λ ended. LastFruCallSays ended (C.seen ctl.new)) }
+    ensures honest { IsHonest (C.seen ctl.old) → ReadsWithTries tries_for (IsStateOf C.seen) id tries
+        (C.seen ctl.old) (C.seen ctl.new) (as_inventory result) }
+{
+    let size = read_size(ctl, id, tries)?;
+    let mut retrieval = FruRetrieval {
+        id,
+        part,
+        tries,
+        tries_for,
+        troubles: size.troubles,
+        have: 0,
+        bytes: vec![in alloc; 0u8; usize::from(size.bytes)]?,
+    };
+    retrieval.read_all(ctl)?;
+    Ok(retrieval.bytes)
 }
 
 /// The bytes of the inventory of the FRU device with this id (IPMI v2.0, section 34). Each request is for at most
@@ -224,15 +282,26 @@ pub fn read_fru<C: Controller>(
     ensures honest { IsHonest (C.seen ctl.old) → ReadsInventory id tries (C.seen ctl.old)
         (C.seen ctl.new) (as_inventory result) }
 {
-    let size = read_size(ctl, id, tries)?;
-    let mut retrieval = FruRetrieval {
-        id,
-        part,
-        tries,
-        troubles: size.troubles,
-        have: 0,
-        bytes: vec![in alloc; 0u8; usize::from(size.bytes)]?,
-    };
-    retrieval.read_all(ctl)?;
-    Ok(retrieval.bytes)
+    read_with_tries(alloc, ctl, id, part, tries, TriesFor::Inventory)
+}
+
+/// The same with `tries` troubles allowed for each part: they are counted afresh after each part that brought bytes. Those
+/// before the size count for the first part.
+pub fn read_fru_retrying_parts<C: Controller>(
+    alloc: Global,
+    ctl: &mut C,
+    id: u8,
+    part: u8,
+    tries: u8,
+) -> Result<Vec<u8>, FruEnded>
+    requires some { 0 < part }
+    requires fits { part < 255 }
+    ensures fits { IfOk result (λ bytes. vec_len bytes ≤ 65535) }
+    ensures calls { (C.seen ctl.new).calls ≤ (C.seen ctl.old).calls + retrying_call_bound tries 65535 }
+    ensures asked { AsksAtMost part (C.seen ctl.old) (C.seen ctl.new) }
+    ensures says { IfErr result (λ ended. LastFruCallSays ended (C.seen ctl.new)) }
+    ensures honest { IsHonest (C.seen ctl.old) → ReadsRetryingParts (IsStateOf C.seen) id tries (C.seen ctl.old)
+        (C.seen ctl.new) (as_inventory result) }
+{
+    read_with_tries(alloc, ctl, id, part, tries, TriesFor::EachPart)
 }

@@ -19,7 +19,7 @@ pub use controller::{
     LARGEST_SDR_LEN, LAST_FRU_DEVICE_ID, NO_NEXT_ID, Part, SEL_ENTRY_LEN, Shelf,
 };
 pub use cursor::Cursor;
-pub use inventory_reader::{FruEnded, read_fru};
+pub use inventory_reader::{FruEnded, read_fru, read_fru_retrying_parts};
 pub use readers::{read_info, read_reading};
 pub use step::{Ended, Place, Record, record_id};
 pub use tally::{Event, Tally};

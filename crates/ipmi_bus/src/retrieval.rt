@@ -1,6 +1,6 @@
 //! Reads one record in parts (IPMI v2.0, section 33.12). Of a sensor data record, it reads the header first, then the
-//! rest.
-ghost use Rattle.std.specs.Prelude.{◌≡◌, ◌+◌, ◌<◌, ◌≤◌, None, Some, Ok, OnOk, OnErr, IfOk, IsOk, length, take, slice_range};
+//! rest. Or it reads ahead: it asks for more than the header at once.
+ghost use Rattle.std.specs.Prelude.{◌≡◌, ◌+◌, ◌<◌, ◌≤◌, None, Some, Ok, OnOk, OnErr, IfOk, IsOk, IsSome, length, take, slice_range};
 ghost use Rattle.ipmi_bus.specs.Prelude.{Retrieval, Seen, AsksAtMost, IsCall, failing_code, IsHonest, StaysHonest, PartAnswers, class_of, largest_len, AreWithin, part_asked, len_of, look, rows_of};
 
 use crate::calls::{Failure, after_failure, asked_len, smaller_part};
@@ -8,6 +8,9 @@ use crate::code::Code;
 use crate::controller::{Controller, LARGEST_SDR_LEN, Part, SEL_ENTRY_LEN, Shelf};
 use crate::step::Ended;
 use ipmi_text::{SDR_HEADER_LEN, sdr_len};
+
+/// The length of the longest sensor data record of the standard in bytes.
+const AHEAD_LEN: usize = 64;
 
 /// The result of reading a record.
 #[derive(Clone, Copy)]
@@ -35,6 +38,8 @@ pub(crate) struct Retrieval {
     pub(crate) part: u8,
     /// The number of troubles allowed per record.
     pub(crate) tries: u8,
+    /// The header of a sensor data record is not asked for alone. A code for a smaller part ends this.
+    pub(crate) ahead: bool,
     pub(crate) reservation: Option<u16>,
     /// The requested id.
     pub(crate) id: u16,
@@ -48,8 +53,8 @@ pub(crate) struct Retrieval {
 }
 
 impl Retrieval {
-    ghost use Rattle.ipmi_bus.specs.Retrieval.{IsOpenRecord, SameRequest, wanted_len, request_len, ReserveFails, PartFails, TakesRecordPart, CallSays, CallLeaves};
-    ghost use Rattle.ipmi_bus.specs.Since.{begun, HonestSince, ReadIsHonest, ReadLeaves, ReadNext, ReadSays};
+    ghost use Rattle.ipmi_bus.specs.Retrieval.{IsOpenRecord, SameRequest, wanted_len, asked_to, request_len, ReserveFails, PartFails, TakesRecordPart, CallSays, CallLeaves};
+    ghost use Rattle.ipmi_bus.specs.Since.{begun, HonestSince, ReadFirstAsks, ReadIsHonest, ReadLeaves, ReadNext, ReadSays};
 
     /// The number of bytes to read in all, as known from the bytes read so far.
     fn wanted(&self) -> usize
@@ -64,6 +69,17 @@ impl Retrieval {
                 }
             }
             Shelf::Sel => SEL_ENTRY_LEN,
+        }
+    }
+
+    /// The number of bytes that the next request may reach over.
+    fn asked_to(&self) -> usize
+        ensures { result ≡ asked_to self.now.ahead self.now.shelf self.now.have self.now.buffer }
+    {
+        if self.ahead && self.shelf == Shelf::Sdr && self.have < SDR_HEADER_LEN {
+            AHEAD_LEN
+        } else {
+            self.wanted()
         }
     }
 
@@ -107,11 +123,11 @@ impl Retrieval {
         }
     }
 
-    /// Counts the bytes received into the buffer, and checks the header once it is complete.
+    /// Counts the bytes received into the buffer, without those after the end of the record, and checks the header once
+    /// it is complete.
     fn take_part(&mut self, part: Part) -> Result<CallOutcome, Ended>
         requires is_open { IsOpenRecord self.old }
-        requires fits { self.old.have + part.got ≤ wanted_len self.old.shelf self.old.have
-            self.old.buffer }
+        requires fits { self.old.have + part.got ≤ 256 }
         ensures takes { TakesRecordPart part self.old self.new result }
     {
         if part.got == 0 {
@@ -120,14 +136,14 @@ impl Retrieval {
         self.have += usize::from(part.got);
         self.next = part.next;
         let wanted = self.wanted();
-        if self.shelf == Shelf::Sdr && self.have == SDR_HEADER_LEN && wanted > LARGEST_SDR_LEN {
+        if wanted > LARGEST_SDR_LEN {
             return Err(Ended::Malformed(self.id));
         }
-        if self.have == wanted {
-            Ok(CallOutcome::Over(Found::Whole))
-        } else {
-            Ok(CallOutcome::Again)
+        if self.have < wanted {
+            return Ok(CallOutcome::Again);
         }
+        self.have = wanted;
+        Ok(CallOutcome::Over(Found::Whole))
     }
 
     /// Requests some of the missing bytes and stores them in their place in the buffer.
@@ -179,6 +195,7 @@ impl Retrieval {
             }
             Failure::Smaller => {
                 self.part = smaller_part(asked).ok_or(Ended::Stalled(self.id))?;
+                self.ahead = false;
                 Ok(CallOutcome::Again)
             }
             Failure::Absent => Ok(CallOutcome::Over(Found::Absent)),
@@ -204,7 +221,7 @@ impl Retrieval {
             HonestSince start self.old s (C.seen ctl.old) →
             ReadNext start self.new s (C.seen ctl.new) result }
     {
-        let asked = asked_len(self.part, self.wanted() - self.have);
+        let asked = asked_len(self.part, self.asked_to() - self.have);
         match self.request(ctl, reservation, asked) {
             Ok(part) => self.take_part(part),
             Err(code) => self.fail_part(code, asked),
@@ -215,6 +232,8 @@ impl Retrieval {
     fn make_call<C: Controller>(&mut self, ctl: &mut C) -> Result<CallOutcome, Ended>
         requires { IsOpenRecord self.old }
         ensures counted { (C.seen ctl.new).calls ≡ (C.seen ctl.old).calls + 1 }
+        ensures last { IsSome self.old.reservation →
+            (C.seen ctl.new).last_asked ≡ request_len self.old }
         ensures asked { AsksAtMost self.old.part (C.seen ctl.old) (C.seen ctl.new) }
         ensures says { CallSays result (C.seen ctl.new) }
         ensures request { SameRequest self.old self.new }
@@ -236,6 +255,7 @@ impl Retrieval {
         requires fits { self.old.part < 255 }
         ensures request { SameRequest (begun self.old id) self.new }
         ensures asked { AsksAtMost self.old.part (C.seen ctl.old) (C.seen ctl.new) }
+        ensures first { ReadFirstAsks (begun self.old id) (C.seen ctl.old) (C.seen ctl.new) }
         ensures calls { AreWithin self.old.tries (largest_len self.old.shelf) self.old.part
             self.new.part (C.seen ctl.old) (C.seen ctl.new) }
         ensures row_calls { IsHonest (C.seen ctl.old) →

@@ -1,9 +1,9 @@
 -- The counts of a controller while items are left out.
-use Rattle.std.proofs.Common.{◌≡◌, ℕ, ◌==◌, false, Option, Err, List, [], ◌∷◌, ◌++◌, refl, sym, ◌∙◌, arith, subst}
+use Rattle.std.proofs.Common.{◌≡◌, ℕ, zero, suc, ◌==◌, false, Option, Err, List, [], ◌∷◌, ◌++◌, refl, sym, ◌∙◌, arith, subst}
 use Rattle.std.specs.Prelude.{flat_map}
 use Rattle.std.proofs.lemmas.Bool.Decides.{nat_tests}
 use Rattle.std.proofs.lemmas.List.Concat.{flat_map-append}
-use Rattle.ipmi_capture.specs.Below.{Code, Cycle, CursorState, Ended, FruEnded, GaveUp, InventoryCounts, IsRefused, IsRefusedWith, Malformed, Missing, Refused, Seen, Shelf, Stalled, StepAnswers, Store, ValueIs, WithinTries}
+use Rattle.ipmi_capture.specs.Below.{Code, Cycle, CursorState, Ended, FruEnded, GaveUp, InventoryCounts, IsLastPart, IsRefused, IsRefusedWith, Malformed, Missing, PartsCame, Refused, Seen, Shelf, Stalled, StepAnswers, Store, ValueIs, WithinTries}
 use Rattle.ipmi_capture.specs.Left.{AreCounted, CountsGrow, HaveStretches, IsStateOf, IsUnreadOver, unread_in, unread_of}
 use Rattle.ipmi_capture.specs.Phases.{IsNotPlain}
 use Rattle.ipmi_capture.specs.declared.left.Left.{Left}
@@ -112,6 +112,21 @@ module _ (S : Seen → Type 0) (tries : ℕ) {s s' : Seen} where
   counted_record shelf c (Malformed n) same from to is = absurd is
 
 -- ---- an inventory, whose size is requested once more after a refusal
+
+grown_each : (S : Seen → Type 0) (tries parts : ℕ) (s s' : Seen) → PartsCame S tries parts s s' → CountsGrow s s'
+grown_each S tries zero s s' came = rw came (grown_none s)
+grown_each S tries (suc parts) s s' came = grown_then (grown_each S tries parts s came.0 came.1) (grown_within came.4)
+
+-- the parts that brought bytes
+pub grown_parts : {S : Seen → Type 0} {tries : ℕ} {s last s' : Seen} → IsLastPart S tries s last s' → CountsGrow s last
+grown_parts {S = S} {tries = tries} {s = s} {last = last} is = grown_each S tries is.parts s last is.came
+
+pub last_state : {S : Seen → Type 0} {tries : ℕ} {s last s' : Seen} → S s → IsLastPart S tries s last s' → S last
+last_state {S = S} {tries = tries} {s = s} {last = last} from is = by is.parts is.came
+  where
+    by : (parts : ℕ) → PartsCame S tries parts s last → S last
+    by zero came = rw came from
+    by (suc parts) came = came.2
 
 -- CBh is not counted as a refusal, and a plain controller may answer it
 refused_inventory : {tries : ℕ} {s s' : Seen} (id : ℕ) (code : Code) → IsNotPlain (FruEnded.Refused code)

@@ -11,7 +11,7 @@ use Rattle.std.proofs.lemmas.List.Elements.{All-append, All-cons, All-nil, All-w
 use Rattle.std.proofs.lemmas.List.{append-nil, append_assoc, get_or-append-add, get_or_append_left, length-append}
 use Rattle.ipmi_bus.proofs.HeldLemmas.{held_at_last, held_in_first, keeps_first, keeps_same, keeps_second}
 use Rattle.ipmi_capture.specs.Accounted.{AtSome, IsAbsent, IsListedOrAbsent, IsReadingAccounted}
-use Rattle.ipmi_capture.specs.Below.{as_inventory, AsksAtMost, Cycle, Ended, GaveUp, Malformed, Missing, Refused, Stalled, IsHonest, Inventory, inventory_in, inventory_of, Reading, SensorReading, reading_in, reading_of, FruEnded, InventoryCounts, InventoryIs, Keeps, LastFruCallSays, not_present, ReadsInventory, ReadsValue, Row, Seen, Shelf, stays_refl, stays_trans, StaysHonest, Store, with_inventory, with_reading, WalkEnd, WithinTries}
+use Rattle.ipmi_capture.specs.Below.{as_inventory, AsksAtMost, Cycle, Ended, GaveUp, Malformed, Missing, Refused, Stalled, IsHonest, Inventory, inventory_in, inventory_of, Reading, SensorReading, reading_in, reading_of, FruEnded, InventoryCounts, InventoryIs, Keeps, LastFruCallSays, not_present, ReadsRetryingParts, ReadsValue, Row, Seen, Shelf, stays_refl, stays_trans, StaysHonest, Store, with_inventory, with_reading, WalkEnd, WithinTries}
 use Rattle.ipmi_capture.specs.Capture.{InventoryOrLeft, NoneOrSame, OwnInventories, OwnReadings, ReadingOrLeft}
 use Rattle.ipmi_capture.specs.Left.{AreCounted, CountsGrow, EndIsNoted, LacksInventory, LacksReading, LacksRecords, NotesEnd, PlainLeaves, SameOrLeft, unread_in, unread_of}
 use Rattle.ipmi_capture.specs.Meanwhile.{IsTrueWhile, OfHeld}
@@ -19,7 +19,7 @@ use Rattle.ipmi_capture.specs.Named.{IsSensorKey, sensor_place}
 use Rattle.ipmi_capture.specs.Phases.{Adds, AreInventoriesAccounted, AreReadingsAccounted, AreRowsOf, AreWalk, Captures, HasInventories, HasInventoriesWhile, HasInventory, HasRead, HasReadings, HasReadingsWhile, CutOffIsIn, IsLeftAfter, IsLeftBy, IsNotPlain, IsRefusedAgain, IsUnkept, IsUnread, most_for_inventory, NoneIsLeft}
 use Rattle.ipmi_capture.specs.declared.left.Left.{Left}
 use Rattle.ipmi_capture.specs.declared.left.Unread.{Unread}
-use Rattle.ipmi_capture.proofs.CountLemmas.{counted_inventory, counted_nothing, counted_size, counted_then, counted_value, grown_none, grown_then, grown_within}
+use Rattle.ipmi_capture.proofs.CountLemmas.{counted_after, counted_inventory, counted_nothing, counted_size, counted_then, counted_value, grown_none, grown_parts, grown_then, grown_within, last_state}
 use Rattle.ipmi_capture.proofs.FoundLemmas.{inventory_in-snoc, kept_more, kept_next, KeptBelow, read_more, read_next, ReadBelow, reading_in-snoc}
 use Rattle.ipmi_capture.proofs.MeanwhileLemmas.{kept_value, no_some, of_held_first, of_held_second, told_first, told_second}
 use Rattle.ipmi_capture.proofs.StepLemmas.{between}
@@ -840,24 +840,29 @@ pub has_inventory : (id : ℕ) (bytes : List ℕ) (old new : Store) → inventor
     → new ≡ with_inventory id bytes old → HasInventory id (inventory_of id new) old new
 has_inventory id bytes old new none is = rw (kept_again id bytes old new none is) is
 
--- no store was added while it was read
-read_same : {tries : ℕ} {s s' : Seen} {result : Result (List ℕ) FruEnded} (id : ℕ) → ReadsInventory id tries s s' result
-    → s'.stores_added ≡ s.stores_added → InventoryIs id tries s s' result
-read_same {s = s} {s' = s'} id reads same = reads.is (keeps_same (inventory_of id) s s' reads.stays.store same)
+-- it did not change while it was read
+all_there : {S : Seen → Type 0} {tries : ℕ} {s s' : Seen} {bytes : List ℕ} (id : ℕ)
+    → ReadsRetryingParts S id tries s s' (Ok bytes) → Keeps (inventory_of id) s s' → inventory_of id s.store ≡ Some bytes
+all_there id reads keeps = sym (reads.kept keeps) ∙ (reads.is keeps).1
+
+-- its parts and the troubles after the last of them
+grown_read : {S : Seen → Type 0} {tries : ℕ} {s s' : Seen} {bytes : List ℕ} (id : ℕ)
+    → ReadsRetryingParts S id tries s s' (Ok bytes) → CountsGrow s s'
+grown_read id reads = grown_then (grown_parts reads.is_last) (grown_within reads.counts.0)
 
 pub came_inventory : {S : Seen → Type 0} {tries : ℕ} {s s' : Seen} (id : ℕ) (bytes : List ℕ) (old new : Store)
     → inventory_of id old ≡ None → new ≡ with_inventory id bytes old
-    → ReadsInventory id tries s s' (Ok bytes)
+    → ReadsRetryingParts S id tries s s' (Ok bytes)
     → Captures S tries s s' [] [] (InventoryOrLeft [] new s.store id)
-came_inventory id bytes old new none is reads =
-    nothing_left [] (grown_within reads.counts.0) (λ same. inl (kept_again id bytes old new none is ∙ sym (read_same id reads same).1))
+came_inventory {s = s} {s' = s'} id bytes old new none is reads = nothing_left [] (grown_read id reads) (λ same.
+    inl (kept_again id bytes old new none is ∙ sym (all_there id reads (keeps_same (inventory_of id) s s' reads.stays.store same))))
 
 -- the inventory did not change while it was read
-pub inventory_while : {tries : ℕ} {s s' : Seen} (id : ℕ) (bytes : List ℕ) (old new : Store)
+pub inventory_while : {S : Seen → Type 0} {tries : ℕ} {s s' : Seen} (id : ℕ) (bytes : List ℕ) (old new : Store)
     → inventory_of id old ≡ None → new ≡ with_inventory id bytes old
-    → ReadsInventory id tries s s' (Ok bytes)
+    → ReadsRetryingParts S id tries s s' (Ok bytes)
     → Keeps (inventory_of id) s s' → InventoryOrLeft [] new s.store id
-inventory_while id bytes old new none is reads keeps = inl (kept_again id bytes old new none is ∙ sym (reads.is keeps).1)
+inventory_while id bytes old new none is reads keeps = inl (kept_again id bytes old new none is ∙ sym (all_there id reads keeps))
 
 -- an inventory without bytes is not put into the image
 pub empty_while : (s s' : Seen) (id : ℕ) (image : Store) → inventory_of id image ≡ None
@@ -865,36 +870,38 @@ pub empty_while : (s s' : Seen) (id : ℕ) (image : Store) → inventory_of id i
 empty_while s s' id image none keeps = inr (none, any_of_one (LacksInventory id) (Left.Empty id) refl)
 
 pub came_empty : {S : Seen → Type 0} {tries : ℕ} {s s' : Seen} (id : ℕ) (bytes : List ℕ) (image : Store)
-    → inventory_of id image ≡ None → bytes ≡ [] → ReadsInventory id tries s s' (Ok bytes)
+    → inventory_of id image ≡ None → bytes ≡ [] → ReadsRetryingParts S id tries s s' (Ok bytes)
     → Captures S tries s s' [] (Left.Empty id ∷ []) (InventoryOrLeft (Left.Empty id ∷ []) image s.store id)
 came_empty {S = S} {tries = tries} {s = s} {s' = s'} id bytes image none no_bytes reads = record {
   more = Left.Empty id ∷ [];
   grows = refl;
-  counts = counted_nothing S tries (Left.Empty id) refl (grown_within reads.counts.0);
+  counts = counted_nothing S tries (Left.Empty id) refl (grown_read id reads);
   fact = λ same. inr (none, any_of_one (LacksInventory id) (Left.Empty id) refl);
   told = one_told s s' (Left.Empty id) ((s'.store, held_at_last s s', reads.counts.1), empty);
   plain = λ p all. All-cons (PlainLeaves s.store) (Left.Empty id) [] (empty (keeps_same (inventory_of id) s s' reads.stays.store (reads.stays.plain_store p))) (All-nil (PlainLeaves s.store));
 }
   where
     empty : Keeps (inventory_of id) s s' → inventory_of id s.store ≡ Some []
-    empty keeps = (reads.is keeps).1 ∙ ap Some no_bytes
+    empty keeps = all_there id reads keeps ∙ ap Some no_bytes
 
 -- an inventory that was not read is left out, unless there is none
 module _ (S : Seen → Type 0) {tries : ℕ} {s s' s'' : Seen} (id : ℕ) (ended : FruEnded) (image : Store)
-    (none : inventory_of id image ≡ None) (reads : ReadsInventory id tries s s' (Err ended))
+    (none : inventory_of id image ≡ None) (reads : ReadsRetryingParts S id tries s s' (Err ended))
     (later : StaysHonest s' s'') (after : CountsGrow s' s'') where
   -- CBh was answered, and the store has no such inventory
-  absent : ended ≡ FruEnded.Refused not_present → WithinTries tries s s'
+  absent : ended ≡ FruEnded.Refused not_present → CountsGrow s s'
       × (Keeps (inventory_of id) s s'' → inventory_of id s.store ≡ None)
   absent is = (
-    within (rw is at reads.counts),
-    λ keeps. lacks (rw is at (reads.is (keeps_first (inventory_of id) s s' s'' reads.stays.store later.store keeps))),
+    grown_then (grown_parts reads.is_last) (grown_within (within (rw is at reads.counts))),
+    λ keeps.
+        let first = keeps_first (inventory_of id) s s' s'' reads.stays.store later.store keeps in
+        sym (reads.kept first) ∙ lacks (rw is at (reads.is first)),
   )
     where
-      within : InventoryCounts id tries s s' (Err (FruEnded.Refused not_present)) → WithinTries tries s s'
+      within : InventoryCounts id tries reads.last s' (Err (FruEnded.Refused not_present)) → WithinTries tries reads.last s'
       within counts = counts.0
 
-      lacks : InventoryIs id tries s s' (Err (FruEnded.Refused not_present)) → inventory_of id s.store ≡ None
+      lacks : InventoryIs id tries reads.last s' (Err (FruEnded.Refused not_present)) → inventory_of id reads.last.store ≡ None
       lacks is = is.1
 
   -- it was refused or given up
@@ -910,7 +917,7 @@ module _ (S : Seen → Type 0) {tries : ℕ} {s s' s'' : Seen} (id : ℕ) (ended
     plain = λ p all. absurd (not_plain (reads.plain p).0);
   }
 
-  told_ended : (i : ℕ) (e : FruEnded) → IsNotPlain e → InventoryCounts id tries s s' (Err e)
+  told_ended : (i : ℕ) (e : FruEnded) → IsNotPlain e → InventoryCounts id tries reads.last s' (Err e)
       → IsTrueWhile s s'' (Left.Inventory i e)
   told_ended i FruEnded.Memory not counts = absurd (not tt)
   told_ended i FruEnded.GaveUp not counts = tt
@@ -928,7 +935,7 @@ module _ (S : Seen → Type 0) {tries : ℕ} {s s' s'' : Seen} (id : ℕ) (ended
   left_cut is there = record {
     more = Left.CutOff id ∷ [];
     grows = refl;
-    counts = counted_nothing S tries (Left.CutOff id) refl (grown_then (grown_within (absent is).0) after);
+    counts = counted_nothing S tries (Left.CutOff id) refl (grown_then (absent is).0 after);
     fact = λ same. inr (none, any_of_one (LacksInventory id) (Left.CutOff id) refl);
     told = one_told s s'' (Left.CutOff id) ((s''.store, held_at_last s s'', there), out);
     plain = λ p all.
@@ -936,11 +943,15 @@ module _ (S : Seen → Type 0) {tries : ℕ} {s s' s'' : Seen} (id : ℕ) (ended
         absurd (never_cut is there (keeps_same (inventory_of id) s s'' all.store (all.plain_store p)));
   }
     where
-      none_then : InventoryCounts id tries s s' (Err (FruEnded.Refused not_present)) → inventory_of id s'.store ≡ None
+      none_then : InventoryCounts id tries reads.last s' (Err (FruEnded.Refused not_present)) → inventory_of id s'.store ≡ None
       none_then counts = counts.1
 
       out : OfHeld s s'' (λ store. inventory_of id store ≡ None)
       out = (s'.store, held_in_first s s' s'' reads.stays.store later.store s'.store (held_at_last s s'), none_then (rw is at reads.counts))
+
+  -- the parts that came before
+  before : (lacks : Left) → AreCounted S tries (lacks ∷ []) reads.last s'' → AreCounted S tries (lacks ∷ []) s s''
+  before lacks counts = counted_after S tries (lacks ∷ []) s'' (grown_parts reads.is_last) counts
 
   left_one : (failure : Option ℕ) (lacks : Left) → S s → S s' → S s'' → IsLeftBy id ended failure lacks → IsRefusedAgain s' s'' lacks
       → CutOffIsIn s''.store lacks
@@ -953,14 +964,14 @@ module _ (S : Seen → Type 0) {tries : ℕ} {s s' s'' : Seen} (id : ℕ) (ended
       subst (λ (x : ℕ). Captures S tries s s'' [] (Left.CutOff x ∷ []) (InventoryOrLeft (Left.CutOff x ∷ []) image s.store id)) (sym left.0)
       (left_cut left.1 (subst (λ (x : ℕ). IsSome (inventory_of x s''.store)) left.0 there))
   left_one failure (Left.Size i code) from to end left again there =
-      left_unread (Left.Size i code) left.0 left.1 tt (counted_size S tries i id code from to end (rw left.2 at left.1) (rw left.2 at reads.counts) again)
+      left_unread (Left.Size i code) left.0 left.1 tt (before (Left.Size i code) (counted_size S tries i id code (last_state from reads.is_last) to end (rw left.2 at left.1) (rw left.2 at reads.counts) again))
   left_one failure (Left.Inventory i e) from to end left again there =
       subst (λ (x : FruEnded). Captures S tries s s'' [] (Left.Inventory i x ∷ []) (InventoryOrLeft (Left.Inventory i x ∷ []) image s.store id)) (sym left.2)
-      (left_unread (Left.Inventory i ended) left.0 left.1 (told_ended i ended left.1 reads.counts) (counted_inventory S tries i id ended from to left.1 reads.counts after))
+      (left_unread (Left.Inventory i ended) left.0 left.1 (told_ended i ended left.1 reads.counts) (before (Left.Inventory i ended) (counted_inventory S tries i id ended (last_state from reads.is_last) to left.1 reads.counts after)))
 
 pub left_inventory : (S : Seen → Type 0) {tries : ℕ} {s s' s'' : Seen} (id : ℕ) (ended : FruEnded) (failure : Option ℕ)
     (result : Result (Option Left) AllocError) (image : Store) → S s → S s' → S s'' → inventory_of id image ≡ None
-    → ReadsInventory id tries s s' (Err ended) → StaysHonest s' s'' → CountsGrow s' s''
+    → ReadsRetryingParts S id tries s s' (Err ended) → StaysHonest s' s'' → CountsGrow s' s''
     → IfOk result (λ o. MatchOption o (ended ≡ FruEnded.Refused not_present) (IsLeftBy id ended failure))
     → IfOk result (λ o. IfSome o (IsRefusedAgain s' s'')) → IfOk result (λ o. IfSome o (CutOffIsIn s''.store))
     → IfOk result (λ o. Captures S tries s s'' [] (option_to_list o)
@@ -968,7 +979,7 @@ pub left_inventory : (S : Seen → Type 0) {tries : ℕ} {s s' s'' : Seen} (id :
 left_inventory S id ended failure (Err e) image from to end none reads later after left again there = tt
 left_inventory S {s = s} {s' = s'} {s'' = s''} id ended failure (Ok None) image from to end none reads later after left again there =
     let gone = absent S id ended image none reads later after left in
-    nothing_left [] (grown_then (grown_within gone.0) after) (λ same. inl (none ∙ sym (gone.1 (keeps_same (inventory_of id) s s'' (stays_trans s s' s'' reads.stays later).store same))))
+    nothing_left [] (grown_then gone.0 after) (λ same. inl (none ∙ sym (gone.1 (keeps_same (inventory_of id) s s'' (stays_trans s s' s'' reads.stays later).store same))))
 left_inventory S id ended failure (Ok (Some lacks)) image from to end none reads later after left again there =
     left_one S id ended image none reads later after failure lacks from to end left again there
 
@@ -982,16 +993,17 @@ lacks_by id ended failure (Left.CutOff i) left = left.0
 lacks_by id ended failure (Left.Inventory i e) left = left.0
 
 -- it is left out, or there is none
-pub left_inventory_while : {tries : ℕ} {s s' s'' : Seen} (id : ℕ) (ended : FruEnded) (failure : Option ℕ)
+pub left_inventory_while : {S : Seen → Type 0} {tries : ℕ} {s s' s'' : Seen} (id : ℕ) (ended : FruEnded) (failure : Option ℕ)
     (result : Result (Option Left) AllocError) (image : Store) → inventory_of id image ≡ None
-    → ReadsInventory id tries s s' (Err ended) → StaysHonest s' s''
+    → ReadsRetryingParts S id tries s s' (Err ended) → StaysHonest s' s''
     → IfOk result (λ o. MatchOption o (ended ≡ FruEnded.Refused not_present) (IsLeftBy id ended failure))
     → IfOk result (λ o. Keeps (inventory_of id) s s'' → InventoryOrLeft (option_to_list o) image s.store id)
 left_inventory_while id ended failure (Err e) image none reads later left = tt
-left_inventory_while {tries} {s} {s'} {s''} id ended failure (Ok None) image none reads later left = λ keeps.
-    inl (none ∙ sym (lacks (rw left at (reads.is (keeps_first (inventory_of id) s s' s'' reads.stays.store later.store keeps)))))
+left_inventory_while {S} {tries} {s} {s'} {s''} id ended failure (Ok None) image none reads later left = λ keeps.
+    let first = keeps_first (inventory_of id) s s' s'' reads.stays.store later.store keeps in
+    inl (none ∙ sym (sym (reads.kept first) ∙ lacks (rw left at (reads.is first))))
   where
-    lacks : InventoryIs id tries s s' (Err (FruEnded.Refused not_present)) → inventory_of id s.store ≡ None
+    lacks : InventoryIs id tries reads.last s' (Err (FruEnded.Refused not_present)) → inventory_of id reads.last.store ≡ None
     lacks is = is.1
 left_inventory_while id ended failure (Ok (Some l)) image none reads later left = λ keeps.
     inr (none, any_of_one (LacksInventory id) l (lacks_by id ended failure l left))

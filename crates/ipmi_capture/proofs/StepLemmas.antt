@@ -125,11 +125,17 @@ pub walked_none : (shelf : Shelf) (part tries : ℕ) (s : Seen) (cursor : Cursor
       place = First;
       part = part;
       tries = tries;
+      ahead = false;
       ids = set.empty;
       reservation = None;
     } → ((rows walk : List Row) → StandsAt rows First walk 0 cursor)
-    → Walked shelf part tries s s cursor old old
-walked_none shelf part tries s cursor old some none fresh stands =
+    → Walked shelf part tries s s (record cursor { ahead = true }) old old
+walked_none shelf part tries s begun old some none fresh_begun stands_begun =
+    let cursor : CursorState = record begun { ahead = true } in
+    let fresh : cursor ≡ record { shelf = shelf; place = First; part = part; tries = tries; ahead = true; ids = set.empty; reservation = None } =
+    ap (λ (x : CursorState). record x { ahead = true }) fresh_begun in
+    let stands : (rows walk : List Row) → StandsAt rows First walk 0 cursor =
+    λ rows walk. let there = stands_begun rows walk in record { within = there.within; place = there.place; ids = there.ids } in
     let ids : set.len cursor.ids ≡ 0 = ap (λ (x : CursorState). set.len x.ids) fresh ∙ len-empty nat_cmp in
     let part_is : cursor.part ≡ part = ap (λ (x : CursorState). x.part) fresh in
     record {

@@ -5,13 +5,13 @@ pub use Rattle.ipmi_records.specs.declared.sdr.SdrFault.{SdrFault}
 pub use Rattle.ipmi_records.specs.declared.sdr.SdrView.{SdrView}
 pub use Rattle.ipmi_records.specs.Sdr.{sdr_view_of}
 pub use Rattle.ipmi_bus.specs.Answers.{not_present}
-pub use Rattle.ipmi_bus.specs.Bounds.{digits, fru_call_bound, step_call_bound}
+pub use Rattle.ipmi_bus.specs.Bounds.{digits, retrying_call_bound, step_call_bound}
 pub use Rattle.ipmi_bus.specs.CursorState.{CursorState, start_of}
 pub use Rattle.ipmi_bus.specs.Grown.{OnlyGrew}
 pub use Rattle.ipmi_bus.specs.Growth.{AllFollowOrStop, FollowsOrStops, IsLog, OnGrowing, WasLog}
 pub use Rattle.ipmi_bus.specs.Held.{AllGive, Keeps, WasHeld}
-pub use Rattle.ipmi_bus.specs.Readers.{as_inventory, InventoryCounts, InventoryIs, PlainMayAnswer, ReadsInventory, ReadsValue, ValueIs}
-pub use Rattle.ipmi_bus.specs.Seen.{AsksAtMost, IsHonest, IsPlain, IsRefused, Seen, stays_refl, stays_trans, StaysHonest}
+pub use Rattle.ipmi_bus.specs.Readers.{as_inventory, InventoryCounts, InventoryIs, IsLastPart, PartsCame, PlainMayAnswer, ReadsRetryingParts, ReadsValue, ValueIs}
+pub use Rattle.ipmi_bus.specs.Seen.{AsksAtMost, IsHonest, IsPlain, IsRefused, IsStateOf, Seen, stays_refl, stays_trans, StaysHonest}
 pub use Rattle.ipmi_bus.specs.Shelf.{DistinctIds, first_row, FoundIsRow, id_in, IsShelf, largest_len, LacksId, look, Row, row_with_id, whole_len}
 pub use Rattle.ipmi_bus.specs.Standing.{StandsAt, WalkStep}
 pub use Rattle.ipmi_bus.specs.Step.{asked_at, CursorHoldsCurrent, cycle_at, handed_id, HandsOut, IsStep, StepAnswers, StepIsHonest, StepIsPlain, StepLeaves}

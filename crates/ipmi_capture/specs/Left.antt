@@ -3,6 +3,7 @@
 use Rattle.std.specs.Prelude.{◌≡◌, ℕ, ◌+◌, ◌≤◌, Bool, true, false, codes, decimal, flat_map, Option, None, Some, List, [], ◌∷◌, ◌++◌, ◌⊎◌}
 use Rattle.std.specs.List.{Any}
 use Rattle.ipmi_capture.specs.Below.{byte_h, Cycle, CycleAt, Done, Ended, ended_text, EndsBy, First, FruEnded, GaveUp, hex_byte, info_of, inventory_of, IsRefusedWith, IsWalk, Malformed, Missing, MissingAt, reading_of, Refused, Row, rows_of, Sdr, Seen, Sel, Shelf, Stalled, Store, WalkEnd}
+pub use Rattle.ipmi_capture.specs.Below.{IsStateOf}
 use Rattle.ipmi_capture.specs.declared.left.Left.{Left}
 use Rattle.ipmi_capture.specs.declared.left.Unread.{Unread}
 
@@ -154,10 +155,6 @@ abbrev pub HaveStretches : (Seen → Type 0) → ℕ → List Unread → Seen �
 HaveStretches IsState tries [] s s' = CountsGrow s s'
 HaveStretches IsState tries (unread ∷ more) s s' = (from : Seen) × (to : Seen) × IsState from × IsState to
     × CountsGrow s from × IsUnreadOver tries unread from to × HaveStretches IsState tries more to s'
-
--- A state that a controller of this type has. Code that works with any such type meets no other states than those of its run.
-abbrev pub IsStateOf : {C : Type 0} → (C → Seen) → Seen → Type 0
-IsStateOf {C} seen s = (ctl : C) × (seen ctl ≡ s)
 
 -- The controller counted each item left out: one after another, each was given up or refused in a stretch of its own, a size in two.
 abbrev pub AreCounted : (Seen → Type 0) → ℕ → List Left → Seen → Seen → Type 0

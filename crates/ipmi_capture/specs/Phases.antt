@@ -3,7 +3,7 @@ use Rattle.std.specs.Prelude.{◌≡◌, ◌≢◌, ℕ, ◌+◌, ◌*◌, ◌<�
 use Rattle.std.specs.List.{Any}
 use Rattle.std.specs.Option.{option_to_list}
 use Rattle.ipmi_capture.specs.Accounted.{IsListedOrAbsent, IsReadingAccounted}
-use Rattle.ipmi_capture.specs.Below.{Code, Cycle, CycleAt, Done, Ended, EndsBy, First, FruEnded, fru_call_bound, inventory_of, IsRefused, IsWalk, Keeps, largest_len, Malformed, Missing, MissingAt, not_present, OnGrowing, PlainMayAnswer, Reading, reading_of, Row, rows_of, Sdr, Seen, Sel, Shelf, Stalled, step_call_bound, Store, WalkEnd, with_inventory, with_reading}
+use Rattle.ipmi_capture.specs.Below.{Code, Cycle, CycleAt, Done, Ended, EndsBy, First, FruEnded, inventory_of, IsRefused, IsWalk, Keeps, largest_len, Malformed, Missing, MissingAt, not_present, OnGrowing, PlainMayAnswer, Reading, reading_of, retrying_call_bound, Row, rows_of, Sdr, Seen, Sel, Shelf, Stalled, step_call_bound, Store, WalkEnd, with_inventory, with_reading}
 use Rattle.ipmi_capture.specs.Capture.{InventoryOrLeft, NoneOrSame, OwnInventories, OwnReadings, ReadingOrLeft}
 use Rattle.ipmi_capture.specs.Left.{AreCounted, EndIsNoted, EndsAs, LacksInventory, LacksReading, LacksRecords, PlainLeaves}
 use Rattle.ipmi_capture.specs.Meanwhile.{IsTrueWhile, OfHeld, OwnRows}
@@ -216,7 +216,7 @@ most_on_shelf shelf tries = 4 * most_on_walk shelf tries
 
 -- for an inventory, and once more for its size
 abbrev pub most_for_inventory : ℕ → ℕ
-most_for_inventory tries = fru_call_bound tries 65535 + 1
+most_for_inventory tries = retrying_call_bound tries 65535 + 1
 
 -- for both shelves, both infos, 1024 readings and 255 inventories
 abbrev pub most_calls : ℕ → ℕ

@@ -18,7 +18,7 @@ use ipmi_bus::{Controller, Shelf};
 use ipmi_image::{Image, ImageBuilder};
 use std::alloc::{AllocError, Global};
 
-/// The settings for requests: the largest part in bytes, and the number of troubles allowed for each item.
+/// The settings for requests: the largest part in bytes, and the number of troubles allowed for each item, or part of an inventory.
 #[derive(Clone, Copy)]
 pub(crate) struct Asking {
     pub(crate) alloc: Global,
@@ -137,7 +137,8 @@ fn capture_into<C: Controller, P: Progress>(
 
 /// Reads the contents of the controller: the records of both shelves along their next ids, both infos, the inventory of
 /// device 0, and once each the readings of the sensors and the inventories of the devices that records name. A request is
-/// for at most `part` bytes. Each item may have `tries` troubles. After a refusal it continues with the next item.
+/// for at most `part` bytes. Each item may have `tries` troubles, and so may each part of an inventory. After a refusal it continues
+/// with the next item.
 ///
 /// Over any controller, an item left out is not in the image; of a shelf, the first records may be, and they end as is noted. Nothing
 /// is missing without a note: the records of a shelf end with FFFFh, and an info, or a reading or inventory that a record names, is in

@@ -2,7 +2,7 @@
 ghost use Rattle.std.specs.Prelude.{◌≡◌, ◌≢◌, ◌+◌, ◌*◌, ◌<◌, ◌≤◌, IfErr, IfOk, IfSome, MatchOption, OnErr, OnOk, [], None, Some, false, vec_len, ℕ, ⊤};
 ghost use Rattle.std.specs.Option.{option_to_list};
 ghost use Rattle.ipmi_capture.specs.Accounted.{AtSome, IsAbsent};
-ghost use Rattle.ipmi_capture.specs.Below.{as_inventory, AsksAtMost, FruEnded, inventory_of, IsHonest, Keeps, LastFruCallSays, not_present, ReadsInventory, Seen, StaysHonest};
+ghost use Rattle.ipmi_capture.specs.Below.{as_inventory, AsksAtMost, FruEnded, inventory_of, IsHonest, Keeps, LastFruCallSays, not_present, ReadsRetryingParts, Seen, StaysHonest};
 ghost use Rattle.ipmi_capture.specs.Capture.{InventoryOrLeft};
 ghost use Rattle.ipmi_capture.specs.Left.{CountsGrow, IsStateOf, LacksInventory};
 ghost use Rattle.ipmi_capture.specs.Phases.{Adds, AreInventoriesAccounted, Captures, CutOffIsIn, IsLeftAfter, IsLeftBy, NoneIsLeft, IsNotSize, IsRefusedAgain, IsUnkept, HasInventories, HasInventoriesWhile, HasInventory, most_for_inventory};
@@ -11,7 +11,7 @@ use crate::capturing::Asking;
 use crate::left::{Left, note};
 use crate::named::Named;
 use crate::progress::Progress;
-use ipmi_bus::{Code, Controller, FruEnded, LAST_FRU_DEVICE_ID, read_fru};
+use ipmi_bus::{Code, Controller, FruEnded, LAST_FRU_DEVICE_ID, read_fru_retrying_parts};
 use ipmi_image::ImageBuilder;
 use std::alloc::AllocError;
 
@@ -85,10 +85,10 @@ fn take_inventory<C: Controller, P: Progress>(
     ensures calls { (C.seen ctl.new).calls ≤ (C.seen ctl.old).calls + 1 }
     ensures asked { AsksAtMost 0 (C.seen ctl.old) (C.seen ctl.new) }
     ensures stays { IsHonest (C.seen ctl.old) → StaysHonest (C.seen ctl.old) (C.seen ctl.new) }
-    ensures honest { (s : Seen) (tries : ℕ) → IsStateOf C.seen s → ReadsInventory id tries s (C.seen ctl.old) (as_inventory read) →
+    ensures honest { (s : Seen) (tries : ℕ) → IsStateOf C.seen s → ReadsRetryingParts (IsStateOf C.seen) id tries s (C.seen ctl.old) (as_inventory read) →
         IfOk result (λ left. Captures (IsStateOf C.seen) tries s (C.seen ctl.new) []
         (option_to_list left) (InventoryOrLeft (option_to_list left) image.new s.store id)) }
-    ensures meanwhile { (s : Seen) (tries : ℕ) → ReadsInventory id tries s (C.seen ctl.old) (as_inventory read) →
+    ensures meanwhile { (s : Seen) (tries : ℕ) → ReadsRetryingParts (IsStateOf C.seen) id tries s (C.seen ctl.old) (as_inventory read) →
         IfOk result (λ left. Keeps (inventory_of id) s (C.seen ctl.new) →
         InventoryOrLeft (option_to_list left) image.new s.store id) }
 {
@@ -131,7 +131,7 @@ fn capture_inventory<C: Controller, P: Progress>(
     ensures meanwhile { IsHonest (C.seen ctl.old) → IfOk result (λ left. Keeps (inventory_of id) (C.seen ctl.old) (C.seen ctl.new) →
         InventoryOrLeft (option_to_list left) image.new (C.seen ctl.old).store id) }
 {
-    let read = read_fru(asking.alloc, ctl, id, asking.part, asking.tries);
+    let read = read_fru_retrying_parts(asking.alloc, ctl, id, asking.part, asking.tries);
     take_inventory(ctl, id, read, image, progress)
 }
 

@@ -38,6 +38,7 @@ fn walk_shelf<C: Controller, P: Progress>(
         WalksWhile shelf (C.seen ctl.old) (C.seen ctl.new) (rows_of shelf image.new) ended) }
 {
     let mut cursor = Cursor::start(asking.alloc, shelf, None, asking.part, asking.tries)?;
+    cursor.read_ahead(true);
     'records: loop {
         let record = match cursor.step(ctl) {
             Ok(Some(record)) => record,

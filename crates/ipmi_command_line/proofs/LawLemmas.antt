@@ -21,7 +21,7 @@ use Rattle.ipmi_command_line.specs.declared.request.Source.{Source}
 use Rattle.ipmi_command_line.specs.Command.{CommandState, command_of_task, meaning_of, number_or, start_of_text, with_options}
 use Rattle.ipmi_command_line.specs.Commands.{RowState, commands, row_of}
 use Rattle.ipmi_command_line.specs.Number.{digits_of, number_of, within}
-use Rattle.ipmi_command_line.specs.Request.{entry_of, format_of, has_option, limits_of, misplaced, part_of_text, printed_of, request_of, request_of_found, request_of_words, rewrite_of, source_of, text_format, with_parts}
+use Rattle.ipmi_command_line.specs.Request.{entry_of, format_of, has_option, limits_of, misplaced, part_of_text, printed_of, records_of, request_of, request_of_found, request_of_words, rewrite_of, source_of, text_format, with_parts}
 use Rattle.ipmi_command_line.specs.Table.{are, entries_of, newest, oldest, task_of, task_of_four, task_of_one, task_of_three, task_of_two}
 use Rattle.ipmi_command_line.specs.declared.commands.Verb.{Verb}
 use Rattle.ipmi_command_line.specs.declared.task.Task.{Task}
@@ -145,6 +145,7 @@ not_true false is = refl
 record Alone (rows : List Row) : Type 0 where
   label : has_value (codes "label") rows ≡ false
   live : has_value (codes "live") rows ≡ false
+  records : has_value (codes "records") rows ≡ false
   id : has_value (codes "id") rows ≡ false
   output : has_value (codes "output") rows ≡ false
   strict : is_given (codes "strict") rows ≡ false
@@ -161,7 +162,8 @@ alone rows is =
     let rest = and_parts (not (has_other_flag rows)) (nat_le (length (values_of (codes "image") rows)) 1) all.1 in
     let label = none_or (has_value (codes "label") rows) _ (not_true _ all.0) in
     let live = none_or (has_value (codes "live") rows) _ label.1 in
-    let id = none_or (has_value (codes "id") rows) (has_value (codes "output") rows) live.1 in
+    let records = none_or (has_value (codes "records") rows) _ live.1 in
+    let id = none_or (has_value (codes "id") rows) (has_value (codes "output") rows) records.1 in
     let strict = none_or (is_given (codes "strict") rows) _ (not_true _ rest.0) in
     let json = none_or (is_given (codes "json") rows) _ strict.1 in
     let quiet = none_or (is_given (codes "quiet") rows) _ json.1 in
@@ -169,6 +171,7 @@ alone rows is =
     record {
       label = label.0;
       live = live.0;
+      records = records.0;
       id = id.0;
       output = id.1;
       strict = strict.0;
@@ -187,7 +190,7 @@ no_value (Some text) is = absurd (true≢false is)
 all_placed : (options : List Text) (rows : List Row) → Alone rows → has_option options (codes "image") ≡ true
     → misplaced options rows ≡ None
 unfolding misplaced
-all_placed options rows h takes = grind (arith, takes, h.label, h.live, h.id, h.output, h.strict, h.json, h.quiet)
+all_placed options rows h takes = grind (arith, takes, h.label, h.live, h.records, h.id, h.output, h.strict, h.json, h.quiet)
 
 -- ---- the images
 
@@ -217,6 +220,9 @@ sources rows h =
     ∙ source_is (values_of (codes "image") rows) h.images
     ∙ ap (λ images. Some (Source.Images images)) (sym (one_image (values_of (codes "image") rows) h.images)
     ∙ ap images_of (sym (first_is (codes "image") rows)))
+
+no_records : (rows : List Row) → Alone rows → records_of rows ≡ Some None
+no_records rows h = rw (h.records, no_value (first_of (codes "records") rows) h.records) refl
 
 -- ---- the values
 
@@ -265,11 +271,11 @@ parts_of image task start part tries command is = absurd (err-ok is)
 
 -- ---- the request
 
-assembled : (m : Option Text) (A : Option Action) (S : Option Source) (L : Option Limits) (F : Option Format) (b : Bool)
-    (a : Action) (s : Source) (l : Limits) → m ≡ None → A ≡ Some a → S ≡ Some s → L ≡ Some l → F ≡ Some Format.Plain
-    → b ≡ false → (if is_some m then None else with_parts A S L F b)
-    ≡ Some (record { action = a; source = s; limits = l; format = Format.Plain; strict = false })
-assembled m A S L F b a s l m_is A_is S_is L_is F_is b_is = rw (m_is, A_is, S_is, L_is, F_is, b_is) refl
+assembled : (m : Option Text) (A : Option Action) (S : Option Source) (R : Option (Option Text)) (L : Option Limits) (F : Option Format) (b : Bool)
+    (a : Action) (s : Source) (l : Limits) → m ≡ None → A ≡ Some a → S ≡ Some s → R ≡ Some None → L ≡ Some l → F ≡ Some Format.Plain
+    → b ≡ false → (if is_some m then None else with_parts A S R L F b)
+    ≡ Some (record { action = a; source = s; records = None; limits = l; format = Format.Plain; strict = false })
+assembled m A S R L F b a s l m_is A_is S_is R_is L_is F_is b_is = rw (m_is, A_is, S_is, R_is, L_is, F_is, b_is) refl
 
 printed : (start : Option (Option ℕ)) (o : Option Task) (task : Task) (from : Option ℕ) → start ≡ Some from → o ≡ Some task
     → (is_some from && not (takes_from task)) ≡ false → printed_of start o ≡ Some (Action.Print task from)
@@ -311,7 +317,7 @@ same w Verb.Task o words rows task command h reads takes is parts =
     let action = printed _ _ task parts.from parts.start_is is parts.taken ∙ ap (λ a. Some a) (plain_action task parts.from reads) in (
       part.0,
       part.2 ∙ ap (λ c. c.part) parts.command_is,
-      assembled _ _ _ _ _ _ _ _ _ (all_placed o rows h takes) action (sources rows h) (limits_are rows part.0 parts.t part.1 parts.tries_is)
+      assembled _ _ _ _ _ _ _ _ _ _ (all_placed o rows h takes) action (sources rows h) (no_records rows h) (limits_are rows part.0 parts.t part.1 parts.tries_is)
           (plain_format rows Verb.Task h refl) h.strict ∙ ap (λ c. Some (same_request part.0 c)) parts.command_is,
     )
 same w Verb.GetEntry o words rows task command h reads takes is parts =
@@ -320,15 +326,15 @@ same w Verb.GetEntry o words rows task command h reads takes is parts =
     let action = printed _ _ task parts.from parts.start_is entry parts.taken ∙ ap (λ a. Some a) (plain_action task parts.from reads) in (
       part.0,
       part.2 ∙ ap (λ c. c.part) parts.command_is,
-      assembled _ _ _ _ _ _ _ _ _ (all_placed o rows h takes) action (sources rows h) (limits_are rows part.0 parts.t part.1 parts.tries_is)
+      assembled _ _ _ _ _ _ _ _ _ _ (all_placed o rows h takes) action (sources rows h) (no_records rows h) (limits_are rows part.0 parts.t part.1 parts.tries_is)
           (plain_format rows Verb.GetEntry h refl) h.strict ∙ ap (λ c. Some (same_request part.0 c)) parts.command_is,
     )
 same w Verb.Rewrite o words rows task command h reads takes is parts =
     let part = part_is (first_of (codes "part") rows) parts.n parts.part_is in (
       part.0,
       part.2 ∙ ap (λ c. c.part) parts.command_is,
-      assembled _ _ _ _ _ _ _ _ _ (all_placed o rows h takes)
-          (rewriting words rows task parts.from h reads.0 reads.1 parts.start_is parts.taken) (sources rows h)
+      assembled _ _ _ _ _ _ _ _ _ _ (all_placed o rows h takes)
+          (rewriting words rows task parts.from h reads.0 reads.1 parts.start_is parts.taken) (sources rows h) (no_records rows h)
           (limits_are rows part.0 parts.t part.1 parts.tries_is)
           (plain_format rows Verb.Rewrite h refl) h.strict ∙ ap (λ c. Some (same_request part.0 c)) parts.command_is,
     )

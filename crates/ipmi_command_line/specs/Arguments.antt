@@ -1,4 +1,4 @@
--- How `clap` parses a command line: thirteen options at any place, and a list of words.
+-- How `clap` parses a command line: fourteen options at any place, and a list of words.
 use Rattle.std.specs.Prelude.{◌&&◌, ◌||◌, nat_lt, nat_le, length, not, is_some, List, [], Some, Bool, true, codes, unwrap_or}
 use Rattle.clap.specs.Simple.{on_top}
 use Rattle.clap.specs.Walk.{is_empty}
@@ -44,8 +44,8 @@ four_options = with_rule (with_rule (with_rule (with_rule base (list_rule (codes
 
 -- and the other options with a value
 abbrev pub valued_options : App
-valued_options = with_rule (with_rule (with_rule (with_rule four_options (list_rule (codes "label")))
-    (option_rule (codes "live"))) (option_rule (codes "id"))) output_rule
+valued_options = with_rule (with_rule (with_rule (with_rule (with_rule four_options (list_rule (codes "label")))
+    (option_rule (codes "live"))) (option_rule (codes "records"))) (option_rule (codes "id"))) output_rule
 
 -- and those without one, and the words
 abbrev pub command_line : App
@@ -80,7 +80,7 @@ has_value name rows = is_some (first_of name rows)
 -- an option that the reference program lacks, with a value
 unfoldable pub has_other_value : List Row → Bool
 has_other_value rows = has_value (codes "label") rows || (has_value (codes "live") rows
-    || (has_value (codes "id") rows || has_value (codes "output") rows))
+    || (has_value (codes "records") rows || (has_value (codes "id") rows || has_value (codes "output") rows)))
 
 -- and one without a value
 unfoldable pub has_other_flag : List Row → Bool

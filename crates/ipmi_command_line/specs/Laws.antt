@@ -22,6 +22,7 @@ abbrev pub same_request : Option ℕ → CommandState → Request
 same_request part command = record {
   action = action_of_task command.task command.from;
   source = Source.Images (images_of command.image);
+  records = None;
   limits = record { part = part; tries = command.tries };
   format = Format.Plain;
   strict = false;

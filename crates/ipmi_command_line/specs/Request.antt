@@ -96,6 +96,11 @@ source_of images None = if nat_lt 1 (standard_inputs images) then None else Some
 source_of [] (Some text) = live_of text
 source_of (image ∷ images) (Some text) = None
 
+-- an image for the records of a live controller
+abbrev pub records_of : List Row → Option (Option Text)
+records_of rows = if has_value (codes "records") rows && not (has_value (codes "live") rows) then None
+    else Some (first_of (codes "records") rows)
+
 -- ---- help
 
 abbrev pub topic_named : Text → Option Topic
@@ -220,22 +225,23 @@ abbrev pub short_request : Action → Request
 short_request action = record {
   action = action;
   source = Source.Images [];
+  records = None;
   limits = record { part = None; tries = 5 };
   format = Format.Plain;
   strict = false;
 }
 
-abbrev pub with_parts : Option Action → Option Source → Option Limits → Option Format → Bool → Option Request
-with_parts (Some action) (Some source) (Some limits) (Some format) strict =
-    Some (record { action = action; source = source; limits = limits; format = format; strict = strict })
-with_parts action source limits format strict = None
+abbrev pub with_parts : Option Action → Option Source → Option (Option Text) → Option Limits → Option Format → Bool → Option Request
+with_parts (Some action) (Some source) (Some records) (Some limits) (Some format) strict =
+    Some (record { action = action; source = source; records = records; limits = limits; format = format; strict = strict })
+with_parts action source records limits format strict = None
 
 -- each option that is given goes with the command
 abbrev pub request_of_row : RowState → List Text → List Row → Option Request
 request_of_row row words rows =
     if is_some (misplaced row.options rows) then None
     else with_parts (action_of row words rows)
-    (source_of (values_of (codes "image") rows) (first_of (codes "live") rows)) (limits_of rows)
+    (source_of (values_of (codes "image") rows) (first_of (codes "live") rows)) (records_of rows) (limits_of rows)
     (format_of row.verb rows) (is_given (codes "strict") rows)
 
 abbrev pub request_of_help : List Text → Option Request

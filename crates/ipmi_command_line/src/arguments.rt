@@ -87,11 +87,12 @@ fn valued_options<'a>(alloc: Global) -> Result<Command<'a>, AllocError>
     four_options(alloc)?
         .arg(list_rule(alloc, "label"))?
         .arg(option_rule(alloc, "live"))?
+        .arg(option_rule(alloc, "records"))?
         .arg(option_rule(alloc, "id"))?
         .arg(output_rule(alloc))
 }
 
-/// The command line: thirteen options, and any number of words.
+/// The command line: fourteen options, and any number of words.
 fn command_line<'a>(alloc: Global) -> Result<Command<'a>, AllocError>
     ensures { IfOk result (λ c. app_of c ≡ command_line) }
 {
@@ -154,6 +155,7 @@ fn has_other_value(matches: &ArgMatches<'_>) -> bool
 {
     has_value(matches, "label")
         || has_value(matches, "live")
+        || has_value(matches, "records")
         || has_value(matches, "id")
         || has_value(matches, "output")
 }

@@ -66,6 +66,8 @@ pub enum UsageError<'a> {
     StandardInputTwice,
     /// There are both an image and a live controller.
     ImageAndLive,
+    /// There is `--records` without a live controller.
+    RecordsWithoutLive,
     /// There is `--label` without `--json`.
     LabelWithoutJson,
 }
@@ -293,6 +295,7 @@ impl UsageError<'_> {
             UsageError::SeveralImages => "'image rewrite' takes one image",
             UsageError::StandardInputTwice => "standard input is given twice",
             UsageError::ImageAndLive => "--image does not go with a live controller",
+            UsageError::RecordsWithoutLive => "--records goes only with a live controller",
             UsageError::LabelWithoutJson => "--label goes only with --json",
             _ => "the command line can't be read: see serdimko --help",
         }

@@ -4,7 +4,7 @@ ghost use Rattle.clap.specs.Words.{first_of, found_of, rows_of};
 ghost use Rattle.ipmi_command_line.specs.Arguments.{values_of};
 ghost use Rattle.ipmi_command_line.specs.Command.{IsTask, number_or, start_of_text};
 ghost use Rattle.ipmi_command_line.specs.Commands.{row_of, row_state, texts};
-ghost use Rattle.ipmi_command_line.specs.Request.{action_of, among_flags, among_values, capture_of, entry_of, events_of, format_of, hex_id_of, help_of, IsRequest, IsAction, has_option, limits_of, live_at, live_of, misplaced, named_of, part_of_text, printed_of, request_of, request_of_command, request_of_help, request_of_row, request_of_rows, request_of_words, rewrite_of, short_request, source_of, standard_inputs, start_of, task_of_row, tool_of, topic_named, topic_of};
+ghost use Rattle.ipmi_command_line.specs.Request.{action_of, among_flags, among_values, capture_of, entry_of, events_of, format_of, hex_id_of, help_of, IsRequest, IsAction, has_option, limits_of, live_at, live_of, misplaced, named_of, part_of_text, printed_of, records_of, request_of, request_of_command, request_of_help, request_of_row, request_of_rows, request_of_words, rewrite_of, short_request, source_of, standard_inputs, start_of, task_of_row, tool_of, topic_named, topic_of};
 ghost use Rattle.ipmi_command_line.specs.declared.error.UsageError.{UsageError};
 
 use crate::arguments::{arguments, has_value, is_given, value, value_count};
@@ -103,6 +103,8 @@ pub struct Request {
     pub action: Action,
     /// Where the records come from.
     pub source: Source,
+    /// The image whose sensor data records stand for those of a live controller, if these are still the same.
+    pub records: Option<Word>,
     /// What may be taken of a controller.
     pub limits: Limits,
     /// How records are printed.
@@ -267,6 +269,20 @@ fn source_of<'a>(alloc: Global, matches: &ArgMatches<'a>) -> Result<Source, Usag
         Some(live) => Ok(live),
         None => Err(value_error("live", Some(text))),
     }
+}
+
+/// The image that has the sensor data records of a live controller, if one is named.
+fn records_of<'a>(alloc: Global, matches: &ArgMatches<'a>) -> Result<Option<Word>, UsageError<'a>>
+    ensures { let meant = records_of (rows_of (found_of matches.now)) in
+        MatchResult result (λ records. meant ≡ Some records) (λ e. (e ≡ UsageError.Memory) ⊎ (meant ≡ None)) }
+{
+    let Some(name) = value(matches, "records") else {
+        return Ok(None);
+    };
+    if !has_value(matches, "live") {
+        return Err(UsageError::RecordsWithoutLive);
+    }
+    Ok(Some(Word::new(alloc, name)?))
 }
 
 // ---- what is to be done
@@ -477,7 +493,7 @@ fn action_of<'a>(
 // ---- options
 
 /// The options with a value that go with some commands only.
-pub const VALUED: [&str; 5] = ["image", "label", "live", "id", "output"];
+pub const VALUED: [&str; 6] = ["image", "label", "live", "records", "id", "output"];
 
 /// The options without a value that go with some commands only.
 pub const FLAGS: [&str; 3] = ["strict", "json", "quiet"];
@@ -564,6 +580,7 @@ fn short_request(alloc: Global, action: Action) -> Request
     Request {
         action,
         source: Source::Images(Words::new(alloc)),
+        records: None,
         limits: Limits {
             part: None,
             tries: DEFAULT_TRIES,
@@ -589,11 +606,13 @@ fn request_of_row<'a>(
     }
     let action = action_of(alloc, row, words, matches)?;
     let source = source_of(alloc, matches)?;
+    let records = records_of(alloc, matches)?;
     let limits = limits_of(matches)?;
     let format = format_of(alloc, row.1, matches)?;
     Ok(Request {
         action,
         source,
+        records,
         limits,
         format,
         strict: is_given(matches, "strict"),

@@ -1,4 +1,5 @@
 //! Tests of the bus: codes, the cursor, listings along it, and the readers.
+mod ahead;
 pub(crate) mod cursor;
 pub(crate) mod interrupted;
 pub(crate) mod inventories;

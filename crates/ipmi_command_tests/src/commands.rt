@@ -1,4 +1,5 @@
 //! Commands over controllers and saved images: what they print, how they end, and how many calls they make.
+mod ahead;
 pub(crate) mod answers;
 mod blocks;
 mod calls_not_present;
@@ -18,6 +19,7 @@ mod infos;
 mod inventories;
 mod inventory_bits;
 mod inventory_cut_short;
+mod kept_entries;
 mod long_inventory;
 mod long_listings;
 mod moods;

@@ -65,7 +65,7 @@ module _ (IsText : Subject → Output → Type 0) (points : List ReadPoint) (p :
       (λ is all. (grind (arith, all.0), ends all.1)) leaves
 
 -- the plan allows the output of the listing of the last entries
-last_leaves : (IsText : Subject → Output → Type 0) (entries : Entries) (n k : ℕ) (start : Place)
+pub last_leaves : (IsText : Subject → Output → Type 0) (entries : Entries) (n k : ℕ) (start : Place)
     (walk : List Row) (old new : Output) (ending : Ending) → k ≡ length walk - n
     → IsAllowed IsText (listing_plan (listing (Form.EntryLine entries) (place_after_rows start (take k walk)) None) (drop k walk) Done) old new ending
     → IsAllowed IsText (last_plan entries n start walk Done) old new ending
@@ -135,7 +135,7 @@ module _ (IsText : Subject → Output → Type 0) (none : AreNoTexts IsText) (en
 -- ---- counting entries
 
 -- all entries of the log as it was at one moment
-counts_grown : (from : Option ℕ) {begun now : CursorState} {c : Change} (result : Result ℕ Failure) (trace : TracesListing Form.Skipped None begun now c result) (first : List Row)
+pub counts_grown : (from : Option ℕ) {begun now : CursorState} {c : Change} (result : Result ℕ Failure) (trace : TracesListing Form.Skipped None begun now c result) (first : List Row)
     (g : ListsGrown Sel (start_of from) first c.seen [] (handed_out trace.steps) Form.Skipped None now c result)
     → EndsTrace Form.Skipped None now trace.steps c result
     → Counted (IsTextWhile c.seen c.seen') (start_of from) g.log Done c.old c.new result
@@ -150,7 +150,7 @@ counts_grown from {begun} {now} {c} (Err failure) trace first g ends = λ entrie
 module _ {limits : RequestLimits} {from : Option ℕ} {tries : ℕ} {begun now : CursorState}
     {c : Change}
     (fresh : IsFresh limits Form.Skipped from begun) where
-  counts : (result : Result ℕ Failure) (walk : List Row) (end : WalkEnd)
+  pub counts : (result : Result ℕ Failure) (walk : List Row) (end : WalkEnd)
       → ListsAlong Form.Skipped tries None begun now c result (start_of from) walk end 0
       → Counted (IsPieceOver c.seen.store) (start_of from) walk end c.old c.new result
   counts (Ok count) walk end along = (along.all.count_is, grind (arith, along.leaves.1), nothing (IsPieceOver c.seen.store) (none_over c.seen.store) None (start_of from) walk _ [] c.old c.new (sym (append-nil _)) along.leaves.0)

@@ -7,6 +7,7 @@ mod DeviceLemmas
 mod ExistenceLemmas
 mod GrownListing
 mod ItemLemmas
+mod KeptLemmas
 mod LastLemmas
 mod ListingLemmas
 mod MeanwhileLemmas

@@ -1,10 +1,10 @@
 -- A listing, step by step of its cursor, with the piece of each record.
-use Rattle.std.proofs.Common.{◌≡◌, ◌≢◌, ◌⊎◌, ℕ, ◌+◌, ◌<◌, ◌≤◌, true, false, IsTrue, Option, None, Some, IfOk, Result, Ok, Err, List, [], ◌∷◌, ◌==◌, ◌||◌, not, length, take, drop, refl, sym, ap, ◌∙◌, arith, take_all, length-drop, length-take-le, take-add, take-append-drop, Bool}
+use Rattle.std.proofs.Common.{◌≡◌, ◌≢◌, ◌⊎◌, ℕ, ◌+◌, ◌<◌, ◌≤◌, true, false, IsTrue, Option, None, Some, IfOk, Result, Ok, Err, List, [], ◌∷◌, ◌++◌, ◌==◌, ◌||◌, not, length, take, drop, refl, sym, ap, ◌∙◌, arith, take_all, length-drop, length-take-le, take-add, take-append-drop, Bool}
 use Rattle.std.proofs.lemmas.List.{take-take}
 use Rattle.std.specs.FinSet as set
 use Rattle.std.specs.FinSet.{len-empty}
 use Rattle.std.specs.Ordering.{nat_cmp}
-use Rattle.ipmi_commands.specs.Below.{End, First, first_row, KeepsReservations, Shelf, current, Place, Ended, Row, Store, rows_of, MayFail, WalkEnd, Done, CycleAt, MissingAt, place_after, place_after_rows, Seen, IsHonest, CursorState, CursorHoldsCurrent, FailsAt, IsStep, NotGivenUpOrRefused, StepAnswers, StepIsHonest, asked_at, Ending, Failure, start_of}
+use Rattle.ipmi_commands.specs.Below.{End, First, first_row, handed_out, KeepsReservations, Shelf, current, Place, Ended, Row, Store, rows_of, MayFail, WalkEnd, Done, CycleAt, MissingAt, place_after, place_after_rows, Seen, IsHonest, CursorState, CursorHoldsCurrent, FailsAt, IsStep, NotGivenUpOrRefused, StepAnswers, StepIsHonest, asked_at, Ending, Failure, start_of}
 use Rattle.ipmi_commands.specs.declared.limits.RequestLimits.{RequestLimits}
 use Rattle.ipmi_commands.specs.Prelude.{AsksAt, AtEnd, AtRecord, Cause, cause_of, cause_of_unread, Change, change, CountsSo, end_of, points_at_walk_end, ending_of, EndsFor, failure_of, FindsIt, FindsNone, first_end, first_rows, Form, HasFirstItems, IsAllowed, IsAmong, IsFine, IsFresh, IsOnWalk, is_reached, OnWalk, walk_call_bound, IsPieceOver, listing, listing_plan, Lists, ListsAlong, ListsHonestly, Item, IsStopAmong, most_after, most_for_one, IsWithin, OnEachWalk, Plan, Printed, row_items, rows_end, OfRow, shelf_of, ReadPoint, points_because_of, StopsAt, TracesListing, ReadError}
 use Rattle.ipmi_commands.specs.Output.{and_then, IsCut, Output, piece_of}
@@ -14,7 +14,7 @@ use Rattle.ipmi_commands.proofs.CallLemmas.{HasCalled, at_limit, called_ended, c
 use Rattle.ipmi_commands.proofs.CountLemmas.{between, ends_since}
 use Rattle.ipmi_commands.proofs.ItemLemmas.{cut_after, one_printed, printed_joined, row_item, row_items-next, row_items-split, stops_after}
 use Rattle.ipmi_commands.proofs.MeanwhileLemmas.{keeps_at_same}
-use Rattle.ipmi_commands.proofs.TraceLemmas.{traced_cut, traced_done, traced_ended, traced_full, traced_lost, traced_more, Tracing}
+use Rattle.ipmi_commands.proofs.TraceLemmas.{traced_cut, traced_done, traced_done-handed, traced_ended, traced_full, traced_lost, traced_more, traced_more-handed, Tracing}
 use Rattle.ipmi_commands.proofs.NameLemmas.{end_of-wrote, Wrote, wrote_more}
 use Rattle.ipmi_commands.proofs.PointLemmas.{asked_first, end_point, points_at_walk_end-joined}
 
@@ -311,6 +311,11 @@ module _ {form : Form} {tries : ℕ} {most : Option ℕ} {count : ℕ} {wrote : 
       };
     }
 
+    pub listing_done-handed : (step : IsStep now next s' s'' (Ok None)) (h : IsHonest s)
+        → handed_out ((listing_done step).honest h).traces.steps ≡ handed_out (kept.went h).tracing.steps
+    unfolding listing_done
+    listing_done-handed step h = traced_done-handed wrote most (kept.went h).tracing step (kept.went h).ends.stays.honest kept.within kept.has_written
+
     -- ---- a record was returned, and its piece was requested
 
     module _ {row : Row} {last : Seen} (step : IsStep now next s' s'' (Ok (Some row)))
@@ -441,6 +446,13 @@ module _ {form : Form} {tries : ℕ} {most : Option ℕ} {count : ℕ} {wrote : 
                     traced_more most (kept.went h).tracing step last found.asks.ends.stays text piece_text found.is is;
               };
         }
+
+        pub listing_more-handed : (text : Output) (is : text ≡ and_then new piece_text) (h : IsHonest s)
+            → handed_out ((listing_more text is).went h).tracing.steps ≡ handed_out (kept.went h).tracing.steps ++ row ∷ []
+        unfolding listing_more
+        listing_more-handed text is h =
+            let found = finds (honest_step wanted step h).stays.honest in
+            traced_more-handed most (kept.went h).tracing step last found.asks.ends.stays text piece_text found.is is
 
 -- ---- a new cursor
 

@@ -7,7 +7,7 @@ use Rattle.ipmi_commands.specs.Below.{AreSteps, BeginsWith, Count, CursorState, 
 use Rattle.ipmi_records.specs.Sdr as sdr
 use Rattle.ipmi_commands.specs.Meanwhile.{IsTextWhile, KeepsAt, KeepsFor, OnGrowingListing}
 use Rattle.ipmi_commands.specs.Traced.{AreTextsOfSteps, IsTextAfter, IsTextOfResult, PrintsSteps, seen_next}
-use Rattle.ipmi_commands.specs.Prelude.{AreTexts, AtInventory, AtRecord, device_points, Entries, Form, IsPieceOver, entries_in, entries_job, bytes_of_rows, Listing, listing, listing_plan, locator_points, NameLookup, named_points, OfRow, OnGrowingEntries, OnGrowingLast, OnGrowingNamed, OnGrowingPlan, Plan, Printed, reading_points, row_items, shelf_of, points_because_of, ReadPoint, Subject, Wording}
+use Rattle.ipmi_commands.specs.Prelude.{AreTexts, AtInventory, AtRecord, device_points, Entries, Form, IsPieceOver, entries_in, entries_job, keeping_last, bytes_of_rows, last_plan, Listing, listing, listing_plan, locator_points, NameLookup, named_points, OfRow, OnGrowingEntries, OnGrowingLastKept, OnGrowingNamed, OnGrowingPlan, Plan, Printed, reading_points, row_items, shelf_of, points_because_of, ReadPoint, Subject, Wording}
 use Rattle.ipmi_commands.specs.Output.{and_then, Output}
 use Rattle.ipmi_commands.proofs.OutputLemmas.{nothing_then}
 
@@ -88,24 +88,23 @@ module _ (a b c : Seen) (first : StaysHonest a b) (then_ : StaysHonest b c) wher
         growing_second (shelf_of l.form) l.start (λ log. Holds (listing_plan l log Done)) (λ log. More (listing_plan l log Done))
         (λ log. keep (listing_plan l log Done)) (on (for_second l.form a b c first.store then_.store keeps))
 
-    last_second : (entries : Entries) (n : ℕ) (from : Option ℕ) → OnGrowingLast entries n from b c Holds
-        → OnGrowingLast entries n from a c More
+    last_second : (entries : Entries) (n : ℕ) (from : Option ℕ) → OnGrowingLastKept entries n from b c Holds
+        → OnGrowingLastKept entries n from a c More
     last_second entries n from on = growing_second Sel (start_of from) _ _
-        (λ counted later. (later.0, log_second a b c first.store then_.store counted counted later.0 (begins_refl counted) later.1, keep _ later.2)) on
+        (λ log. keep (last_plan entries n (start_of from) log Done)) on
 
     pub entries_second : (entries : Entries) (count : Count) (from : Option ℕ)
-        → OnGrowingPlan (entries_job entries count from) b c Holds → OnGrowingEntries entries count from a c More
+        → OnGrowingPlan (keeping_last (entries_job entries count from)) b c Holds → OnGrowingEntries entries count from a c More
     entries_second entries Count.All from on = listing_second (listing (Form.EntryLine entries) (start_of from) None) on
     entries_second entries (Count.First n) from on = listing_second (listing (Form.EntryLine entries) (start_of from) (Some n)) on
     entries_second entries (Count.Last n) from on = last_second entries n from on
 
 -- a fact about every plan
 module _ (s s' : Seen) (honest : IsHonest s) (stays : KeepsStore s s') (Holds : Plan → Type 0) (holds : (plan : Plan) → Holds plan) where
-  pub entries_growing : (entries : Entries) (count : Count) (from : Option ℕ) → OnGrowingPlan (entries_job entries count from) s s' Holds
+  pub entries_growing : (entries : Entries) (count : Count) (from : Option ℕ) → OnGrowingPlan (keeping_last (entries_job entries count from)) s s' Holds
   entries_growing entries Count.All from = λ keeps first log grew. (first, log_now s s' stays honest first log, holds _)
   entries_growing entries (Count.First n) from = λ keeps first log grew. (first, log_now s s' stays honest first log, holds _)
-  entries_growing entries (Count.Last n) from = λ first log grew.
-      (first, log_now s s' stays honest first log, (first, log_now s s' stays honest first log, holds _))
+  entries_growing entries (Count.Last n) from = λ first log grew. (first, log_now s s' stays honest first log, holds _)
 
   pub named_growing : (wording : Wording) (records : List Row) (named : NameLookup) → OnGrowingNamed wording records named s s' Holds
   named_growing wording records (NameLookup.Events Count.All from) = entries_growing (entries_in wording (bytes_of_rows records)) Count.All from

@@ -6,7 +6,7 @@ use Rattle.std.proofs.lemmas.Nat.{mul-le}
 use Rattle.ipmi_commands.specs.Below.{AllOf, Count, CycleAt, device_name, Done, Ending, EndsBy, Failure, First, FoundIsRow, fru_call_bound, IsHonest, IsShelf, IsStore, IsWalk, is_whole_record, MissingAt, OnGrowing, Place, place_after, records_in, Row, rows_of, Sdr, Seen, stays_refl, Store, WalkEnd}
 use Rattle.ipmi_commands.specs.Named.{end_after, ending_then, listed_end, PrintsDevices, PrintsPlan, walk_of}
 use Rattle.ipmi_commands.specs.declared.named.RecordsEnd.{RecordsEnd}
-use Rattle.ipmi_commands.specs.Prelude.{after_names, AreTexts, AtEnd, AtInventory, bytes_of_rows, calls_for_devices, calls_for_point, inventories_plan, WritesRecords, WritesWhole, walk_call_bound, entries_job, OnEntries, Cause, cause_of, Change, change, Dishonest, end_after_names, ending_of, end_points_of_last, EndsNamed, EndsFor, EndsListing, Entries, entries_in, Form, GaveUp, HasFirstItems, IsAllowed, IsAmong, IsPage, IsPieceOver, IsTextWhile, Item, Job, Leaves, listing, listing_plan, MayEnd, most_calls, most_named, most_on_walk, NameLookup, next_points, NoMemory, NoOutput, OfRow, OnNamed, FollowsPlan, Plan, Printed, Refused, row_items, rows_end, Runs, ReadPoint, points_at_walk_end, points_before, points_of_walk, Subject, TracesJob, with_first_points, Wording}
+use Rattle.ipmi_commands.specs.Prelude.{after_names, AreTexts, AtEnd, AtInventory, bytes_of_rows, calls_for_devices, calls_for_point, inventories_plan, WritesRecords, WritesWhole, walk_call_bound, entries_job, keeping_last, OnEntries, Cause, cause_of, Change, change, Dishonest, end_after_names, ending_of, end_points_of_last, EndsNamed, EndsFor, EndsListing, Entries, entries_in, Form, GaveUp, HasFirstItems, IsAllowed, IsAmong, IsPage, IsPieceOver, IsTextWhile, Item, Job, Leaves, listing, listing_plan, MayEnd, most_calls, most_named, most_on_walk, NameLookup, next_points, NoMemory, NoOutput, OfRow, OnNamed, FollowsPlan, Plan, Printed, Refused, row_items, rows_end, Runs, ReadPoint, points_at_walk_end, points_before, points_of_walk, Subject, TracesJob, with_first_points, Wording}
 use Rattle.ipmi_commands.specs.Output.{no_output, Output}
 use Rattle.ipmi_commands.proofs.CountLemmas.{between, ends_here, ends_since}
 use Rattle.ipmi_commands.proofs.DeviceLemmas.{row_with}
@@ -71,7 +71,7 @@ next_points-first points (item ∷ items) at_end = refl
 -- the listing that `count` selects follows its plan
 module _ (entries : Entries) (from : Option ℕ) (tries : ℕ) (store : Store) (Holds : Plan → ℕ → Type 0) where
   entries_map : (More : Plan → ℕ → Type 0) (count : Count) → ((plan : Plan) (calls : ℕ) → Holds plan calls → More plan calls)
-      → FollowsPlan (entries_job entries count from) tries store Holds → OnEntries entries count from tries store More
+      → FollowsPlan (keeping_last (entries_job entries count from)) tries store Holds → OnEntries entries count from tries store More
   entries_map More Count.All keep on = λ walk end w ends. keep _ _ (on walk end w ends)
   entries_map More (Count.First n) keep on = λ walk end w ends. keep _ _ (on walk end w ends)
   entries_map More (Count.Last n) keep on = λ walk end w ends. keep _ _ (on walk end w ends)
@@ -81,7 +81,7 @@ module _ (entries : Entries) (from : Option ℕ) (tries : ℕ) (store : Store) (
   entries_all (Count.First n) holds = λ walk end w ends. holds _ _
   entries_all (Count.Last n) holds = λ walk end w ends. holds _ _
 
-  job_all : (count : Count) → ((plan : Plan) (calls : ℕ) → Holds plan calls) → FollowsPlan (entries_job entries count from) tries store Holds
+  job_all : (count : Count) → ((plan : Plan) (calls : ℕ) → Holds plan calls) → FollowsPlan (keeping_last (entries_job entries count from)) tries store Holds
   job_all Count.All holds = λ walk end w ends. holds _ _
   job_all (Count.First n) holds = λ walk end w ends. holds _ _
   job_all (Count.Last n) holds = λ walk end w ends. holds _ _
@@ -94,7 +94,7 @@ named_all wording records end tries store Holds (NameLookup.Events count from) h
 named_all wording records end tries store Holds NameLookup.Devices holds = holds _ _
 
 entries_calls : (entries : Entries) (count : Count) (from : Option ℕ) (tries : ℕ)
-    → most_calls (entries_job entries count from) tries ≤ most_named (NameLookup.Events count from) tries
+    → most_calls (keeping_last (entries_job entries count from)) tries ≤ most_named (NameLookup.Events count from) tries
 entries_calls entries Count.All from tries = omega arith
 entries_calls entries (Count.First n) from tries = omega arith
 entries_calls entries (Count.Last n) from tries = omega arith
@@ -104,25 +104,25 @@ pub entries_end : (wording : Wording) (entries : Entries) (count : Count) (from 
 entries_end wording entries count from seen ending ends = grind arith
 
 entries_may : (wording : Wording) (entries : Entries) (count : Count) (from : Option ℕ) (c : Change) (ending : Ending)
-    → MayEnd (entries_job entries count from) c ending → EndsNamed wording (NameLookup.Events count from) c.seen' ending
+    → MayEnd (keeping_last (entries_job entries count from)) c ending → EndsNamed wording (NameLookup.Events count from) c.seen' ending
 entries_may wording entries Count.All from c ending ends = entries_end wording entries Count.All from c.seen' ending ends
 entries_may wording entries (Count.First n) from c ending ends = entries_end wording entries (Count.First n) from c.seen' ending ends
 entries_may wording entries (Count.Last n) from c ending ends = entries_end wording entries (Count.Last n) from c.seen' ending ends
 
 -- out of memory for the table of sensors
-memory_end : (entries : Entries) (count : Count) (from : Option ℕ) (c : Change) → MayEnd (entries_job entries count from) c (Err Failure.OutOfMemory)
+memory_end : (entries : Entries) (count : Count) (from : Option ℕ) (c : Change) → MayEnd (keeping_last (entries_job entries count from)) c (Err Failure.OutOfMemory)
 memory_end entries Count.All from c = tt
 memory_end entries (Count.First n) from c = tt
 memory_end entries (Count.Last n) from c = tt
 
 memory_traces : (entries : Entries) (count : Count) (from : Option ℕ) (s : Seen) (text : Output)
-    → TracesJob (entries_job entries count from) (change s s text text) (Err Failure.OutOfMemory)
+    → TracesJob (keeping_last (entries_job entries count from)) (change s s text text) (Err Failure.OutOfMemory)
 memory_traces entries Count.All from s text = (Err Failure.OutOfMemory, refl, inl (inl refl, refl, refl))
 memory_traces entries (Count.First n) from s text = (Err Failure.OutOfMemory, refl, inl (inl refl, refl, refl))
-memory_traces entries (Count.Last n) from s text = tt
+memory_traces entries (Count.Last n) from s text = inl (refl, refl, refl)
 
 pub events_without_memory : (entries : Entries) (count : Count) (from : Option ℕ) (tries : ℕ) (s : Seen) (text : Output)
-    → Runs (entries_job entries count from) tries (change s s text text) (Err Failure.OutOfMemory)
+    → Runs (keeping_last (entries_job entries count from)) tries (change s s text text) (Err Failure.OutOfMemory)
 events_without_memory entries count from tries s text = record {
   calls = omega arith;
   ends = memory_end entries count from (change s s text text);
@@ -338,7 +338,7 @@ module _ (look_row : FoundIsRow) (split : RecordsAreFound) (tries : ℕ) (s s' s
       (read.0, read.1, (read_records look_row split (IsTextWhile s s') (λ row text is. is.is.is_text) read.1.store read.0 kept read.1.is_store read.1.is_log.walks.of_shelf all.0, all.1))
 
   pub events_run : (count : Count) (from : Option ℕ) (ending : Ending) → s'.calls ≤ s.calls + most_on_walk Form.Bytes tries
-      → Runs (entries_job (entries_in wording (records_in kept.bytes)) count from) tries (change s' s'' old new) ending
+      → Runs (keeping_last (entries_job (entries_in wording (records_in kept.bytes)) count from)) tries (change s' s'' old new) ending
       → Runs (Job.NameLookup wording (NameLookup.Events count from)) tries (change s s'' old new) (ending_then ending walked)
   events_run count from ending calls runs = record {
     calls = omega (arith, calls, runs.calls, entries_calls (entries_in wording (records_in kept.bytes)) count from tries);

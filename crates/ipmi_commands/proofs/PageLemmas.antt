@@ -31,7 +31,7 @@ no_steps : (form : Form) (start : Place) (most : Option ℕ) (s : Seen) (text : 
     → IsWithin most 0 → (most ≡ Some 0) ⊎ (start ≡ End)
     → Traces form start most (change s s text text) (end_of form false start)
 no_steps form start most s text honest within done =
-    let here : CursorState = record { shelf = shelf_of form; place = start; part = 0; tries = 0; ids = set.empty; reservation = None } in
+    let here : CursorState = record { shelf = shelf_of form; place = start; part = 0; tries = 0; ahead = false; ids = set.empty; reservation = None } in
     inr (record {
       begun = here;
       now = here;

@@ -54,6 +54,7 @@ plan_kept : (Holds : Plan → Type 0) (job : Job) (tries : ℕ) (store : Store) 
     → FollowsPlan job tries store More → FollowsPlan job 0 store (λ plan calls. Holds plan)
 plan_kept Holds (Job.Records l) tries store More keep on = λ walk end w ends. keep _ _ (on walk end w ends)
 plan_kept Holds (Job.Last entries n from) tries store More keep on = λ walk end w ends. keep _ _ (on walk end w ends)
+plan_kept Holds (Job.LastKept entries n from) tries store More keep on = λ walk end w ends. keep _ _ (on walk end w ends)
 plan_kept Holds (Job.NameLookup wording named) tries store More keep on = λ records end w ends.
     named_kept (λ plan. Holds (after_names records end plan)) wording records end named tries store
     (λ plan calls. More (after_names records end plan) (walk_call_bound Form.Bytes store tries records + calls))
@@ -84,6 +85,7 @@ plan_all : (Holds : Plan → Type 0) (job : Job) (store : Store) → ((plan : Pl
     → FollowsPlan job 0 store (λ plan calls. Holds plan)
 plan_all Holds (Job.Records l) store holds = λ walk end w ends. holds _
 plan_all Holds (Job.Last entries n from) store holds = λ walk end w ends. holds _
+plan_all Holds (Job.LastKept entries n from) store holds = λ walk end w ends. holds _
 plan_all Holds (Job.NameLookup wording named) store holds = λ records end w ends.
     named_all wording records end 0 store (λ plan calls. Holds (after_names records end plan)) named (λ plan calls. holds _)
 plan_all Holds (Job.AllInventories wording name) store holds = λ walk end w ends. holds _

@@ -72,7 +72,7 @@ pub record Tracing (form : Form) (count : ℕ) (begun now : CursorState) (c : Ch
   pub printed : PrintsSteps form steps c.seen' c.old c.new
   pub count_is : count ≡ length (handed_out steps)
 
-pub traced_none : (form : Form) (begun : CursorState) (s : Seen) (text : Output) → IsHonest s
+unfoldable pub traced_none : (form : Form) (begun : CursorState) (s : Seen) (text : Output) → IsHonest s
     → Tracing form 0 begun begun (change s s text text)
 traced_none form begun s text honest = record {
   steps = [];
@@ -163,6 +163,25 @@ traced_done {form} wrote {count} {begun} {now} {s} {s'} {old} {new} most t {next
     (record { count_is = t.count_is ∙ ap (length {A = Row}) (sym rows); within = within; done = inr step.leaves.1.place; printed = none_more t step s'' refl })
     has
 
+-- the last step returned no record
+traced_whole-steps : (form : Form) (wrote : Bool) (count : ℕ) {most : Option ℕ} {begun now : CursorState}
+    {c : Change} (steps : List Stepped) (traced : IsTraced begun now c.seen c.seen' steps)
+    (listed : IsListed form most now steps c count) (has : Wrote wrote c.old c.new)
+    → (traced_whole form wrote count steps traced listed has).steps ≡ steps
+unfolding traced_whole
+traced_whole-steps (Form.Block wording name) false count steps traced listed none = refl
+traced_whole-steps (Form.Block wording name) true count steps traced listed some = refl
+traced_whole-steps _ wrote count steps traced listed has = refl
+
+pub traced_done-handed : {form : Form} (wrote : Bool) {count : ℕ} {begun now : CursorState} {s s' : Seen}
+    {old new : Output} (most : Option ℕ) (t : Tracing form count begun now (change s s' old new))
+    {next : CursorState} {s'' : Seen} (step : IsStep now next s' s'' (Ok None))
+    (honest : IsHonest s') (within : IsWithin most count) (has : Wrote wrote old new)
+    → handed_out (traced_done wrote most t step honest within has).steps ≡ handed_out t.steps
+unfolding traced_done
+traced_done-handed {form} wrote {count} most t step honest within has =
+    ap handed_out (traced_whole-steps form wrote count (all_steps t step) _ _ has) ∙ handed_more t step ∙ append-nil (handed_out t.steps)
+
 -- a record was returned
 module _ {form : Form} {count : ℕ} {begun now : CursorState} {s s' : Seen} {old new : Output}
     (most : Option ℕ) (t : Tracing form count begun now (change s s' old new)) {next : CursorState} {s'' : Seen}
@@ -215,3 +234,8 @@ module _ {form : Form} {count : ℕ} {begun now : CursorState} {s s' : Seen} {ol
     printed = prints_more form t.steps (last_step t step) last old new text piece_text t.printed is written;
     count_is = count_more;
   }
+
+  pub traced_more-handed : (text piece_text : Output) (is : IsTextAfter form row s'' last piece_text) (written : text ≡ and_then new piece_text)
+      → handed_out (traced_more text piece_text is written).steps ≡ handed_out t.steps ++ row ∷ []
+  unfolding traced_more
+  traced_more-handed text piece_text is written = handed_more t step

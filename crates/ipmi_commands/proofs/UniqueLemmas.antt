@@ -3,7 +3,7 @@ use Rattle.std.proofs.Common.{◌≡◌, ℕ, zero, suc, ◌-◌, Bool, Option, 
 use Rattle.ipmi_commands.specs.Below.{Count, IsStore, WalkEnd, Shelf, Sdr, Sel, Place, First, start_of, Row, IsShelf, FoundIsRow, AreBytes, Reading, Store, info_of, rows_of, store_shelf, AllOf, WalkExists, place_after, place_after_rows, IsFruLine, IsFruText, SdrFault, SdrView, IsInfoBlock, IsSdrBlock, entry_bytes, sdr_view_of, SelView, sel_view_of, SdrLineIsUnique, ExtendedLineIsUnique, SelLineIsUnique, SelBlockIsUnique, EventInWordsIsUnique, SensorBlockIsUnique, SensorLineIsUnique, Ending}
 use Rattle.ipmi_json.specs.Sdr.{bytes_members, fault_members}
 use Rattle.ipmi_json.specs.Laws.{DeviceLineIsUnique, EntryLineIsUnique, InfoLineIsUnique, ObjectLineIsUnique, RecordLineIsUnique}
-use Rattle.ipmi_commands.specs.Prelude.{after_names, bytes_of_rows, NameLookup, OnNamed, PrintsAll, AreOfBytes, Detail, Entries, entries_in, first_rows, FinishedRunsAreOne, Form, IfChosen, info_plan, Printed, IsBlockIn, IsBlockOfName, IsEntryLine, IsInfoIn, IsInventoryIn, IsInventoryText, IsLocatorPiece, IsOfBytes, IsRecordLine, IsRowText, IsTextOver, IsPieceOver, is_faulty, Item, ItemsHaveOneText, Job, last_items, last_rows, reading_for, row_items, shelf_of, ReadPoint, points_of_walk, Subject, with_first_points, Wording}
+use Rattle.ipmi_commands.specs.Prelude.{after_names, bytes_of_rows, NameLookup, OnNamed, PrintsAll, AreOfBytes, Detail, Entries, entries_in, first_rows, FinishedRunsAreOne, Form, IfChosen, info_plan, Printed, IsBlockIn, IsBlockOfName, IsEntryLine, IsInfoIn, IsInventoryIn, IsInventoryText, IsLocatorPiece, IsOfBytes, IsRecordLine, IsRowText, IsTextOver, IsPieceOver, is_faulty, Item, ItemsHaveOneText, Job, last_items, last_plan, last_rows, OnWalk, reading_for, row_items, shelf_of, ReadPoint, points_of_walk, Subject, with_first_points, Wording}
 use Rattle.ipmi_commands.specs.Output.{Output, piece_of}
 
 -- there is at most one such text
@@ -159,6 +159,18 @@ module _ (one : ItemsHaveOneText) (exists : WalkExists) (look_row : FoundIsRow) 
   one_named store old a b e f wording NameLookup.Devices tries tries' rows end ok all x y =
       one_plan store (tt, rows_are_bytes look_row (Form.Device wording) Sdr store.sdr First rows ok.sdr all) x y
 
+  -- the last entries
+  one_last : (store : Store) (old a b : Output) (e f : Ending) (entries : Entries) (n : ℕ) (from : Option ℕ) → IsStore store
+      → OnWalk Sel (start_of from) store (λ walk end. PrintsAll (IsPieceOver store) (last_plan entries n (start_of from) walk end) old a e)
+      → OnWalk Sel (start_of from) store (λ walk end. PrintsAll (IsPieceOver store) (last_plan entries n (start_of from) walk end) old b f)
+      → (a ≡ b) × (e ≡ f)
+  one_last store old a b e f entries n from ok x y =
+      let start = start_of from in
+      let there = exists Sel store.sel start ok.sel in
+      one_plan store (first_kept (points_of_walk start there.0 there.1) (last_items entries n start there.0 there.1)
+      (rows_are_bytes look_row (Form.EntryLine entries) Sel store.sel (place_after_rows start (take (length there.0 - n) there.0)) (last_rows n there.0 there.1) ok.sel (grind (arith, parts_of_shelf (length there.0 - n) store.sel there.0 there.2.of_shelf))))
+      (x there.0 there.1 there.2 there.3) (y there.0 there.1 there.2 there.3)
+
   pub one_output : FinishedRunsAreOne
   one_output (Job.Records l) tries tries' store old a b e f ok x y =
       let rows = rows_of (shelf_of l.form) store in
@@ -166,12 +178,8 @@ module _ (one : ItemsHaveOneText) (exists : WalkExists) (look_row : FoundIsRow) 
       let there = exists (shelf_of l.form) rows l.start shelf in
       one_plan store (rows_are_bytes look_row l.form (shelf_of l.form) rows l.start (first_rows l.most there.0) shelf (grind (arith, parts_of_shelf, there.2.of_shelf)))
       (x there.0 there.1 there.2 there.3) (y there.0 there.1 there.2 there.3)
-  one_output (Job.Last entries n from) tries tries' store old a b e f ok x y =
-      let start = start_of from in
-      let there = exists Sel store.sel start ok.sel in
-      one_plan store (first_kept (points_of_walk start there.0 there.1) (last_items entries n start there.0 there.1)
-      (rows_are_bytes look_row (Form.EntryLine entries) Sel store.sel (place_after_rows start (take (length there.0 - n) there.0)) (last_rows n there.0 there.1) ok.sel (grind (arith, parts_of_shelf (length there.0 - n) store.sel there.0 there.2.of_shelf))))
-      (x there.0 there.1 there.2 there.3) (y there.0 there.1 there.2 there.3)
+  one_output (Job.Last entries n from) tries tries' store old a b e f ok x y = one_last store old a b e f entries n from ok x y
+  one_output (Job.LastKept entries n from) tries tries' store old a b e f ok x y = one_last store old a b e f entries n from ok x y
   one_output (Job.NameLookup wording named) tries tries' store old a b e f ok x y =
       let there = exists Sdr store.sdr First ok.sdr in
       one_named store old a b e f wording named tries tries' there.0 there.1 ok there.2.of_shelf

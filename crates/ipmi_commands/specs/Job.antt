@@ -35,6 +35,11 @@ entries_job entries (Count.First n) from =
     Job.Records (listing (Form.EntryLine entries) (start_of from) (Some n))
 entries_job entries (Count.Last n) from = Job.Last entries n from
 
+-- the same job, but the last entries of the log are kept in memory along one walk, and not counted on a first one
+abbrev pub keeping_last : Job → Job
+keeping_last (Job.Last entries n from) = Job.LastKept entries n from
+keeping_last job = job
+
 -- the job of a task; a listing starts at the id `from`, or at the first record if there is none; `image
 -- rewrite` has none, since only an image can do it
 abbrev pub job_of : Task → Option ℕ → Option Job
@@ -116,6 +121,7 @@ IsNamed NameLookup.Devices = Unit {0}
 abbrev pub IsJob : Job → Type 0
 IsJob (Job.Records l) = IsPlace l.start
 IsJob (Job.Last entries n from) = (1 ≤ n) × IsFrom from
+IsJob (Job.LastKept entries n from) = (1 ≤ n) × IsFrom from
 IsJob (Job.NameLookup wording named) = IsNamed named
 IsJob _ = Unit {0}
 

@@ -3,6 +3,7 @@ pub mod Asking
 pub mod Below
 pub mod Calls
 pub mod Job
+pub mod Kept
 pub mod Laws
 pub mod Listing
 pub mod Meanwhile

@@ -20,6 +20,7 @@ listing_cursor limits form from = record {
   place = start_of from;
   part = limits.part;
   tries = limits.tries;
+  ahead = limits.ahead;
   ids = set.empty;
   reservation = None;
 }

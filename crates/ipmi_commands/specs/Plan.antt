@@ -138,8 +138,8 @@ listing_plan l walk end = record {
 }
 
 -- The last entries are listed after a walk that counts all entries, and the entries before them are
--- skipped on a second walk. So before the first item the run may stop at any point of the walk; the
--- item's own point is one of them.
+-- skipped on a second walk; or one walk keeps them in memory. So before the first item the run may stop
+-- at any point of the walk; the item's own point is one of them.
 abbrev pub with_first_points : List ReadPoint → List Item → List Item
 with_first_points points [] = []
 with_first_points points (item ∷ items) = record { subject = item.subject; points = points } ∷ items

@@ -1,14 +1,15 @@
 -- What a listing printed, by the steps of its cursor, whatever the store did meanwhile.
 use Rattle.std.specs.Prelude.{◌≡◌, ◌⊎◌, ◌+◌, ◌<◌, ◌≤◌, ℕ, Option, None, Some, IfOk, Result, Ok, Err, List, [], ◌∷◌, ◌++◌, length}
 use Rattle.std.specs.FinSet as set
-use Rattle.ipmi_commands.specs.Below.{AreSteps, cursor_after, CursorState, End, Ended, Failure, handed_out, Id, Place, Row, Seen, seen_after, StaysHonest, Stepped}
+use Rattle.ipmi_commands.specs.Below.{AreSteps, cursor_after, CursorState, Done, End, Ended, Ending, Failure, First, handed_out, Id, Place, Row, Seen, seen_after, Sel, StaysHonest, Stepped}
 use Rattle.ipmi_commands.specs.Output.{and_then, IsCut, no_output, Output}
+use Rattle.ipmi_commands.specs.declared.job.Entries.{Entries}
 use Rattle.ipmi_commands.specs.declared.job.Form.{Form}
 use Rattle.ipmi_commands.specs.declared.job.Wording.{Wording}
-use Rattle.ipmi_commands.specs.Allowed.{Cause, Change, cause_of, ending_of, GaveUp, IsAmong, NoMemory, Refused, TextsJoined}
+use Rattle.ipmi_commands.specs.Allowed.{Cause, Change, change, cause_of, ending_of, GaveUp, IsAllowed, IsAmong, NoMemory, Refused, TextsJoined}
 use Rattle.ipmi_commands.specs.Job.{shelf_of}
 use Rattle.ipmi_commands.specs.Meanwhile.{KeepsAt}
-use Rattle.ipmi_commands.specs.Plan.{ReadPoint, points_because_of}
+use Rattle.ipmi_commands.specs.Plan.{last_rows, points_because_of, ReadPoint, row_items}
 use Rattle.ipmi_commands.specs.Texts.{IsPieceOver, OfRow}
 
 -- the cursor made these steps; after the last one the controller may have got other requests
@@ -171,3 +172,39 @@ HasNoCursor start c result =
 
 abbrev pub Traces : Form → Place → Option ℕ → Change → Result Place Failure → Type 0
 Traces form start most c result = HasNoCursor start c result ⊎ TracesFrom form start most c result
+
+-- ---- the last entries, printed after the walk
+
+-- printing makes no call
+abbrev pub EndsPrinting : Ending → Type 0
+EndsPrinting (Ok done) = Unit {0}
+EndsPrinting (Err Failure.OutOfMemory) = Unit {0}
+EndsPrinting (Err Failure.WriteFault) = Unit {0}
+EndsPrinting (Err failure) = ⊥
+
+-- The lines of these rows were printed, or the first of them, if memory ran out or the output failed; if the walk failed, nothing
+-- was printed. A line has no reading or inventory.
+abbrev pub PrintsAfter : Entries → List Row → Result ℕ Failure → Change → Ending → Type 0
+PrintsAfter entries rows (Ok count) c ending = EndsPrinting ending
+    × IsAllowed (IsPieceOver c.seen'.store) (record {
+      items = row_items (Form.EntryLine entries) First rows;
+      end = Ok tt;
+      end_points = [];
+    }) c.old c.new ending
+PrintsAfter entries rows (Err failure) c ending = (ending ≡ Err failure) × (c.new ≡ c.old)
+
+-- a walk from this place with a new cursor, which skips each entry; then the last n of the entries that it returned are printed
+pub record TracesThen (entries : Entries) (n : ℕ) (start : Place) (c : Change) (ending : Ending) : Type 0 where
+  pub begun : CursorState
+  pub now : CursorState
+  pub walked : Result ℕ Failure
+  pub shelf : begun.shelf ≡ Sel
+  pub place : begun.place ≡ start
+  pub ids : begun.ids ≡ set.empty
+  pub walk : TracesListing Form.Skipped None begun now (change c.seen c.seen' c.old c.old) walked
+  pub prints : PrintsAfter entries (last_rows n (handed_out walk.steps) Done) walked c ending
+
+-- without memory for the cursor, nothing was requested and nothing printed
+abbrev pub TracesLast : Entries → ℕ → Place → Change → Ending → Type 0
+TracesLast entries n start c ending =
+    ((ending ≡ Err Failure.OutOfMemory) × (c.seen' ≡ c.seen) × (c.new ≡ c.old)) ⊎ TracesThen entries n start c ending

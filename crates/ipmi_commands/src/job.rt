@@ -2,7 +2,7 @@
 //! alone: what it consists of is a detail.
 ghost use Rattle.std.specs.Prelude.{◌≡◌, IfSome, Some, true};
 ghost use Rattle.ipmi_commands.specs.Below.{is_listing, IsCount, IsTask, start_of};
-ghost use Rattle.ipmi_commands.specs.Job.{entries_in, entries_job, IsFrom, IsJob, IsPlace, job_in, job_of, listing, listing_in, lists_all, searches, shelf_of};
+ghost use Rattle.ipmi_commands.specs.Job.{entries_in, entries_job, IsFrom, IsJob, IsPlace, job_in, job_of, keeping_last, listing, listing_in, lists_all, searches, shelf_of};
 ghost use Rattle.ipmi_commands.specs.declared.job.Entries.{Entries};
 ghost use Rattle.ipmi_commands.specs.declared.job.Job.{Job};
 ghost use Rattle.ipmi_commands.specs.declared.job.Wording.{Wording};
@@ -100,6 +100,8 @@ pub enum Job<'a> {
     /// Lists the last entries of a walk of the event log, at most this many. The walk starts at this id, or at the
     /// first entry.
     Last(Entries<'a>, u16, Option<u16>),
+    /// The same along one walk, which keeps these entries in memory until they are printed.
+    LastKept(Entries<'a>, u16, Option<u16>),
     /// Reads the sensor data records for names, then lists with these names, in this wording.
     NameLookup(Wording<'a>, NameLookup),
     /// Prints the info of the shelf, in this wording.
@@ -295,6 +297,18 @@ impl<'a> Job<'a> {
             Task::Fru(None) => Some(Job::AllInventories(Wording::Plain, None)),
             Task::Fru(Some(id)) => Some(Job::Inventory(Wording::Plain, *id, None)),
             Task::Rewrite => None,
+        }
+    }
+
+    /// The same job with one walk where it has two: the last entries of the event log are kept in memory, and printed when
+    /// the walk is over. With names of sensors they always are.
+    pub fn keeping_last(self) -> Job<'a>
+        ensures value { result ≡ keeping_last self.entry }
+        ensures range { IsJob self.entry → IsJob result }
+    {
+        match self {
+            Job::Last(entries, wanted, from) => Job::LastKept(entries, wanted, from),
+            job => job,
         }
     }
 

@@ -5,6 +5,7 @@ mod devices;
 mod info;
 mod inventory;
 mod job;
+mod kept;
 mod last;
 pub mod laws;
 mod limits;
@@ -19,7 +20,7 @@ mod sensors;
 mod summary;
 
 pub use job::{Job, Wording};
-pub use limits::RequestLimits;
+pub use limits::{LIVE_PART, RequestLimits};
 pub use perform::{execute, execute_pages};
 pub use runs::{answer, execute_image, report, run, run_pages, write_image};
 pub use sensors::{FoundSensors, find_sensors, print_sensors};

@@ -3,7 +3,7 @@ ghost use Rattle.std.specs.Prelude.{◌≡◌, ◌+◌};
 ghost use Rattle.ipmi_commands.specs.Below.{AsksAtMost, IsCount, records_in, write_faults};
 ghost use Rattle.ipmi_commands.specs.Named.{end_after, listed_end, ReadsRecords, walk_of};
 ghost use Rattle.ipmi_commands.specs.declared.job.Job.{Job};
-ghost use Rattle.ipmi_commands.specs.Prelude.{change, entries_in, entries_job, IsFrom, IsNamed, printed, Runs, RunsNamedInPages};
+ghost use Rattle.ipmi_commands.specs.Prelude.{change, entries_in, entries_job, IsFrom, keeping_last, IsNamed, printed, Runs, RunsNamedInPages};
 
 use crate::devices::print_devices;
 use crate::job::{Entries, Form, Listing, NameLookup, Wording};
@@ -83,7 +83,7 @@ fn list_events<'a, C: Controller, O: Sink>(
     requires from { IsFrom from }
     ensures faults { O.faults out.new ≡ O.faults out.old + write_faults result }
     ensures asked { AsksAtMost limits.part (C.seen ctl.old) (C.seen ctl.new) }
-    ensures runs { Runs (entries_job (entries_in wording.entry (records_in records.items)) count from) limits.tries
+    ensures runs { Runs (keeping_last (entries_job (entries_in wording.entry (records_in records.items)) count from)) limits.tries
         (change (C.seen ctl.old) (C.seen ctl.new) (printed (O.taken out.old) summary.old) (printed (O.taken out.new) summary.new)) result }
 {
     let entries = Entries::of(wording, Sensors::of(alloc, records)?);

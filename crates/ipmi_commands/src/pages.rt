@@ -12,7 +12,7 @@ use ipmi_output::{Failure, Sink};
 use std::alloc::{AllocError, Global};
 
 /// A cursor over the records that are printed in this form, starting at the id `from` or at the first record. It has
-/// the command's part size and tries.
+/// these limits.
 pub(crate) fn start_cursor(
     alloc: Global,
     limits: RequestLimits,
@@ -23,7 +23,9 @@ pub(crate) fn start_cursor(
     ensures { IfOk result (λ cursor. IsFresh limits form.now from cursor) }
 {
     ipmi_bus::laws::a_part_size_has_few_digits();
-    Cursor::start(alloc, form.shelf(), from, limits.part(), limits.tries())
+    let mut cursor = Cursor::start(alloc, form.shelf(), from, limits.part(), limits.tries())?;
+    cursor.read_ahead(limits.reads_ahead());
+    Ok(cursor)
 }
 
 /// Lists records with a new cursor, starting at the id `from` or at the first record, at most `most` of them if that

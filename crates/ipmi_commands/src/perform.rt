@@ -4,11 +4,12 @@ ghost use Rattle.ipmi_commands.specs.Below.{AsksAtMost, IsCount, start_of, write
 ghost use Rattle.ipmi_commands.specs.declared.job.Form.{Form};
 ghost use Rattle.ipmi_commands.specs.declared.job.Job.{Job};
 ghost use Rattle.ipmi_commands.specs.declared.job.Listing.{Listing};
-ghost use Rattle.ipmi_commands.specs.Prelude.{change, entries_job, IsFrom, IsJob, IsPlace, listing, lists_all, piece_of, printed, Runs, RunsPaged, WritesPiece};
+ghost use Rattle.ipmi_commands.specs.Prelude.{change, entries_job, IsFrom, IsJob, IsPlace, keeping_last, listing, lists_all, piece_of, printed, Runs, RunsPaged, WritesPiece};
 
 use crate::info::info_text;
 use crate::inventory::inventory_in;
 use crate::job::{Entries, Form, Job, Listing, NameLookup, Wording};
+use crate::kept::list_kept;
 use crate::last::list_last;
 use crate::limits::RequestLimits;
 use crate::named::{list_named, list_named_pages};
@@ -84,7 +85,8 @@ fn list_first<'a, C: Controller, O: Sink>(
     list(alloc, ctl, limits, &listing, out, summary)
 }
 
-/// Lists the entries that `count` selects, starting at the id `from` or at the first entry.
+/// Lists the entries that `count` selects, starting at the id `from` or at the first entry. The last ones are kept in
+/// memory along one walk.
 pub(crate) fn list_entries<'a, C: Controller, O: Sink>(
     alloc: Global,
     ctl: &mut C,
@@ -99,7 +101,7 @@ pub(crate) fn list_entries<'a, C: Controller, O: Sink>(
     requires from { IsFrom from }
     ensures faults { O.faults out.new ≡ O.faults out.old + write_faults result }
     ensures asked { AsksAtMost limits.part (C.seen ctl.old) (C.seen ctl.new) }
-    ensures runs { Runs (entries_job entries.entry count from) limits.tries
+    ensures runs { Runs (keeping_last (entries_job entries.entry count from)) limits.tries
         (change (C.seen ctl.old) (C.seen ctl.new) (printed (O.taken out.old) summary.old) (printed (O.taken out.new) summary.new)) result }
 {
     match count {
@@ -108,7 +110,7 @@ pub(crate) fn list_entries<'a, C: Controller, O: Sink>(
             let most = Some(u32::from(n));
             list_first(alloc, ctl, limits, entries, from, most, out, summary)
         }
-        Count::Last(n) => list_last(alloc, ctl, limits, entries, n, from, out, summary),
+        Count::Last(n) => list_kept(alloc, ctl, limits, entries, n, from, out, summary),
     }
 }
 
@@ -206,6 +208,9 @@ pub fn execute<'a, C: Controller, O: Sink>(
         Job::Records(listing) => list(alloc, ctl, limits, &listing, out, summary),
         Job::Last(entries, wanted, from) => {
             list_last(alloc, ctl, limits, entries, wanted, from, out, summary)
+        }
+        Job::LastKept(entries, wanted, from) => {
+            list_kept(alloc, ctl, limits, entries, wanted, from, out, summary)
         }
         Job::NameLookup(wording, named) => list_named(
             alloc, ctl, limits, wording, named, out, summary,

@@ -23,7 +23,7 @@ use ipmi_text::Reading;
 use std::alloc::{AllocError, Global};
 
 /// The bytes of an event log entry, as an array.
-fn entry_bytes(bytes: &[u8]) -> &[u8; SEL_ENTRY_LEN]
+pub(crate) fn entry_bytes(bytes: &[u8]) -> &[u8; SEL_ENTRY_LEN]
     requires { length bytes.now ≡ 16 }
     ensures { result.now ≡ bytes.now }
 {
@@ -166,7 +166,7 @@ pub(crate) fn block_of(
 }
 
 /// The line of an entry.
-fn entry_line(
+pub(crate) fn entry_line(
     alloc: Global,
     entries: &Entries<'_>,
     id: u16,

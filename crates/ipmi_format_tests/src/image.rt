@@ -12,3 +12,4 @@ mod moods;
 mod places;
 mod rewritten;
 mod tables;
+mod with_records;

@@ -17,3 +17,4 @@ pub mod StoreLemmas
 pub mod TableLemmas
 pub mod TakenLemmas
 pub mod TextLemmas
+pub mod WithLemmas

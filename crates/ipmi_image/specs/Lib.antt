@@ -11,3 +11,4 @@ pub mod Rows
 pub mod Stored
 pub mod Table
 pub mod Text
+pub mod WithRecords

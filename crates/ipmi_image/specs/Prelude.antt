@@ -6,13 +6,14 @@ pub use Rattle.ipmi_image.specs.Image.{at_line, begins_with_another, chained, en
 unfoldable pub use Rattle.ipmi_image.specs.Image.{store_after}
 pub use Rattle.ipmi_image.specs.Line.{a_reading, a_row, an_info, an_inventory, bytes_in, digits_fault, end_line, info_line, inventory_line, is_dash, is_some_text, Line, line_of_fields, next_in, number_in, reading_line, row_cause, row_line, SavedRow, shelf_in, takes_dashes, the_end, with_three, with_two, id_of}
 unfoldable pub use Rattle.ipmi_image.specs.Line.{line_of}
-pub use Rattle.ipmi_image.specs.Responder.{begins_with, fru_answer, IsCopied, number_after, out_of_range, part_answer, place_asked, reservation_if, seen_as, size_answer, with_appended, with_image, with_reservation}
+pub use Rattle.ipmi_image.specs.Responder.{begins_with, fru_answer, is_stale, IsCopied, number_after, out_of_range, part_answer, place_asked, reservation_if, seen_as, size_answer, with_appended, with_image, with_reservation}
 pub use Rattle.ipmi_image.specs.Rewritten.{first_parts, hex_of, info_lines, inventory_lines, IsSaved, line_text, lines_text, next_field, other_lines, part_fields, parts_of, reading_fields, record_line_of, RewritingKeepsStores, row_fields, rows_lines}
 unfoldable pub use Rattle.ipmi_image.specs.Rewritten.{image_text_of}
 pub use Rattle.ipmi_image.specs.Rows.{begins_saved, is_same_saved, row_in, row_of}
 pub use Rattle.ipmi_image.specs.Stored.{AreInventories, AreReadings, HoldsLines, IsRead, Puts, said, sensor_of, store_of}
 pub use Rattle.ipmi_image.specs.Table.{HasRoom, kept_inventory, IsIndex, place_in, place_of, sensor_key}
 unfoldable pub use Rattle.ipmi_image.specs.Text.{pieces}
+pub use Rattle.ipmi_image.specs.WithRecords.{are_current, are_rows, begins_well, counts_with, GivesRecord, InfoTellsRecords, is_row, is_sdr_shelf, IsHandedOn, lacks_id, machine_after, machine_of, record_answer, records_of, same_records, seen_with, with_records_seen}
 pub use Rattle.ipmi_image.specs.declared.cause.LineCause.{LineCause}
 pub use Rattle.ipmi_image.specs.declared.contents.Contents.{Contents}
 pub use Rattle.ipmi_image.specs.declared.image.ImageFault.{ImageFault}

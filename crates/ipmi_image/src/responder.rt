@@ -1,7 +1,7 @@
 //! The answers of an image to a controller's calls.
 ghost use Rattle.std.specs.Prelude.{◌≡◌, ◌+◌, ◌<◌, ◌≤◌, ◌≢◌, true, false, MatchBool, IfOk, OnErr, Ok, ok_or, Some, None, [], length, drop, option_map, unwrap_or};
 ghost use Rattle.ipmi_image.specs.Below.{IsCall, failing_code, look, current, not_present, row_of_record, class_of, IsStore, rows_of, info_of, reading_of, inventory_of, IsHonest, FailsWith, ReserveAnswers, PartAnswers, ValueAnswers, SizeAnswers, BytesAnswers, part_asked};
-ghost use Rattle.ipmi_image.specs.Prelude.{chained, first_id, seen_as, place_asked, IsCopied, number_after, with_reservation, part_answer, fru_answer, size_answer, id_of, with_appended, with_image};
+ghost use Rattle.ipmi_image.specs.Prelude.{chained, first_id, seen_as, place_asked, IsCopied, number_after, with_reservation, part_answer, fru_answer, size_answer, id_of, with_appended, with_image, counts_with};
 
 use crate::earlier::Earlier;
 use crate::image::Image;
@@ -94,6 +94,13 @@ impl Responder {
         }
     }
 
+    /// Does nothing: a caller's contract needs what it ensures.
+    pub(crate) fn is_store(&self)
+        ensures { IsStore self.now.image }
+    {
+        self.image.contents();
+    }
+
     /// Cancels both reservations.
     pub(crate) fn forget(&mut self)
         ensures { self.new ≡ record self.old { sdr_reservation = None; sel_reservation = None } }
@@ -155,6 +162,20 @@ impl Responder {
         self.tally.fail(code)
     }
 
+    /// Counts a call for `asked` bytes that another controller answered, and returns its answer.
+    pub(crate) fn count_answer<V>(&mut self, asked: u8, answer: Result<V, Code>) -> Result<V, Code>
+        ensures answer { result ≡ answer }
+        ensures same { self.new ≡ record self.old { tally = self.new.tally } }
+        ensures counts { self.new.tally.counts ≡ counts_with asked answer self.old.tally.counts }
+    {
+        let called = Event::Called(asked);
+        self.tally.count(called);
+        match answer {
+            Ok(answer) => Ok(answer),
+            Err(code) => Err(self.tally.fail(code)),
+        }
+    }
+
     /// Returns the next reservation number; after FFFFh that is 1.
     pub(crate) fn reserve(&mut self, shelf: Shelf) -> u16
         ensures counted { IsCall 0 (seen_as true self.old) (seen_as true self.new) }
@@ -182,7 +203,7 @@ impl Responder {
 
     /// Whether bytes at the offset may be requested under the reservation. At an offset above 0 it must be the last
     /// one given for the shelf.
-    fn is_reserved(&self, shelf: Shelf, reservation: u16, offset: u8) -> bool
+    pub(crate) fn is_reserved(&self, shelf: Shelf, reservation: u16, offset: u8) -> bool
         ensures { MatchBool result
             (0 < offset → current shelf (seen_as true self.now) ≡ Some reservation)
             ((0 < offset) × (current shelf (seen_as true self.now) ≢ Some reservation)) }

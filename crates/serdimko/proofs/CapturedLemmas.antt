@@ -1,5 +1,5 @@
 -- What is saved of a capture, by whether the connection was lost.
-use Rattle.std.proofs.Common.{◌≡◌, ◌++◌, ℕ, IfOk, inl, inr, List, MatchOption, None, Option, option_map, refl, Result, Ok, Err, Some, sym}
+use Rattle.std.proofs.Common.{◌≡◌, ℕ, IfOk, inl, inr, List, MatchOption, None, Option, option_map, refl, Result, Ok, Err, Some, sym}
 use Rattle.ipmi_output.specs.Failure.{line_text}
 use Rattle.ipmi_output.specs.Received.{Received, ReceivesText, WritesAll}
 

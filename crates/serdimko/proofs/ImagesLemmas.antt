@@ -1,5 +1,5 @@
 -- Standard input, or the images that are named.
-use Rattle.std.proofs.Common.{◌≡◌, ◌==◌, ◌⊎◌, ℕ, Bool, true, false, None, Option, Err, List, [], ◌∷◌, arith, inl, inr, length}
+use Rattle.std.proofs.Common.{◌≡◌, ◌==◌, ◌⊎◌, ℕ, true, false, None, Option, Err, List, [], ◌∷◌, arith, inl, inr, length}
 use Rattle.std.proofs.lemmas.Bool.Decides.{nat_tests}
 use Rattle.ipmi_image.specs.Cause.{cause_of}
 use Rattle.ipmi_image.specs.Image.{store_of_image}

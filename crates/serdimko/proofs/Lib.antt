@@ -2,7 +2,7 @@ pub mod CapturedLemmas
 pub mod EachLemmas
 pub mod EndingLemmas
 pub mod ImagesLemmas
-pub mod LabelLemmas
 pub mod NamesLemmas
 pub mod RunErrorLemmas
+mod LabelLemmas
 mod LastWordsLemmas

@@ -4,7 +4,6 @@ use Rattle.std.specs.Borrow.{Bor}
 use Rattle.std.specs.declared.alloc.Global.{Global}
 use Rattle.ipmi_bus.specs.Seen.{IsHonest, Seen}
 use Rattle.ipmi_bus.specs.Store.{Store}
-use Rattle.ipmi_command_line.specs.declared.request.Format.{Format}
 use Rattle.ipmi_commands.specs.Prelude.{IsRewriting}
 use Rattle.ipmi_commands.specs.declared.limits.RequestLimits.{RequestLimits}
 use Rattle.ipmi_json.specs.declared.object.Label.{Label}
@@ -26,7 +25,7 @@ use Rattle.serdimko.specs.declared.report.Settings.{Settings}
 use Rattle.serdimko.specs.declared.run_error.RunError.{RunError}
 use Rattle.serdimko.specs.Out.{Out, state}
 use Rattle.serdimko.specs.Printing.{Each, EndsIn, PrintsQuery, Reports, RunsThenEnds}
-use Rattle.serdimko.specs.RunError.{faults_of_error, is_output_open, no_image, output_error, Tells, unread}
+use Rattle.serdimko.specs.RunError.{faults_of_error, no_image, output_error, Tells, unread}
 use Rattle.serdimko.specs.Settings.{is_headed, IsQuery, texts_of, wording_of}
 
 -- ---- one image
@@ -61,18 +60,22 @@ abbrev pub IsFaultOf : List ℕ → ImageFault → Option FaultCause → Type 0
 IsFaultOf bytes fault cause =
     (fault ≡ ImageFault.Memory) ⊎ ((store_of_image bytes ≡ Err fault) × (cause ≡ cause_of bytes fault))
 
--- the bytes are an image, or they have a fault
-abbrev pub PrintsBytes : RequestLimits → ImageQuery → Report → List ℕ → Out → Out → Received → Received → Outcome → Type 0
-PrintsBytes limits query report bytes old new said said' result =
-    ((store : Store) × (store_of_image bytes ≡ Ok store) × PrintsStore limits query report store old new said said' result)
-    ⊎ ((fault : ImageFault) × (cause : Option FaultCause) × IsFaultOf bytes fault cause
-    × Fails report (no_image fault cause) old new said said' result)
+-- the input was read, and it is an image of this store
+abbrev pub IsImageOf : Result (Vec ℕ Global) InputFault → Store → Type 0
+IsImageOf (Err fault) store = ⊥
+IsImageOf (Ok image) store = store_of_image image.items ≡ Ok store
+
+-- why it is no image: it was not read, or it has a fault
+abbrev pub IsErrorOf : Result (Vec ℕ Global) InputFault → RunError → Type 0
+IsErrorOf (Err fault) error = error ≡ unread fault
+IsErrorOf (Ok image) error =
+    (fault : ImageFault) × (cause : Option FaultCause) × IsFaultOf image.items fault cause × (error ≡ no_image fault cause)
 
 abbrev pub PrintsInput : RequestLimits → ImageQuery → Report → Result (Vec ℕ Global) InputFault → Out → Out → Received → Received
     → Outcome → Type 0
-PrintsInput limits query report (Err fault) old new said said' result = Fails report (unread fault) old new said said' result
-PrintsInput limits query report (Ok image) old new said said' result =
-    PrintsBytes limits query report image.items old new said said' result
+PrintsInput limits query report input old new said said' result =
+    ((store : Store) × IsImageOf input store × PrintsStore limits query report store old new said said' result)
+    ⊎ ((error : RunError) × IsErrorOf input error × Fails report error old new said said' result)
 
 -- ---- its name and its labels
 

@@ -1,5 +1,5 @@
 -- The labels of objects: the name of an image that is one of several, and those of `--label`.
-use Rattle.std.specs.Prelude.{ℕ, ◌==◌, ◌||◌, Bool, ◌∷◌, [], ◌++◌, List, Option, Some, None, codes, fold, length, nat_lt, option_map, if◌then◌else◌, bytes_eq}
+use Rattle.std.specs.Prelude.{ℕ, ◌==◌, ◌||◌, Bool, ◌∷◌, [], ◌++◌, List, Option, Some, None, codes, fold, length, nat_lt, if◌then◌else◌, bytes_eq}
 use Rattle.std.specs.List.{after_first, before_first, list_any, position_or_len}
 use Rattle.ipmi_json.specs.Keys.{is_object_key}
 use Rattle.ipmi_json.specs.declared.object.Label.{Label}
@@ -12,20 +12,16 @@ pub record KeyValue : Type 0 where
 abbrev pub key_value : Label → KeyValue
 key_value label = record { key = label.key.now; value = label.value.now }
 
--- the key, and the value after `=`
-abbrev pub name_in : List ℕ → List ℕ
-name_in text = before_first (λ byte. byte == 61) text
-
-abbrev pub value_in : List ℕ → Option (List ℕ)
-value_in text =
-    if nat_lt (position_or_len (λ byte. byte == 61) text) (length text) then Some (after_first (λ byte. byte == 61) text)
-    else None
+-- what stands before the first `=`
+abbrev pub key_in : List ℕ → List ℕ
+key_in text = before_first (λ byte. byte == 61) text
 
 -- KEY=VALUE; None: it has no `=`, or nothing before it
 abbrev pub label_of : List ℕ → Option KeyValue
 label_of text =
-    if length (name_in text) == 0 then None
-    else option_map (λ value. record { key = name_in text; value = value }) (value_in text)
+    if nat_lt (position_or_len (λ byte. byte == 61) text) (length text)
+    then (if length (key_in text) == 0 then None
+    else Some (record { key = key_in text; value = after_first (λ byte. byte == 61) text })) else None
 
 abbrev pub with_label : List KeyValue → Option KeyValue → List KeyValue
 with_label labels None = labels

@@ -1,5 +1,5 @@
 -- The output of the program, and the state that runs change.
-use Rattle.std.specs.Prelude.{ℕ, Bool, List, ◌++◌, Option, unwrap_or}
+use Rattle.std.specs.Prelude.{ℕ, Bool, List, Option}
 use Rattle.std.specs.declared.alloc.Global.{Global}
 use Rattle.std.specs.Io.Buffered.{writer_buffer, writer_inner}
 use Rattle.std.specs.declared.io.buffered.BufWriter.{BufWriter}

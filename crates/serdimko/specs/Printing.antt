@@ -1,13 +1,12 @@
 -- What a run prints, how it ends, and what is reported.
-use Rattle.std.specs.Prelude.{◌≡◌, ◌⊎◌, ◌+◌, ◌-◌, ◌^◌, ◌≤◌, ◌==◌, ◌&&◌, not, if◌then◌else◌, ℕ, Bool, true, false, List, [], ◌++◌, ◌∷◌, max, min, Option, Some, None, Result, Ok, Err, String}
+use Rattle.std.specs.Prelude.{◌≡◌, ◌⊎◌, ◌+◌, ◌-◌, ◌^◌, ◌≤◌, ◌==◌, ◌&&◌, not, if◌then◌else◌, ℕ, Bool, true, false, List, [], ◌++◌, ◌∷◌, min, Option, Some, None, Result, Ok, Err, String, option_map}
 use Rattle.std.specs.Str.Lossy.{utf8_lossy}
 use Rattle.std.specs.declared.alloc.AllocError.{AllocError}
 use Rattle.std.specs.declared.alloc.Global.{Global}
 use Rattle.ipmi_bus.specs.CursorState.{start_of}
-use Rattle.ipmi_bus.specs.Seen.{AsksAtMost, IsHonest, Seen}
+use Rattle.ipmi_bus.specs.Seen.{AsksAtMost, IsHonest}
 use Rattle.ipmi_command_line.specs.declared.task.Task.{Task}
-use Rattle.ipmi_commands.specs.Prelude.{change, job_in, most_on_walk, Output, RunsCommand}
-use Rattle.ipmi_commands.specs.declared.job.Job.{Job}
+use Rattle.ipmi_commands.specs.Prelude.{change, job_in, keeping_last, most_on_walk, Output, RunsCommand}
 use Rattle.ipmi_commands.specs.declared.job.Wording.{Wording}
 use Rattle.ipmi_commands.specs.Sensors.{AddsNamed, EndsSearch, Found, PrintsFound, Searches, with_readings}
 use Rattle.ipmi_commands.specs.declared.limits.RequestLimits.{RequestLimits}
@@ -106,7 +105,7 @@ pub record PrintsTask (limits : RequestLimits) (task : Task) (from : Option ℕ)
   pub last_line : IsLastLine new.lost said
   pub asked : AsksAtMost limits.part old.seen new.seen
   pub runs : RunsThenEnds report
-      (λ before after. RunsCommand (job_in report.wording task from) limits.tries (change old.seen new.seen before after))
+      (λ before after. RunsCommand (option_map keeping_last (job_in report.wording task from)) limits.tries (change old.seen new.seen before after))
       said old.out new.out last
 
 -- the outcome of a run with this error

@@ -1,5 +1,5 @@
 -- Why a run over an image or a controller did not finish: when, with which message, and with which status.
-use Rattle.std.specs.Prelude.{◌≡◌, ◌==◌, ◌⊎◌, ◌&&◌, ◌||◌, max, ℕ, Bool, true, false, List, [], ◌∷◌, ◌++◌, codes, decimal, Option, Some, None, Result, Ok, Err, String, string_bytes}
+use Rattle.std.specs.Prelude.{◌≡◌, ◌==◌, ◌&&◌, ◌||◌, max, ℕ, Bool, true, false, List, [], ◌++◌, codes, decimal, Option, Some, None, Result, Ok, Err, String, string_bytes}
 use Rattle.std.specs.declared.alloc.Global.{Global}
 use Rattle.std.specs.declared.alloc.AllocError.{AllocError}
 use Rattle.ipmi_bus.specs.declared.inventory_reader.FruEnded.{FruEnded}
@@ -9,7 +9,6 @@ use Rattle.ipmi_output.specs.Failure.{Ending, escaped_name, failure_text, fault_
 use Rattle.ipmi_output.specs.Received.{Received, ReceivesText}
 use Rattle.ipmi_output.specs.declared.failure.Failure.{Failure}
 use Rattle.ipmi_program.specs.Input.{input_fault_words}
-use Rattle.ipmi_image.specs.Cause.{cause_of}
 use Rattle.ipmi_image.specs.declared.cause.FaultCause.{FaultCause}
 use Rattle.ipmi_program.specs.declared.input.InputFault.{InputFault}
 use Rattle.serdimko.specs.Causes.{cause_words}

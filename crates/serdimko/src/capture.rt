@@ -7,7 +7,7 @@ ghost use Rattle.ipmi_output.specs.Failure.{line_text};
 ghost use Rattle.ipmi_output.specs.Received.{ReceivesText};
 ghost use Rattle.ipmi_raw.specs.Controller.{last_words, seen_of};
 ghost use Rattle.ipmi_raw.specs.Handed.{OnlyRequests};
-ghost use Rattle.serdimko.specs.Captured.{Captures, EndsUnwritten, printed_text, PrintsText, said_left, SavesImage, SavesText, SaysLines, SaysLost, status_of_image, WritesText};
+ghost use Rattle.serdimko.specs.Captured.{Captures, EndsUnwritten, printed_text, PrintsText, said_left, SavesImage, SavesText, SaysLines, SaysLost, WritesText};
 ghost use Rattle.serdimko.specs.Out.{out_of};
 ghost use Rattle.serdimko.specs.RunError.{no_reply_text};
 
@@ -160,13 +160,6 @@ fn printed_text(text: &[u8], is_whole: bool) -> &[u8]
     }
 }
 
-/// The exit status if an image was saved.
-fn status_of_image(is_whole: bool) -> u8
-    ensures { result ≡ status_of_image is_whole }
-{
-    if is_whole { 0 } else { NOT_WHOLE }
-}
-
 /// Reports that the output accepted no more, unless its reader closed it, and returns the exit status.
 fn end_unwritten<E: MessageSink>(is_closed: bool, err: &mut E) -> u8
     ensures { EndsUnwritten is_closed (E.received err.old) (E.received err.new) result }
@@ -189,25 +182,10 @@ fn print_text<W: Write + Drop, E: MessageSink>(
     ensures { PrintsText is_whole text.now (out_of out.old) (out_of out.new) (E.received err.old) (E.received err.new) result }
 {
     match write_flushed(out, printed_text(text, is_whole)) {
-        Ok(()) => status_of_image(is_whole),
+        Ok(()) if is_whole => 0,
+        Ok(()) => NOT_WHOLE,
         Err(_) => end_unwritten(is_closed(out), err),
     }
-}
-
-/// Writes the text of a whole image to a file, and returns the exit status.
-fn write_whole<R: Files + AllocGlobal, E: MessageSink>(
-    rt: &R,
-    text: &[u8],
-    name: &str,
-    err: &mut E,
-) -> u8
-    ensures { WritesText true name.now (E.received err.old) (E.received err.new) result }
-{
-    if write_file(rt, name, text).is_err() {
-        let _ = write_message(err, &[Text("cannot write "), Escaped(name)]);
-        return UNWRITTEN;
-    }
-    0
 }
 
 /// Writes the text of an image to a file, if it is whole, and returns the exit status.
@@ -220,12 +198,16 @@ fn write_text<R: Files + AllocGlobal, E: MessageSink>(
 ) -> u8
     ensures { WritesText is_whole name.now (E.received err.old) (E.received err.new) result }
 {
-    if is_whole {
-        return write_whole(rt, text, name, err);
+    if !is_whole {
+        let why = Text(" is not written: the image is not whole");
+        let _ = write_message(err, &[Escaped(name), why]);
+        return NOT_WHOLE;
     }
-    let why = Text(" is not written: the image is not whole");
-    let _ = write_message(err, &[Escaped(name), why]);
-    NOT_WHOLE
+    if write_file(rt, name, text).is_err() {
+        let _ = write_message(err, &[Text("cannot write "), Escaped(name)]);
+        return UNWRITTEN;
+    }
+    0
 }
 
 /// Writes the image, whole or in part, and returns the exit status.
@@ -248,8 +230,7 @@ fn write_captured<R: Files + AllocGlobal, W: Write + Drop, E: MessageSink>(
     })
 }
 
-/// Reports what was captured: that the connection was lost, or the items left out. Then writes the image, and returns the exit
-/// status.
+/// Reports that the connection was lost, or the items left out and writes the image. Returns the exit status.
 fn report_captured<R: Files + AllocGlobal, W: Write + Drop, E: MessageSink>(
     rt: &R,
     lost: Option<&[u8]>,

@@ -1,9 +1,9 @@
 //! Prints what a command asks for from a controller, live or over an image, and reports how each run ended.
-ghost use Rattle.std.specs.Prelude.{◌≡◌, ◌+◌, Err, IfSome, List, None, Ok, Option, ℕ};
+ghost use Rattle.std.specs.Prelude.{◌≡◌, ◌+◌, Err, IfSome, List, None, Ok, Option, option_map, ℕ, ⊤};
 ghost use Rattle.serdimko.specs.Out.{out_of, state};
 ghost use Rattle.ipmi_command_line.specs.Command.{IsTask};
 ghost use Rattle.ipmi_bus.specs.Seen.{AsksAtMost};
-ghost use Rattle.ipmi_commands.specs.Prelude.{change, IsFrom, IsJob, printed, RunsCommand};
+ghost use Rattle.ipmi_commands.specs.Prelude.{change, IsFrom, IsJob, keeping_last, printed, RunsCommand};
 ghost use Rattle.ipmi_output.specs.Failure.{write_faults};
 ghost use Rattle.serdimko.specs.LastWords.{IsLastLine};
 ghost use Rattle.serdimko.specs.Settings.{IsQuery};
@@ -29,17 +29,28 @@ pub(crate) trait Connection: Controller {
     /// What its tool said at last, if the connection was lost.
     ghost lost: { Self → Option (List ℕ) };
 
+    /// What its tools were handed are only requests that read or take a reservation.
+    ghost only_requests: { Self → Type 0 };
+
     /// The same on a line.
     fn last_line(&self, alloc: Global) -> Result<Option<String>, AllocError>
         ensures { IsLastLine (lost self.now) result };
+
+    /// Does nothing.
+    fn asks_only(&self)
+        ensures { ∥ only_requests self.now ∥₁ };
 }
 
 impl Connection for ImageController {
     ghost lost = { λ _. None };
 
+    ghost only_requests = { λ _. ⊤ };
+
     fn last_line(&self, _alloc: Global) -> Result<Option<String>, AllocError> {
         Ok(None)
     }
+
+    fn asks_only(&self) {}
 }
 
 /// What is printed of each image or controller.
@@ -51,7 +62,7 @@ pub(crate) enum Query {
     Sensors(Words, Option<u16>),
 }
 
-/// Runs the job; without one, as for `image rewrite`, which needs an image, the run fails.
+/// Runs the job, which keeps last entries in memory. Without one, as for `image rewrite`, the run fails.
 fn run_job<'a, C: Controller, W: Write + Drop>(
     alloc: Global,
     ctl: &mut C,
@@ -63,11 +74,11 @@ fn run_job<'a, C: Controller, W: Write + Drop>(
     requires { IfSome job (λ job. IsJob job) }
     ensures faults { (out_of out.new).faults ≡ (out_of out.old).faults + write_faults result }
     ensures asked { AsksAtMost limits.part (C.seen ctl.old) (C.seen ctl.new) }
-    ensures runs { RunsCommand job.entry limits.tries (change (C.seen ctl.old) (C.seen ctl.new)
+    ensures runs { RunsCommand (option_map keeping_last job.entry) limits.tries (change (C.seen ctl.old) (C.seen ctl.new)
         (printed (out_of out.old).taken summary.old) (printed (out_of out.new).taken summary.new)) result }
 {
     match job {
-        Some(job) => execute(alloc, ctl, limits, job, out, summary),
+        Some(job) => execute(alloc, ctl, limits, job.keeping_last(), out, summary),
         None => Err(Failure::Usage),
     }
 }

@@ -28,15 +28,16 @@ Options, anywhere, also after the command:
   --image FILE    the image is in this file; - or no option: standard input;
                   several: one after another, texts after a line '== FILE'
   --live TOOL:FOLDER  a live controller; serdimko-live gives this option
+  --records IMAGE  with serdimko-live: sensor data records from this image, if
+                  its info of them is the machine's
   --from HEX4     start at this record id, not 0000 or FFFF (sdr list, elist,
                   hex, get; sensor; sel list, elist)
-  --part N        ask for at most N bytes at once, 1 to 254 (default 32)
+  --part N        ask for at most N bytes at once, 1 to 254 (default 64)
   --tries N       retries for one record or answer, 0 to 255 (default 5)
   --id HEX        the ID of sel get in hex, as sel list prints it
   --strict        status 1 if a fault or a missing device was printed
   --json          an object in a line for each thing, and one at the end
-  --label KEY=VALUE  with --json, adds this text to each object; may come
-                  several times
+  --label KEY=VALUE  with --json, a text in each object; may come several times
   --output FILE   capture writes to this file (-o) if the image is whole
   --quiet         capture shows no progress
   -h, --help      print help
@@ -125,7 +126,7 @@ their infos, the readings of the sensors and the inventories that records name.
 What the image lacks is said. If it lacks more than refused values and sizes,
 or empty inventories, it is not whole: the status is 1, and -o writes nothing;
 standard output gets what came, without the last line, 'end'.
---part N and --tries N are those of the listings; --quiet shows no progress.
+--tries N counts for each part of an inventory; --quiet shows no progress.
 ";
 
 /// The general help, with a line for each command of the table.

@@ -1,9 +1,9 @@
 //! Prints what a command asks for from each image, one after another.
-ghost use Rattle.std.specs.Prelude.{◌≡◌, ◌+◌, ◌++◌, ◌==◌, [], false, if◌then◌else◌, None, OnErr, OnOk, option_map, Ok, Some, true};
+ghost use Rattle.std.specs.Prelude.{◌≡◌, ◌+◌, ◌++◌, ◌==◌, [], false, if◌then◌else◌, MatchResult, None, OnErr, OnOk, option_map, Ok, Some, true};
 ghost use Rattle.ipmi_output.specs.Sink.{TakesPart};
 ghost use Rattle.ipmi_output.specs.Writer.{flush_faults};
 ghost use Rattle.ipmi_program.specs.Input.{input_name};
-ghost use Rattle.serdimko.specs.Images.{Fails, file_of, header, image_label, IsImageQuery, PrintsBytes, PrintsFile, PrintsImage, PrintsImages, PrintsInput, PrintsNamed, PrintsStore, Rewrites};
+ghost use Rattle.serdimko.specs.Images.{Fails, file_of, header, image_label, IsErrorOf, IsImageOf, IsImageQuery, PrintsFile, PrintsImage, PrintsImages, PrintsInput, PrintsNamed, PrintsStore, Rewrites};
 ghost use Rattle.serdimko.specs.Out.{out_of};
 
 use crate::closable::{Output, is_closed};
@@ -39,7 +39,7 @@ pub(crate) fn file_of(image: Option<&Word>) -> Option<&Word>
 }
 
 /// Reports why nothing was printed, after the line at the end of objects.
-fn fail<W: Write + Drop, E: MessageSink>(
+pub(crate) fn fail<W: Write + Drop, E: MessageSink>(
     alloc: Global,
     report: &Report<'_>,
     error: RunError<'_>,
@@ -92,33 +92,27 @@ fn print_store<W: Write + Drop, E: MessageSink>(
     result
 }
 
-/// Prints what the query asks for from bytes that may be an image.
-fn print_bytes<W: Write + Drop, E: MessageSink>(
+/// The image of an input. Err says why there is none.
+pub(crate) fn image_of<'a>(
     alloc: Global,
-    limits: RequestLimits,
-    query: ImageQuery<'_>,
-    report: &Report<'_>,
-    bytes: &[u8],
-    out: &mut Output<W>,
-    err: &mut E,
-) -> Outcome
-    requires { IsImageQuery query }
-    ensures { PrintsBytes limits query.entry report.now bytes.now (out_of out.old) (out_of out.new)
-        (E.received err.old) (E.received err.new) result }
+    input: &Result<Vec<u8>, InputFault>,
+) -> Result<Image, RunError<'a>>
+    ensures { MatchResult result (λ image. IsImageOf input.now image) (λ error. IsErrorOf input.now error) }
 {
+    let bytes = match input {
+        Ok(bytes) => bytes.as_slice(),
+        Err(fault) => return Err(RunError::unread(*fault)),
+    };
     match Image::read(alloc, bytes) {
-        Ok(image) => print_store(alloc, limits, query, report, image, out, err),
+        Ok(image) => Ok(image),
         Err(fault) => match fault_cause(alloc, bytes, fault) {
-            Ok(cause) => fail(alloc, report, RunError::no_image(fault, cause), out, err),
-            Err(AllocError) => {
-                let error = RunError::no_image(ImageFault::Memory, None);
-                fail(alloc, report, error, out, err)
-            }
+            Ok(cause) => Err(RunError::no_image(fault, cause)),
+            Err(AllocError) => Err(RunError::no_image(ImageFault::Memory, None)),
         },
     }
 }
 
-/// Prints what the query asks for from the input, if it was read.
+/// Prints what the query asks for from the input, if that is an image.
 fn print_input<W: Write + Drop, E: MessageSink>(
     alloc: Global,
     limits: RequestLimits,
@@ -132,9 +126,9 @@ fn print_input<W: Write + Drop, E: MessageSink>(
     ensures { PrintsInput limits query.entry report.now input.now (out_of out.old) (out_of out.new)
         (E.received err.old) (E.received err.new) result }
 {
-    match input {
-        Ok(image) => print_bytes(alloc, limits, query, report, image.as_slice(), out, err),
-        Err(fault) => fail(alloc, report, RunError::unread(*fault), out, err),
+    match image_of(alloc, input) {
+        Ok(image) => print_store(alloc, limits, query, report, image, out, err),
+        Err(error) => fail(alloc, report, error, out, err),
     }
 }
 

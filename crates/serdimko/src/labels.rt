@@ -2,7 +2,7 @@
 ghost use Rattle.std.specs.List.{list_any};
 ghost use Rattle.std.specs.Prelude.{◌≡◌, [], bytes_eq, IfOk, map, OnOk, option_map};
 ghost use Rattle.ipmi_output.specs.Failure.{joined_parts};
-ghost use Rattle.serdimko.specs.Labels.{fault_of_label, key_value, label_of, labels_of, name_in, value_in, with_label, wrong_label};
+ghost use Rattle.serdimko.specs.Labels.{fault_of_label, key_value, label_of, labels_of, with_label, wrong_label};
 
 use crate::mistake::{Line, line};
 use ipmi_command_line::Word;
@@ -13,41 +13,26 @@ use std::alloc::{AllocError, Global};
 /// The key of the image's name, if there are several images.
 const IMAGE: &str = "image";
 
-/// A key and the value after `=`, if there is one.
-fn name_and_value(word: &str) -> (&str, Option<&str>)
-    ensures name { result.0.now ≡ name_in word.entry.now }
-    ensures value { option_map (λ value. value.now) result.1 ≡ value_in word.entry.now }
-{
-    match word.split_once('=') {
-        Some((option, value)) => (option, Some(value)),
-        None => (word, None),
-    }
-}
-
 /// The label in the value of `--label`. None if it is malformed.
 fn label_of(text: &str) -> Option<Label<'_>>
     ensures { option_map key_value result ≡ label_of text.entry.now }
 {
-    let (key, value) = name_and_value(text);
+    let (key, value) = text.split_once('=')?;
     if key.is_empty() {
         return None;
     }
-    Some(Label { key, value: value? })
+    Some(Label { key, value })
 }
 
 /// Whether a label has the key.
 fn has_key(labels: &[Label<'_>], key: &str) -> bool
-    ensures { result ≡ list_any (λ label. bytes_eq label.key key.now) (map key_value labels.now) }
+    ensures { result ≡ list_any (λ label. bytes_eq label.key.now key.now) labels.now }
 {
-    for label in labels {
-        if label.key == key {
-            return true;
-        }
-    }
-    false
+    labels.iter().any(|label| label.key == key)
 }
 
 /// What is wrong with the value of `--label`, given the labels before it.
+#[tactic(auto, using(crate::proofs::LabelLemmas::any_has_key))]
 fn fault_of(label: Option<Label<'_>>, before: &[Label<'_>]) -> Option<&'static str>
     ensures { option_map (λ fault. fault.now) result ≡ fault_of_label (option_map key_value label.entry) (map key_value before.now) }
 {

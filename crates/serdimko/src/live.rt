@@ -1,7 +1,8 @@
 //! Prints what a command asks for from a live controller. A stock tool holds a session with it, and pipes in a folder lead to the tool.
 ghost use Rattle.std.specs.Prelude.{◌≡◌, ◌*◌, None, IfOk, is_none, map, option_map, string_bytes, take};
 ghost use Rattle.std.specs.Duration.{as_nanos};
-ghost use Rattle.ipmi_raw.specs.Controller.{last_words, seen_of};
+ghost use Rattle.ipmi_image.specs.WithRecords.{machine_of};
+ghost use Rattle.ipmi_raw.specs.Controller.{last_words};
 ghost use Rattle.ipmi_raw.specs.Handed.{OnlyRequests};
 ghost use Rattle.ipmi_raw.specs.Piped.{no_units};
 ghost use Rattle.serdimko.specs.LastWords.{lost_text, on_a_line, said_lines};
@@ -15,9 +16,11 @@ use crate::labels::labels_of;
 use crate::outcome::Outcome;
 use crate::report::Settings;
 use crate::run_error::RunError;
+use ipmi_bus::Controller;
 use ipmi_command_line::{LiveTool, Word};
+use ipmi_image::WithRecords;
 use ipmi_output::{Failure, MessageSink};
-use ipmi_raw::{Open, Peer, Piped, RawController, Tool};
+use ipmi_raw::{Open, Piped, RawController, Tool};
 use std::alloc::{AllocError, Global};
 use std::fs::{self, File, Files, OpenOptions};
 use std::io::{self, BufReader, Write};
@@ -151,14 +154,32 @@ pub(crate) fn lost_line(alloc: Global, text: &[u8]) -> Result<String, AllocError
     on_a_line(alloc, lines.as_slice())
 }
 
-impl<P: Peer + Drop, K: Clock + Drop> Connection for RawController<P, K> {
+impl<O: Open + Drop, K: Clock + Drop> Connection for RawController<Piped<O>, K> {
     ghost lost = { λ controller. last_words controller };
+
+    ghost only_requests = { λ controller. OnlyRequests O.opens controller.peer.tool controller.peer.is_lost controller.peer.units };
 
     fn last_line(&self, alloc: Global) -> Result<Option<String>, AllocError> {
         match self.lost() {
             Some(text) => Ok(Some(lost_line(alloc, text)?)),
             None => Ok(None),
         }
+    }
+
+    fn asks_only(&self) {}
+}
+
+impl<O: Open + Drop, K: Clock + Drop> Connection for WithRecords<RawController<Piped<O>, K>> {
+    ghost lost = { λ controller. last_words (machine_of controller) };
+
+    ghost only_requests = { λ controller. ⟦<RawController<Piped<O>, K> as Connection>⟧.only_requests (machine_of controller) };
+
+    fn last_line(&self, alloc: Global) -> Result<Option<String>, AllocError> {
+        self.machine().last_line(alloc)
+    }
+
+    fn asks_only(&self) {
+        self.machine().asks_only();
     }
 }
 
@@ -181,29 +202,31 @@ pub(crate) fn controller_of<'a, R: Files + Clock + AllocGlobal>(
     RawController::new(Piped::new(tool, Pipes { rt, folder }), rt, pause, tries)
 }
 
-/// Prints what the query asks for from the live controller. Through its peer a tool is handed only requests that read or take a reservation.
-pub(crate) fn print_live<'a, O: Open + Drop, K: Clock + Drop, W: Write + Drop, E: MessageSink>(
+/// Prints what the query asks for from the machine of this host. Its tools are handed only requests that read or take a reservation.
+pub(crate) fn print_live<'a, C: Connection, W: Write + Drop, E: MessageSink>(
     alloc: Global,
     settings: &'a Settings,
     host: Option<&'a Word>,
     query: &Query,
-    controller: &mut RawController<Piped<O>, K>,
+    machine: &mut C,
     out: &mut Output<W>,
     err: &mut E,
 ) -> Outcome
-    requires query { IsQuery query.now }
-    requires tries { controller.old.silence.tries ≡ settings.now.limits.tries }
+    requires { IsQuery query.now }
     ensures prints { PrintsLive settings.now (option_map (λ name. name.now) host.entry) query.now
-        (state (seen_of ⟦<Piped<O> as Peer>⟧.seen controller.old) (last_words controller.old) (out_of out.old))
-        (state (seen_of ⟦<Piped<O> as Peer>⟧.seen controller.new) (last_words controller.new) (out_of out.new))
+        (state (⟦<C as Controller>⟧.seen machine.old) (⟦<C as Connection>⟧.lost machine.old) (out_of out.old))
+        (state (⟦<C as Controller>⟧.seen machine.new) (⟦<C as Connection>⟧.lost machine.new) (out_of out.new))
         (E.received err.old) (E.received err.new) result }
-    ensures requests { ∥ OnlyRequests O.opens controller.new.peer.tool controller.new.peer.is_lost controller.new.peer.units ∥₁ }
+    ensures requests { ∥ ⟦<C as Connection>⟧.only_requests machine.new ∥₁ }
 {
     let (name, is_unknown) = name_of(host);
     let Ok(labels) = labels_of(alloc, settings.labels(), None) else {
+        machine.asks_only();
         let report = settings.report(&[], name, is_unknown);
         return report.tell(&Some(RunError::Failed(Failure::OutOfMemory)), err);
     };
     let report = settings.report(labels.as_slice(), name, is_unknown);
-    print_query(alloc, controller, settings.limits, query, &report, out, err)
+    let outcome = print_query(alloc, machine, settings.limits, query, &report, out, err);
+    machine.asks_only();
+    outcome
 }

@@ -26,17 +26,18 @@ use capture::{Counter, capture_live};
 use closable::{Closable, Output};
 use driver::Query;
 use help::{SHORT, VERSION, help_on};
-use images::{ImageQuery, print_images};
+use images::{ImageQuery, fail, image_of, print_images};
 use ipmi_command_line::{
-    Action, DEFAULT_PART, Format, Limits, LiveTool, Request, Source, UsageError, UsageFault, Word,
-    Words, request_of,
+    Action, Format, Limits, LiveTool, Request, Source, UsageError, UsageFault, Word, Words,
+    request_of,
 };
-use ipmi_commands::{RequestLimits, report};
+use ipmi_commands::{LIVE_PART, RequestLimits, report};
+use ipmi_image::WithRecords;
 use ipmi_output::Part::{self, Escaped, Number, Text};
 use ipmi_output::{Failure, MessageSink, Written, write_message};
-use ipmi_program::read_words;
-use labels::wrong_label;
-use live::{Live, controller_of, print_live};
+use ipmi_program::{read_input, read_words};
+use labels::{labels_of, wrong_label};
+use live::{Live, controller_of, name_of, print_live};
 use mistake::maybe_unquoted;
 use outcome::Outcome;
 use report::Settings;
@@ -119,10 +120,12 @@ fn run<E: MessageSink>(rt: &HostRuntime, request: Request, err: &mut E) -> Resul
     let Request {
         action,
         source,
+        records,
         limits,
         format,
         strict,
     } = request;
+    let records = records.as_ref();
     let settings = settings_of(limits, format, strict);
     match action {
         Action::Help(topic) => print_text(rt, help_on(rt.alloc(), topic)?.as_str(), err),
@@ -136,10 +139,24 @@ fn run<E: MessageSink>(rt: &HostRuntime, request: Request, err: &mut E) -> Resul
             err,
         ),
         Action::Print(task, from) => {
-            run_query(rt, &Query::Print(task, from), &source, &settings, err)
+            run_query(
+                rt,
+                &Query::Print(task, from),
+                &source,
+                records,
+                &settings,
+                err,
+            )
         }
         Action::GetSensors(names, from) => {
-            run_query(rt, &Query::Sensors(names, from), &source, &settings, err)
+            run_query(
+                rt,
+                &Query::Sensors(names, from),
+                &source,
+                records,
+                &settings,
+                err,
+            )
         }
         Action::Rewrite => run_rewrite(rt, &source, &settings, err),
     }
@@ -149,7 +166,7 @@ fn settings_of(limits: Limits, format: Format, strict: bool) -> Settings
     requires { IfSome limits.part (λ n. (1 ≤ n) × (n ≤ 254)) }
 {
     Settings {
-        limits: RequestLimits::new(limits.part.unwrap_or(DEFAULT_PART), limits.tries),
+        limits: RequestLimits::reading_ahead(limits.part.unwrap_or(LIVE_PART), limits.tries),
         format,
         strict,
     }
@@ -160,6 +177,7 @@ fn run_query<E: MessageSink>(
     rt: &HostRuntime,
     query: &Query,
     source: &Source,
+    records: Option<&Word>,
     settings: &Settings,
     err: &mut E,
 ) -> Result<u8, AllocError>
@@ -179,7 +197,7 @@ fn run_query<E: MessageSink>(
             )?
         }
         Source::Live(tool, folder, host) => match live_of(rt, *tool, folder.as_str(), err)? {
-            Some(live) => run_live(rt, query, live, host.as_ref(), settings, err)?,
+            Some(live) => run_live(rt, query, live, host.as_ref(), records, settings, err)?,
             None => return Ok(USAGE),
         },
     };
@@ -275,23 +293,66 @@ fn discard<W: Write + Drop>(out: Output<W>) {
     let _ = out.into_inner().into_parts();
 }
 
+/// Prints what is asked for from the live controller, with the sensor data records of an image if one is named and has them.
+fn print_machine<'a, E: MessageSink>(
+    rt: &HostRuntime,
+    query: &Query,
+    live: Live<'_>,
+    host: Option<&'a Word>,
+    records: Option<&'a Word>,
+    settings: &'a Settings,
+    out: &mut Output<io::Printer<'_, HostRuntime>>,
+    err: &mut E,
+) -> Result<Outcome, AllocError>
+    requires { IsQuery query.now }
+{
+    let alloc = rt.alloc();
+    let mut machine = controller_of(rt, live, settings.limits.tries());
+    let Some(file) = records else {
+        return Ok(print_live(alloc, settings, host, query, &mut machine, out, err));
+    };
+    let labels = labels_of(alloc, settings.labels(), None)?;
+    let report = settings.report(labels.as_slice(), file.as_str(), true);
+    let image = match image_of(alloc, &read_input(rt, Some(file))) {
+        Ok(image) => image,
+        Err(error) => return Ok(fail(alloc, &report, error, out, err)),
+    };
+    let mut machine = match WithRecords::of_current(image, machine, settings.limits.tries()) {
+        Ok(mut machine) => {
+            return Ok(print_live(alloc, settings, host, query, &mut machine, out, err));
+        }
+        Err(machine) => machine,
+    };
+    let (rule, after) = (
+        ": its info is not that of ",
+        ", whose sensor data records are read",
+    );
+    let line = [
+        Escaped(file.as_str()),
+        Text(rule),
+        Escaped(name_of(host).0),
+        Text(after),
+    ];
+    let _ = write_message(err, &line);
+    Ok(print_live(alloc, settings, host, query, &mut machine, out, err))
+}
+
 /// Prints what is asked for from the live controller, with buffered output.
 fn run_live<E: MessageSink>(
     rt: &HostRuntime,
     query: &Query,
     live: Live<'_>,
     host: Option<&Word>,
+    records: Option<&Word>,
     settings: &Settings,
     err: &mut E,
 ) -> Result<Outcome, AllocError>
     requires { IsQuery query.now }
 {
-    let mut controller = controller_of(rt, live, settings.limits.tries());
     let mut out = buffered_output(rt)?;
-    let alloc = rt.alloc();
-    let outcome = print_live(alloc, settings, host, query, &mut controller, &mut out, err);
+    let outcome = print_machine(rt, query, live, host, records, settings, &mut out, err);
     discard(out);
-    Ok(outcome)
+    outcome
 }
 
 /// Prints what is asked for from these images, with buffered output.

@@ -152,6 +152,7 @@ impl<'a> RunError<'a> {
         ensures { joined_parts result ≡ error_text name.entry.now is_only_input self.entry.now }
     {
         let none = Text("");
+        let (input, colon) = (Escaped(name), Text(": "));
         match self {
             RunError::Unread(_) if name.is_empty() => {
                 let text = Text("cannot read '': the file name is empty");
@@ -159,25 +160,12 @@ impl<'a> RunError<'a> {
             }
             RunError::Unread(fault) => {
                 let words = Text(fault.words());
-                [
-                    Text("cannot read "),
-                    Escaped(name),
-                    Text(": "),
-                    words,
-                    none,
-                    none,
-                ]
+                [Text("cannot read "), input, colon, words, none, none]
             }
             RunError::NoImage(fault, cause) => image_parts(*fault, *cause, name),
             RunError::Lost(said) => {
-                [
-                    Text("no reply from "),
-                    Escaped(name),
-                    Text(": "),
-                    Escaped(said.as_str()),
-                    none,
-                    none,
-                ]
+                let said = Escaped(said.as_str());
+                [Text("no reply from "), input, colon, said, none, none]
             }
             RunError::Closed => [none, none, none, none, none, none],
             RunError::Failed(failure) => failure_parts(failure, name, is_only_input),
@@ -194,17 +182,11 @@ fn image_parts<'a>(fault: ImageFault, cause: Option<FaultCause>, name: &'a str) 
     ensures { joined_parts result ≡ error_text name.entry.now true (RunError.NoImage fault cause) }
 {
     let words = Text(fault_words(fault));
+    let (input, colon) = (Escaped(name), Text(": "));
     let (none, why) = (Text(""), Text(cause_words(cause)));
     match fault_line(fault) {
-        Some(line) => [
-            Escaped(name),
-            Text(":"),
-            Number(line),
-            Text(": "),
-            words,
-            why,
-        ],
-        None => [Escaped(name), Text(": "), words, why, none, none],
+        Some(line) => [input, Text(":"), Number(line), colon, words, why],
+        None => [input, colon, words, why, none, none],
     }
 }
 

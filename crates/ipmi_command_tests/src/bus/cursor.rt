@@ -185,7 +185,7 @@ fn assert_place(rt: &impl Abort, cursor: &Cursor, wanted: Place) {
 }
 
 /// Asserts a record of five bytes that is the last.
-fn assert_last_record(rt: &impl Abort, record: &Record) {
+pub(super) fn assert_last_record(rt: &impl Abort, record: &Record) {
     assert!(rt; record.id == 1, "{record:?}");
     assert!(rt; record.next == 0xFFFF, "{record:?}");
     assert!(rt;
@@ -228,7 +228,7 @@ fn next_id(cursor: &mut Cursor, ctl: &mut Endless) -> Option<u16> {
 }
 
 /// The number of records that a cursor returns while their ids count up from 0000h.
-fn records_in_order(cursor: &mut Cursor, ctl: &mut Endless) -> u32 {
+pub(super) fn records_in_order(cursor: &mut Cursor, ctl: &mut Endless) -> u32 {
     let mut count = 0u32;
     for _ in 0..70_000u32 {
         match next_id(cursor, ctl) {

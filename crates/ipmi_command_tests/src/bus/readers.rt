@@ -1,6 +1,9 @@
 //! Readings, infos and inventories read from replayed answers, and the number of calls.
 use crate::controllers::{Replay, Reply, assert_last_request};
-use ipmi_bus::{Code, Ended, FruEnded, FruSize, Shelf, read_fru, read_info, read_reading};
+use ipmi_bus::{
+    Code, Ended, FruEnded, FruSize, Shelf, read_fru, read_fru_retrying_parts, read_info,
+    read_reading,
+};
 use ipmi_fixtures::INFO;
 use ipmi_text::Reading;
 use std::alloc::Global;
@@ -228,6 +231,23 @@ fn an_inventory_meets_as_many_troubles_as_there_are_tries(rt: HostRuntime) {
     let mut ctl = Replay::new(&TWO_TROUBLES);
     let ended = read_fru(rt.alloc(), &mut ctl, 0, 2, 1).err();
     assert!(rt; ended == Some(FruEnded::GaveUp), "{ended:?}");
+}
+
+#[test]
+fn each_part_of_an_inventory_is_retried(rt: HostRuntime) {
+    let mut ctl = Replay::new(&TWO_TROUBLES);
+    let bytes = read_fru_retrying_parts(rt.alloc(), &mut ctl, 0, 2, 1).expect(&rt, "an inventory");
+    assert!(rt; bytes.as_slice() == [1, 2, 3].as_slice(), "{bytes:?}");
+    assert!(rt; ctl.calls == 5, "{} calls", ctl.calls);
+}
+
+// A part that is busy twice is too much for one try. The trouble before its size counts for the first part.
+#[test]
+fn a_part_of_an_inventory_is_given_up(rt: HostRuntime) {
+    let mut ctl = Replay::new(&[Reply::Fails(0x81), EIGHT_BYTES, Reply::Fails(0xC0)]);
+    let ended = read_fru_retrying_parts(rt.alloc(), &mut ctl, 0, 2, 1).err();
+    assert!(rt; ended == Some(FruEnded::GaveUp), "{ended:?}");
+    assert!(rt; ctl.calls == 3, "{} calls", ctl.calls);
 }
 
 const ONE_BYTE: [Reply; 2] = [

@@ -197,8 +197,31 @@ fn all_comes_through_troubles(rt: HostRuntime) {
     );
 }
 
-// The calls over `SAVED`: a reservation, two parts of each of two records; a reservation, the entry; the infos; the reading;
-// the size and the bytes of both inventories.
+/// An inventory of 114 bytes.
+const SIX_PARTS: &str = "ipmi-image 2
+fru 00 000102030405060708090a0b0c0d0e0f101112131415161718191a1b1c1d1e1f202122232425262728292a2b2c2d2e2f303132333435363738393a3b3c3d3e3f
+fru 00 404142434445464748494a4b4c4d4e4f505152535455565758595a5b5c5d5e5f606162636465666768696a6b6c6d6e6f7071
+end
+";
+
+// One call in 7 is busy. There are no records and no infos, which takes 6 calls. The size is busy, and comes with call 8. Five parts
+// of 19 bytes come till call 13. The sixth part is busy, and comes with call 15.
+#[test]
+fn troubles_are_counted_for_each_part_of_an_inventory(rt: HostRuntime) {
+    let alloc = rt.alloc();
+    let moods = moods(
+        &rt,
+        alloc,
+        6,
+        "busy plain plain plain plain plain plain busy",
+    );
+    let mut ctl = Scripted::new(image(&rt, alloc, SIX_PARTS), moods);
+    assert_capture(&rt, alloc, &mut ctl, 19, 1, SIX_PARTS, "");
+    drop(ctl);
+}
+
+// The calls over `SAVED`: a reservation, two records; a reservation, the entry; the infos; the reading; the size and the bytes of
+// both inventories.
 
 #[test]
 fn what_is_refused_leaves_the_image_whole(rt: HostRuntime) {
@@ -206,7 +229,7 @@ fn what_is_refused_leaves_the_image_whole(rt: HostRuntime) {
     assert_capture_in_moods(
         &rt,
         alloc,
-        9,
+        7,
         "refuse",
         WITHOUT_READING,
         "reading 0 30: refused with code C1h\n",
@@ -214,7 +237,7 @@ fn what_is_refused_leaves_the_image_whole(rt: HostRuntime) {
     assert_capture_in_moods(
         &rt,
         alloc,
-        10,
+        8,
         "none none",
         WITHOUT_INVENTORY,
         "fru 00: size refused with code CCh\n",
@@ -225,21 +248,21 @@ fn what_is_refused_leaves_the_image_whole(rt: HostRuntime) {
 fn an_inventory_that_breaks_off_is_missed(rt: HostRuntime) {
     let alloc = rt.alloc();
     let left = "fru 00: refused with code C1h\nnot whole\n";
-    assert_capture_in_moods(&rt, alloc, 11, "refuse", WITHOUT_INVENTORY, left);
+    assert_capture_in_moods(&rt, alloc, 9, "refuse", WITHOUT_INVENTORY, left);
 }
 
 #[test]
 fn an_inventory_that_is_cut_off_is_missed(rt: HostRuntime) {
     let alloc = rt.alloc();
     let left = "fru 00: cut off\nnot whole\n";
-    assert_capture_in_moods(&rt, alloc, 11, "byte lose restore", WITHOUT_INVENTORY, left);
+    assert_capture_in_moods(&rt, alloc, 9, "byte lose restore", WITHOUT_INVENTORY, left);
 }
 
 #[test]
 fn an_inventory_that_is_gone_is_absent(rt: HostRuntime) {
     let alloc = rt.alloc();
-    assert_capture_in_moods(&rt, alloc, 11, "byte lose", WITHOUT_INVENTORY, "");
-    assert_capture_in_moods(&rt, alloc, 11, "byte lose refuse", WITHOUT_INVENTORY, "");
+    assert_capture_in_moods(&rt, alloc, 9, "byte lose", WITHOUT_INVENTORY, "");
+    assert_capture_in_moods(&rt, alloc, 9, "byte lose refuse", WITHOUT_INVENTORY, "");
 }
 
 #[test]
@@ -248,7 +271,7 @@ fn what_is_given_up_is_missed(rt: HostRuntime) {
     assert_capture_in_moods(
         &rt,
         alloc,
-        9,
+        7,
         "busy busy busy busy",
         WITHOUT_READING,
         "reading 0 30: gave up\nnot whole\n",
@@ -269,12 +292,12 @@ end
 fn after_a_record_that_is_refused_the_rest_comes(rt: HostRuntime) {
     let alloc = rt.alloc();
     let left = "sdr: record 0002h refused with code C1h\nnot whole\n";
-    assert_capture_in_moods(&rt, alloc, 3, "refuse", ENTRY_REFUSED, left);
+    assert_capture_in_moods(&rt, alloc, 2, "refuse", ENTRY_REFUSED, left);
 }
 
 #[test]
 fn a_changed_controller_is_read_as_it_is(rt: HostRuntime) {
-    assert_capture_in_moods(&rt, rt.alloc(), 3, "change", WITHOUT_READING, "");
+    assert_capture_in_moods(&rt, rt.alloc(), 2, "change", WITHOUT_READING, "");
 }
 
 const LOST: &str = "ipmi-image 2
@@ -317,7 +340,7 @@ fn a_shelf_is_begun_again_where_a_record_is_gone(rt: HostRuntime) {
 #[test]
 fn the_shelf_that_is_given_up_is_missed(rt: HostRuntime) {
     let left = "sel: gave up at 0000h\nnot whole\n";
-    assert_capture_in_moods(&rt, rt.alloc(), 5, "busy busy busy busy", WITHOUT_SEL, left);
+    assert_capture_in_moods(&rt, rt.alloc(), 3, "busy busy busy busy", WITHOUT_SEL, left);
 }
 
 /// `SAVED` without the event log.

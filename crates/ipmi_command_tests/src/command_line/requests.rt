@@ -88,13 +88,16 @@ fn format_text(rt: &impl Abort, alloc: Global, form: &Format) -> String {
     }
 }
 
-/// A request: the action, the source, the limits, the format, and whether it is strict.
+/// A request: the action, the source and the image of its records, the limits, the format, and whether it is strict.
 fn request_text(rt: &impl Abort, alloc: Global, request: &Request) -> String {
     let action = action_text(rt, alloc, &request.action);
     let source = source_text(rt, alloc, &request.source);
+    let records = request.records.as_ref().map_or("", Word::as_str);
     let form = format_text(rt, alloc, &request.format);
     let (part, tries, strict) = (request.limits.part, request.limits.tries, request.strict);
-    format!(in alloc; "{action}; {source}; {part:?} {tries}; {form}; {strict}").expect(rt, "memory")
+    format!(in alloc; "{action}; {source}{records}; {part:?} {tries}; {form}; {strict}").expect(
+        rt, "memory",
+    )
 }
 
 fn answer_text(rt: &impl Abort, alloc: Global, answer: Result<Request, UsageError<'_>>) -> String {
@@ -145,6 +148,7 @@ fru,list,--strict,--strict|Fru(None) None; images; None 5; words; true
 sdr,info,--live,ipmitool:/tmp/x|Info(Sdr) None; Ipmitool /tmp/x ; None 5; plain; false
 --live,freeipmi:x,capture,-o,file,--quiet|capture file true; FreeIpmi x ; None 5; plain; false
 --live,ipmitool:/tmp/x:fe80::1%eth0,fru|Fru(None) None; Ipmitool /tmp/x fe80::1%eth0; None 5; plain; false
+--live,ipmitool:x,--records,r.image,sensor|List(Sensors) None; Ipmitool x r.image; None 5; words; false
 image,rewrite,--image,a|rewrite; images a; None 5; plain; false
 sdr,get,-h|help Sdr; images; None 5; plain; false
 --help,--version|help General; images; None 5; plain; false
@@ -182,6 +186,8 @@ sdr,info,--from,0001|--from does not go with 'sdr info'
 capture|'capture' needs a live controller: see serdimko-live --help
 --image,a,--image,b,image,rewrite|'image rewrite' takes one image
 --label,a=1|--label goes only with --json
+--records,a,sdr|--records goes only with a live controller
+--live,ipmitool:x,--records,a,capture|--records does not go with 'capture'
 --imge,a|unexpected argument '--imge' found; a similar argument exists: '--image'
 -P,secret|unexpected argument '-P' found: for a live machine put the password in IPMI_PASSWORD, and write serdimko-live -E ... -- COMMAND
 -H,host,sdr|unexpected argument '-H' found: for a live machine write serdimko-live -H ... -- COMMAND

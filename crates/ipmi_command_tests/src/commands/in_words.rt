@@ -160,7 +160,7 @@ sel list first 2|log|
 0002 | 1987-01-05 18:48:33 | Drive Slot #0x40 | Drive Fault | Asserted
 ====
 sel list last 1|log|
-0 12
+0 8
 --
 0003 | unspecified | OEM record 0xc0 | 001357 | 010203040506
 ====
@@ -193,7 +193,7 @@ names of sensors may be missing: sensor data records have a cycle at 0001h
 0003 | unspecified | OEM record 0xc0 | 001357 | 010203040506
 ====
 sel list last 2|cycle|
-1 12
+1 8
 names of sensors may be missing: sensor data records have a cycle at 0001h
 --
 0002 | 1987-01-05 18:48:33 | Drive Slot #0x40 | Drive Fault | Asserted

@@ -109,7 +109,7 @@ const ENTRIES: &str = r#"sel list|all|
 {"object":"sel_entry","record_id":2,"record_type":192,"kind":"oem_timestamped","timestamp":null,"timestamp_raw":4294967295,"manufacturer_id":4951,"oem_data":"010203040506","raw":"0200c0ffffffff571300010203040506","host":"web 17"}
 ====
 sel list last 1|all|
-0 11
+0 8
 --
 {"object":"sel_entry","record_id":2,"record_type":192,"kind":"oem_timestamped","timestamp":null,"timestamp_raw":4294967295,"manufacturer_id":4951,"oem_data":"010203040506","raw":"0200c0ffffffff571300010203040506","host":"web 17"}
 ====

@@ -16,7 +16,7 @@ pub(crate) struct Outcome {
     pub calls: u32,
 }
 
-/// Runs the command over the controller, in this wording.
+/// Runs the command over the controller, in this wording. The last entries of the event log are kept in memory.
 pub(super) fn execute_in<'a, C: Controller, O: Sink>(
     alloc: Global,
     ctl: &mut C,
@@ -27,7 +27,7 @@ pub(super) fn execute_in<'a, C: Controller, O: Sink>(
 ) -> Result<(), Failure<'a>> {
     let limits = RequestLimits::of(command);
     match Job::of(command.task(), command.from(), wording) {
-        Some(job) => execute(alloc, ctl, limits, job, out, summary),
+        Some(job) => execute(alloc, ctl, limits, job.keeping_last(), out, summary),
         None => Err(Failure::Usage),
     }
 }

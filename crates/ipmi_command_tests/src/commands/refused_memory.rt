@@ -1,11 +1,15 @@
 //! Commands with refused requests for memory. They write only whole pieces.
 use super::answers::{AnswerOutcome, outcome_of_answer};
+use super::outcome::execute_in;
 use super::outputs::{INVENTORIES, INVENTORY, NEWEST};
 use super::saved::{image_named, with_record};
 use crate::writers::assert_written_text;
 use ipmi_bus::Shelf;
 use ipmi_command_line::{Command, Count, Task, UsageFault, Word};
+use ipmi_commands::{Summary, Wording, report};
 use ipmi_fixtures::{CPU_TEMP_BLOCK, INFO_BLOCK};
+use ipmi_image::{Image, ImageController};
+use ipmi_output::{Failure, Written};
 use std::alloc::{AllocError, Global};
 use std::process::Abort;
 
@@ -86,6 +90,35 @@ fn outcome_of(
     Ok(outcome_of_answer(alloc, &printed.command, image.as_bytes()))
 }
 
+/// The same with the last entries kept in memory.
+fn outcome_of_kept(rt: &impl Abort, alloc: Global) -> Result<AnswerOutcome, AllocError> {
+    let image = with_record(alloc, image_named(rt, "log"))?;
+    let command = Command::new(Task::SelList(Count::Last(2)), None, 32, 5, None);
+    let mut out = Written::new(Vec::new(alloc));
+    let mut err = Vec::new(alloc);
+    let ended = match Image::read(alloc, image.as_bytes()) {
+        Ok(image) => {
+            let mut ctl = ImageController::new(image);
+            let mut summary = Summary::new();
+            let ended = execute_in(
+                alloc,
+                &mut ctl,
+                &command,
+                Wording::Plain,
+                &mut out,
+                &mut summary,
+            );
+            drop(ctl);
+            ended
+        }
+        Err(fault) => Err(Failure::from(fault)),
+    };
+    let status = report(ended, &mut err);
+    drop(command);
+    let out = out.into_inner();
+    Ok(AnswerOutcome { out, err, status })
+}
+
 /// Asserts that the whole text is written.
 fn assert_text(rt: &impl Abort, outcome: &AnswerOutcome, printed: &Printed) {
     assert!(rt; outcome.status == 0, "{}: status", printed.words);
@@ -136,6 +169,9 @@ fn not_always_out_of_memory(rt: HostRuntime) {
     assert_printed_text(&rt, rt.alloc(), block(rt.alloc()));
     assert_printed_text(&rt, rt.alloc(), info());
     assert_printed_text(&rt, rt.alloc(), newest());
+    let kept = outcome_of_kept(&rt, rt.alloc()).expect(&rt, "memory");
+    assert_text(&rt, &kept, &newest());
+    drop(kept);
     assert_printed_text(&rt, rt.alloc(), inventory());
     assert_printed_text(&rt, rt.alloc(), inventories());
 }
@@ -146,6 +182,10 @@ fn memory_may_be_refused(rt: HostRuntime) {
     assert_printed_text_or_pieces(&rt, rt.alloc(), block(rt.alloc()));
     assert_printed_text_or_pieces(&rt, rt.alloc(), info());
     assert_printed_text_or_pieces(&rt, rt.alloc(), newest());
+    if let Ok(kept) = outcome_of_kept(&rt, rt.alloc()) {
+        assert_text_or_pieces(&rt, &kept, &newest());
+        drop(kept);
+    }
     assert_printed_text_or_pieces(&rt, rt.alloc(), inventory());
     assert_printed_text_or_pieces(&rt, rt.alloc(), inventories());
 }

@@ -1,6 +1,9 @@
+use Rattle.std.proofs.Common.{arith, length, ◌≡◌}
+use Rattle.std.proofs.lemmas.Grind.{common_steps}
+use Rattle.std.proofs.lemmas.List.{nil_from_length}
 use Rattle.ipmi_capture.specs.Left.{IsStateOf}
 use Rattle.ipmi_capture.proofs.CountLemmas.{is_state}
-use Rattle.ipmi_capture.proofs.ReadLemmas.{came_inventory, has_inventory, inventory_while, kept_again, left_after, left_inventory, left_inventory_while}
+use Rattle.ipmi_capture.proofs.ReadLemmas.{came_empty, came_inventory, has_inventory, inventory_while, kept_again, left_after, left_inventory, left_inventory_while}
 use Rattle.ipmi_capture.proofs.inventories.take_inventory.Goals as goal
 
 pub returns-in_ok-put_inventory-in-Ok-clause-image : goal.returns-in_ok-put_inventory-in-Ok-clause-image
@@ -34,3 +37,8 @@ pub returns-in-Err-clause-meanwhile : goal.returns-in-Err-clause-meanwhile
 returns-in-Err-clause-meanwhile g c = λ s tries given.
     let reads = rw c.in-Err.is at given in
     left_inventory_while c.args.id c.in-Err.ended _ c.left_by.result c.args.image.now c.requires.none reads (c.left_by.ensures.stays reads.stays.honest) c.left_by.ensures.left
+
+pub returns-then-is_empty-clause-honest : goal.returns-then-is_empty-clause-honest
+returns-then-is_empty-clause-honest g c = λ s tries from reads.
+    let none : length c.in-Ok.bytes.items ≡ 0 = grind (arith, common_steps) in
+    came_empty c.args.id c.in-Ok.bytes.items c.args.image.now c.requires.none (nil_from_length _ none) (rw c.in-Ok.is at reads)

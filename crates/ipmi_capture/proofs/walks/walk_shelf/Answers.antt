@@ -7,7 +7,7 @@ use Rattle.ipmi_capture.proofs.walks.walk_shelf.Goals as goal
 
 pub records-init : goal.records-init
 records-init g c =
-    walked_none c.args.shelf c.args.asking.part c.args.asking.tries _ c.in_ok-cursor.cursor c.args.image.now c.requires.some c.requires.none c.in_ok-cursor.ensures.fresh c.in_ok-cursor.ensures.stands
+    rw c.read_ahead.ensures (walked_none c.args.shelf c.args.asking.part c.args.asking.tries _ c.in_ok-cursor.cursor c.args.image.now c.requires.some c.requires.none c.in_ok-cursor.ensures.fresh c.in_ok-cursor.ensures.stands)
 
 pub returns-in-Ok-None-clause-calls : goal.returns-in-Ok-None-clause-calls
 returns-in-Ok-None-clause-calls g c = calls_on c.records.invariant c.step.follows.holds-at-none

@@ -1,4 +1,4 @@
-use Rattle.std.proofs.Common.{arith, refl}
+use Rattle.std.proofs.Common.{arith}
 use Rattle.serdimko.specs.Out.{out_of}
 use Rattle.serdimko.specs.Printing.{RunsName}
 use Rattle.serdimko.proofs.EachLemmas.{printed_all, printed_last, printed_none, printed_one}

@@ -1,4 +1,4 @@
-use Rattle.std.proofs.Common.{◌∙◌, inl, inr, refl}
+use Rattle.std.proofs.Common.{◌∙◌, inr}
 use Rattle.serdimko.proofs.images.print_named.Goals as goal
 
 pub returns : goal.returns

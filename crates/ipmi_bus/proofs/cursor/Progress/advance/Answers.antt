@@ -1,14 +1,14 @@
 use Rattle.std.proofs.Common.{◌≡◌, rules, inr, refl, sym, ◌∙◌}
-use Rattle.ipmi_bus.proofs.CursorLemmas.{look-whole_row, handed_row-whole, hands_out, is_cursor-after, place_after-not_first, room_asked}
+use Rattle.ipmi_bus.proofs.CursorLemmas.{first_asks, look-whole_row, handed_row-whole, hands_out, is_cursor-after, place_after-not_first, room_asked}
 use Rattle.ipmi_bus.proofs.WalkLemmas.{whole_step}
 use Rattle.ipmi_bus.specs.Prelude.{First}
 use Rattle.ipmi_bus.proofs.cursor.Progress.advance.Goals as goal
 
 pub returns-in-End-clause-step : goal.returns-in-End-clause-step
-returns-in-End-clause-step g c = whole_step _ _ _ _ _ (search rules) (search rules) (search rules) (search rules) (search rules) (search rules) (search rules) (search rules)
+returns-in-End-clause-step g c = whole_step _ _ _ _ _ (search rules) (search rules) (search rules) (search rules) (search rules) (search rules) (search rules) (search rules) (search rules)
 
 pub returns-in-Cycle-clause-step : goal.returns-in-Cycle-clause-step
-returns-in-Cycle-clause-step g c = rw (c.fail.ensures.answers, c.fail.ensures.leaves) (whole_step _ _ _ _ _ (search rules) (search rules) (search rules) (search rules) (search rules) (search rules) (search rules) (search rules))
+returns-in-Cycle-clause-step g c = rw (c.fail.ensures.answers, c.fail.ensures.leaves) (whole_step _ _ _ _ _ (search rules) (search rules) (search rules) (search rules) (search rules) (search rules) (search rules) (search rules) (search rules))
 
 pub returns-then-eq-clause-step : goal.returns-then-eq-clause-step
 returns-then-eq-clause-step g c =
@@ -18,7 +18,7 @@ returns-then-eq-clause-step g c =
     let zero = rw first at asks.id in
     whole_step _ _ _ _ _ (search rules)
     (asks.none, record { place = refl; ids = refl; from = λ n at. cc (first, at) })
-    (search rules) (search rules) (search rules) (search rules) (inr (room_asked _ _ _ asks c.requires.first))
+    (search rules) (search rules) (first_asks c.args.self.now c.in-Asks.id (g.C.Controller.seen c.args.ctl.now) (g.C.Controller.seen c.read.new.ctl) c.read.ensures.first) (search rules) (search rules) (inr (room_asked _ _ _ asks c.requires.first))
     (λ h.
     let read = c.in-Ok-Absent.ensures.honest h in
     let answers = rw c.in-Ok-Absent.field-0-is at read.answers in
@@ -27,7 +27,7 @@ returns-then-eq-clause-step g c =
       answers = (answers.0, rw first (rw zero at answers.1));
       keeps = λ some none. let kept = read.keeps some none in (kept.none_given, λ ok. kept.held);
       calls = λ same. rw (← asks.id) (c.in-Ok-Absent.ensures.row_calls h same);
-      plain = λ p holds. let after = read.plain p (record { held = holds.held }) in record { holds = record { held = after.0.holds.held }; part = after.0.part; fine = tt };
+      plain = λ p holds. let after = read.plain p (record { held = holds.held }) in record { holds = record { held = after.0.holds.held }; part = after.0.part; ahead = after.0.ahead; fine = tt };
     })
 
 pub returns-in-Ok-Whole-clause-step : goal.returns-in-Ok-Whole-clause-step
@@ -41,7 +41,7 @@ returns-in-Ok-Whole-clause-step g c =
     let shelf = c.read.ensures.request.shelf in
     whole_step _ _ _ _ _ (search rules)
     (asks.none, hands_out _ _ c.in-Asks.id c.read.new.self _ row asks c.requires.first out.place out.ids out.at_most out.next_fits shelf room leaves.0 leaves.1 leaves.2 (rw out.retrieval leaves.3))
-    (search rules) (search rules) (search rules) (search rules) (inr (room_asked _ _ _ asks c.requires.first))
+    (search rules) (search rules) (first_asks c.args.self.now c.in-Asks.id (g.C.Controller.seen c.args.ctl.now) (g.C.Controller.seen c.read.new.ctl) c.read.ensures.first) (search rules) (search rules) (inr (room_asked _ _ _ asks c.requires.first))
     (λ h.
     let read = c.in-Ok-Whole.ensures.honest h in
     let answers = rw c.in-Ok-Whole.field-0-is at read.answers in
@@ -53,14 +53,14 @@ returns-in-Ok-Whole-clause-step g c =
       calls = λ same. rw (← asks.id, out.retrieval) (c.in-Ok-Whole.ensures.row_calls h same);
       plain = λ p holds.
           let after = read.plain p (record { held = holds.held }) in
-          record { holds = record { held = rw out.retrieval after.0.holds.held }; part = rw out.retrieval after.0.part; fine = tt };
+          record { holds = record { held = rw out.retrieval after.0.holds.held }; part = rw out.retrieval after.0.part; ahead = rw out.retrieval after.0.ahead; fine = tt };
     })
 
 pub returns-else-eq-clause-step : goal.returns-else-eq-clause-step
-returns-else-eq-clause-step g c = rw (c.fail-in-Ok-Absent.ensures.answers, c.fail-in-Ok-Absent.ensures.leaves) (whole_step _ _ _ _ _ (search rules) (search rules) (search rules) (search rules) (search rules) (search rules) (inr (room_asked _ _ _ c.in-Asks.ensures c.requires.first)) (search rules))
+returns-else-eq-clause-step g c = rw (c.fail-in-Ok-Absent.ensures.answers, c.fail-in-Ok-Absent.ensures.leaves) (whole_step _ _ _ _ _ (search rules) (search rules) (search rules) (search rules) (first_asks c.args.self.now c.in-Asks.id (g.C.Controller.seen c.args.ctl.now) (g.C.Controller.seen c.read.new.ctl) c.read.ensures.first) (search rules) (search rules) (inr (room_asked _ _ _ c.in-Asks.ensures c.requires.first)) (search rules))
 
 pub returns-in-Err-clause-step : goal.returns-in-Err-clause-step
-returns-in-Err-clause-step g c = rw (c.fail-in-Err.ensures.answers, c.fail-in-Err.ensures.leaves) (whole_step _ _ _ _ _ (search rules) (search rules) (search rules) (search rules) (search rules) (search rules) (inr (room_asked _ _ _ c.in-Asks.ensures c.requires.first)) (search rules))
+returns-in-Err-clause-step g c = rw (c.fail-in-Err.ensures.answers, c.fail-in-Err.ensures.leaves) (whole_step _ _ _ _ _ (search rules) (search rules) (search rules) (search rules) (first_asks c.args.self.now c.in-Asks.id (g.C.Controller.seen c.args.ctl.now) (g.C.Controller.seen c.read.new.ctl) c.read.ensures.first) (search rules) (search rules) (inr (room_asked _ _ _ c.in-Asks.ensures c.requires.first)) (search rules))
 
 pub returns-in-Ok-Whole-clause-cursor : goal.returns-in-Ok-Whole-clause-cursor
 returns-in-Ok-Whole-clause-cursor g c =

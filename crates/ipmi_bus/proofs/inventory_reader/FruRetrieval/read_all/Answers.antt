@@ -17,7 +17,7 @@ pub returns-in_err-ask_part-clause-honest : goal.returns-in_err-ask_part-clause-
 returns-in_err-ask_part-clause-honest g c = λ s since.
     let out = err_from_is_err_and c.from_residual.result c.from_residual.ensures.1 in
     let same = c.parts.invariant.0 in
-    rw (out.1, out.2, ← same.id, ← same.tries) (c.in_err-ask_part.ensures.honest s (c.parts.invariant.4 s since))
+    rw (out.1, out.2, ← same.id, ← same.tries, ← same.tries_for) (c.in_err-ask_part.ensures.honest s (c.parts.invariant.4 s since))
 
 pub returns-in_err-ask_part-clause-stays : goal.returns-in_err-ask_part-clause-stays
 returns-in_err-ask_part-clause-stays g c = λ h.

@@ -1,4 +1,5 @@
-use Rattle.ipmi_bus.proofs.PartLemmas.{open_requested, part_within, honest_part, part_failed}
+use Rattle.std.proofs.Common.{arith}
+use Rattle.ipmi_bus.proofs.PartLemmas.{open_requested, reaches_within, honest_part, part_failed}
 use Rattle.ipmi_bus.proofs.retrieval.Retrieval.ask_part.Goals as goal
 
 pub returns-in-Ok-clause-honest : goal.returns-in-Ok-clause-honest
@@ -17,5 +18,6 @@ take_part-requires-clause-is_open g c = rw c.request.ensures.buffer (open_reques
 
 pub take_part-requires-clause-fits : goal.take_part-requires-clause-fits
 take_part-requires-clause-fits g c =
-    let asked = rw c.wanted.ensures at c.asked_len-asked.ensures in
-    rw c.request.ensures.buffer (part_within c.args.self.now _ _ _ c.requires.is_open c.request.ensures.front asked c.in-Ok.ensures.got)
+    let asked = rw c.asked_to.ensures at c.asked_len-asked.ensures in
+    let within = reaches_within c.args.self.now c.requires.is_open in
+    rw c.request.ensures.buffer (omega (arith, asked, within, c.in-Ok.ensures.got))

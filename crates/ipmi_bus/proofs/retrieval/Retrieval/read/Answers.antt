@@ -1,7 +1,7 @@
 use Rattle.std.proofs.Common.{◌≡◌, Ok, rules}
 use Rattle.std.proofs.lemmas.Result.{err_from_is_err_and}
 use Rattle.ipmi_bus.specs.Prelude.{Retrieval, Found, Over, Whole, Absent, CallLeaves}
-use Rattle.ipmi_bus.proofs.SinceLemmas.{since_more, fewer_left, call_bound, row_bound}
+use Rattle.ipmi_bus.proofs.SinceLemmas.{since_more, fewer_left, call_bound, row_bound, first_request}
 use Rattle.ipmi_bus.proofs.retrieval.Retrieval.read.Goals as goal
 
 pub reading-preserved : goal.reading-preserved
@@ -21,6 +21,10 @@ returns-in-Over-clause-calls g c =
     let same = same_part c.reading.self c.make_call.new.self c.in-Over.found (rw c.in-Over.is at c.in_ok-make_call.ensures.leaves) in
     call_bound c.args.self.now c.args.id c.reading.self c.make_call.new.self (g.C.Controller.seen c.args.ctl.now) (g.C.Controller.seen c.reading.ctl) (g.C.Controller.seen c.make_call.new.ctl) c.reading.invariant c.make_call.ensures.counted same
 
+pub returns-in-Over-clause-first : goal.returns-in-Over-clause-first
+returns-in-Over-clause-first g c =
+    first_request c.args.self.now c.args.id c.reading.self c.make_call.new.self (g.C.Controller.seen c.args.ctl.now) (g.C.Controller.seen c.reading.ctl) (g.C.Controller.seen c.make_call.new.ctl) c.reading.invariant c.make_call.ensures.counted c.make_call.ensures.last
+
 pub returns-in-Over-clause-row_calls : goal.returns-in-Over-clause-row_calls
 returns-in-Over-clause-row_calls g c =
     let call = c.make_call.ensures in
@@ -35,6 +39,10 @@ returns-in-Over-clause-honest g c = λ h.
 pub returns-in_err-make_call-clause-calls : goal.returns-in_err-make_call-clause-calls
 returns-in_err-make_call-clause-calls g c =
     call_bound c.args.self.now c.args.id c.reading.self c.make_call.new.self (g.C.Controller.seen c.args.ctl.now) (g.C.Controller.seen c.reading.ctl) (g.C.Controller.seen c.make_call.new.ctl) c.reading.invariant c.make_call.ensures.counted c.in_err-make_call.ensures.leaves.0
+
+pub returns-in_err-make_call-clause-first : goal.returns-in_err-make_call-clause-first
+returns-in_err-make_call-clause-first g c =
+    first_request c.args.self.now c.args.id c.reading.self c.make_call.new.self (g.C.Controller.seen c.args.ctl.now) (g.C.Controller.seen c.reading.ctl) (g.C.Controller.seen c.make_call.new.ctl) c.reading.invariant c.make_call.ensures.counted c.make_call.ensures.last
 
 pub returns-in_err-make_call-clause-row_calls : goal.returns-in_err-make_call-clause-row_calls
 returns-in_err-make_call-clause-row_calls g c =

@@ -1,4 +1,0 @@
-use Rattle.serdimko.proofs.images.print_input.Goals as goal
-
-pub returns-in-Ok : goal.returns-in-Ok
-returns-in-Ok g c = rw c.in-Ok.is (rw c.as_slice.ensures.value at c.print_bytes.ensures)
