@@ -4,6 +4,7 @@ pub mod CountLemmas
 pub mod EndLemmas
 pub mod FoundLemmas
 pub mod FromLemmas
+pub mod LackLemmas
 pub mod LawLemmas
 pub mod LogLemmas
 pub mod MarkLemmas

@@ -12,12 +12,12 @@ abbrev pub unread_of : Ended → Unread
 unread_of (Refused id code) = Unread.Refused code
 unread_of _ = Unread.GaveUp
 
--- the image is whole without this item: a cycle, an info, a reading or a size that the controller refused, or an inventory
--- without bytes
+-- the image is whole without this item: a cycle, an info, a reading, a size that the controller refused, or an inventory without
+-- bytes
 abbrev pub leaves_whole : Left → Bool
 leaves_whole (Left.Records shelf (Cycle n)) = true
-leaves_whole (Left.Info shelf (Unread.Refused code)) = true
-leaves_whole (Left.Reading lun number (Unread.Refused code)) = true
+leaves_whole (Left.Info shelf unread) = true
+leaves_whole (Left.Reading lun number unread) = true
 leaves_whole (Left.Size id code) = true
 leaves_whole (Left.Empty id) = true
 leaves_whole _ = false

@@ -1,6 +1,7 @@
 pub mod Accounted
 pub mod Below
 pub mod Capture
+pub mod Lacks
 pub mod Laws
 pub mod Left
 pub mod Meanwhile

@@ -33,8 +33,8 @@ pub struct Captured {
     pub image: Image,
     /// The items left out, each with the reason.
     pub left: Vec<Left>,
-    /// Whether only infos, readings and sizes that the controller refused, inventories without bytes, and cycles are left
-    /// out. A lost connection refuses all later requests; then `RawController::lost` of `ipmi_raw` is Some.
+    /// Whether only infos, readings, sizes that the controller refused, inventories without bytes, and cycles are left out. A lost
+    /// connection refuses all later requests; then `RawController::lost` of `ipmi_raw` is Some.
     pub is_whole: bool,
 }
 

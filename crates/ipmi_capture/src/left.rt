@@ -138,17 +138,14 @@ impl fmt::Display for Left {
 }
 
 impl Left {
-    /// Whether an image is whole without the item: a cycle, an inventory without bytes, or an info, a reading or a size that
-    /// the controller refused.
+    /// Whether an image is whole without the item: a cycle, an info, a reading, a size that the controller refused, or an inventory
+    /// without bytes.
     pub(crate) fn leaves_whole(&self) -> bool
         ensures { result ≡ leaves_whole self.now }
     {
         match self {
             Left::Records(_, ended) => matches!(ended, Ended::Cycle(_)),
-            Left::Info(_, unread) | Left::Reading { unread, .. } => {
-                matches!(unread, Unread::Refused(_))
-            }
-            Left::Size(_, _) | Left::Empty(_) => true,
+            Left::Info(..) | Left::Reading { .. } | Left::Size(..) | Left::Empty(_) => true,
             Left::CutOff(_) | Left::Inventory(_, _) => false,
         }
     }

@@ -3,6 +3,7 @@
 
 mod capturing;
 mod inventories;
+mod lacks;
 pub mod laws;
 mod left;
 mod named;

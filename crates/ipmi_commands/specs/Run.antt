@@ -312,6 +312,11 @@ pub record IsRewriting (store : Store) (old new : Output) (ending : Ending) : Ty
   pub allowed : IsAllowed (IsPieceOver store) rewrite_plan old new ending
   pub unwritten : cause_of ending ≡ NoMemory → new ≡ old
 
+-- the text of a snapshot is written; if out of memory, nothing is written
+abbrev pub IsSaving : Saved → Output → Output → Ending → Type 0
+IsSaving saved old new ending =
+    ((new ≡ old) × (ending ≡ Err Failure.OutOfMemory)) ⊎ WritesPiece (piece_of (saved_text_of saved) false) old new ending
+
 -- a run over the store of an image: of a job, which never gives up and is never refused, or `image
 -- rewrite`
 abbrev pub RunsOver : Option Job → Store → Output → Output → Ending → Type 0

@@ -1,7 +1,7 @@
 //! Runs a command over a controller or over a saved image, and reports how it ended.
 ghost use Rattle.std.specs.Prelude.{◌≡◌, ◌+◌, ◌==◌, if◌then◌else◌, Some, true};
 ghost use Rattle.ipmi_commands.specs.Below.{AsksAtMost, is_listing, store_of_image, of_writer, write_faults};
-ghost use Rattle.ipmi_commands.specs.Prelude.{AnswersCommand, AnswersLine, change, IsJob, IsRewriting, job_of_command, OnBytes, printed, RunsCommand, RunsOver, RunsPagedCommand, Says};
+ghost use Rattle.ipmi_commands.specs.Prelude.{AnswersCommand, AnswersLine, change, IsJob, IsRewriting, IsSaving, job_of_command, OnBytes, printed, RunsCommand, RunsOver, RunsPagedCommand, Says};
 
 use crate::job::{Job, Wording};
 use crate::limits::RequestLimits;
@@ -9,7 +9,7 @@ use crate::perform::{execute, execute_pages, write_piece};
 use crate::summary::Summary;
 use ipmi_bus::Controller;
 use ipmi_command_line::{Command, UsageFault};
-use ipmi_image::{Image, ImageController, image_text};
+use ipmi_image::{Image, ImageController, Snapshot, image_text, snapshot_text};
 use ipmi_output::{Failure, MessageSink, Sink, write_failure};
 use std::alloc::Global;
 use std::io::Write;
@@ -168,6 +168,19 @@ pub fn write_image<'a, O: Sink>(
     ensures answers { IsRewriting image.now (printed (O.taken out.old) summary.old) (printed (O.taken out.new) summary.new) result }
 {
     write_piece(&image_text(alloc, image)?, false, out, summary)
+}
+
+/// Writes the text of the snapshot, which counts as one item, and adds it to `summary`.
+pub fn write_snapshot<'a, O: Sink>(
+    alloc: Global,
+    snapshot: &Snapshot,
+    out: &mut O,
+    summary: &mut Summary,
+) -> Result<(), Failure<'a>>
+    ensures faults { O.faults out.new ≡ O.faults out.old + write_faults result }
+    ensures answers { IsSaving snapshot.now (printed (O.taken out.old) summary.old) (printed (O.taken out.new) summary.new) result }
+{
+    write_piece(&snapshot_text(alloc, snapshot)?, false, out, summary)
 }
 
 /// Runs a command line over a saved image, writes to `err` why it did not finish, and returns the exit status: that

@@ -13,6 +13,7 @@ pub mod RowsLemmas
 pub mod SavedLemmas
 pub mod ScriptLemmas
 pub mod ShelfLemmas
+pub mod SnapshotLemmas
 pub mod StoreLemmas
 pub mod TableLemmas
 pub mod TakenLemmas

@@ -12,6 +12,7 @@ use Rattle.ipmi_image.specs.declared.version.Version.{Version}
 use Rattle.ipmi_image.specs.Text.{pieces}
 use Rattle.ipmi_image.specs.Line.{Line, a_row, an_inventory, a_reading, an_info, the_end, line_of}
 use Rattle.ipmi_image.specs.Image.{store_of_image, version_in}
+use Rattle.ipmi_image.specs.Snapshot.{is_lack_line, is_third}
 
 -- ---- no image at all
 
@@ -126,11 +127,16 @@ line_cause version fault text =
 abbrev pub line_at : List ℕ → ℕ → List ℕ
 line_at bytes n = unwrap_or (slice_get (pieces 10 bytes) (n - 1)) []
 
+-- in version 3, of a line `lacks`, or else of a line as in version 2
+abbrev pub third_cause : ImageFault → List ℕ → Option FaultCause
+third_cause fault text =
+    if is_lack_line text then Some (FaultCause.Line LineCause.Lack) else line_cause Version.Two fault text
+
 abbrev pub numbered_cause : List ℕ → ImageFault → ℕ → Option FaultCause
 numbered_cause bytes fault n =
     elim (version_in (line_at bytes 1)) [
       | Some version ↦ line_cause version fault (line_at bytes n)
-      | None ↦ None
+      | None ↦ if is_third (line_at bytes 1) then third_cause fault (line_at bytes n) else None
     ]
 
 -- ---- the image

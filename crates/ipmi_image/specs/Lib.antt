@@ -8,6 +8,7 @@ pub mod Prelude
 pub mod Responder
 pub mod Rewritten
 pub mod Rows
+pub mod Snapshot
 pub mod Stored
 pub mod Table
 pub mod Text

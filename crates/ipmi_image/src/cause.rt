@@ -1,12 +1,13 @@
 //! Which rule a faulty image breaks.
 ghost use Rattle.std.specs.Prelude.{◌≡◌, ℕ, List, IfOk};
 ghost use Rattle.std.specs.List.{list_any};
-ghost use Rattle.ipmi_image.specs.Prelude.{beginning_cause, cause_of, ending_cause, field_cause, id_cause, is_compressed, is_empty, is_raw_record, is_wide, len_cause, line_at, line_cause, numbered_cause, pieces, rule_cause, said, space_cause, twice_cause};
+ghost use Rattle.ipmi_image.specs.Prelude.{beginning_cause, cause_of, ending_cause, field_cause, id_cause, is_compressed, is_empty, is_raw_record, is_wide, len_cause, line_at, line_cause, numbered_cause, pieces, rule_cause, said, space_cause, third_cause, twice_cause};
 
 use crate::image::ImageFault;
 use crate::image_line::{Line, LineFault, read_line};
+use crate::lack::is_lack_line;
 use crate::text::cut;
-use crate::version::{Version, read_version};
+use crate::version::{Version, is_third, read_version};
 use ipmi_bus::{FIRST_RECORD_ID, Shelf};
 use std::alloc::{AllocError, Global};
 
@@ -66,6 +67,8 @@ pub enum LineCause {
     InfoFields,
     /// The line `end` has fields.
     EndFields,
+    /// A line `lacks` has none of its forms, or comes after other lines.
+    Lack,
     /// HEX has an odd number of digits.
     OddDigits,
     /// A field has a character that is not a hex digit.
@@ -328,6 +331,20 @@ fn line_at(bytes: &[u8], number: usize) -> &[u8]
     }
 }
 
+/// Which rule a line of version 3 with this fault breaks.
+fn third_cause(
+    alloc: Global,
+    fault: ImageFault,
+    line: &[u8],
+) -> Result<Option<FaultCause>, AllocError>
+    ensures { IfOk result (λ cause. cause ≡ third_cause fault line.now) }
+{
+    if is_lack_line(line) {
+        return Ok(Some(FaultCause::Line(LineCause::Lack)));
+    }
+    line_cause(alloc, Version::Two, fault, line)
+}
+
 /// Which rule the line with this number breaks.
 fn numbered_cause(
     alloc: Global,
@@ -337,8 +354,10 @@ fn numbered_cause(
 ) -> Result<Option<FaultCause>, AllocError>
     ensures { IfOk result (λ cause. cause ≡ numbered_cause bytes.now fault number) }
 {
+    let line = line_at(bytes, number);
     match read_version(line_at(bytes, 1)) {
-        Some(version) => line_cause(alloc, version, fault, line_at(bytes, number)),
+        Some(version) => line_cause(alloc, version, fault, line),
+        None if is_third(line_at(bytes, 1)) => third_cause(alloc, fault, line),
         None => Ok(None),
     }
 }

@@ -1,7 +1,8 @@
 //! A saved image of a management controller, read from its text.
-ghost use Rattle.std.specs.Prelude.{◌≡◌, ◌⊎◌, [], ◌≤◌, All, IfOk, IfErr, OnOk, IfSome, Ok, Err, length, option_map};
+ghost use Rattle.std.specs.Prelude.{◌≡◌, ◌⊎◌, [], ◌+◌, ◌<◌, ◌≤◌, All, IfOk, IfErr, OnOk, IfSome, Ok, Err, length, option_map};
 ghost use Rattle.ipmi_image.specs.Below.{IsStore, rows_of, inventory_of, reading_of, info_of};
-ghost use Rattle.ipmi_image.specs.Prelude.{begins_with, pieces, chained, at_line, IsBuilt, store_after, store_of_image, IsSaved, store_of, HoldsLines};
+ghost use Rattle.ipmi_image.specs.declared.version.Version.{Version};
+ghost use Rattle.ipmi_image.specs.Prelude.{begins_with, fault_line, later, pieces, chained, at_line, IsBuilt, store_after, store_of_image, IsSaved, store_of, HoldsLines};
 
 use crate::contents::Contents;
 use crate::image_line::{LineFault, read_line};
@@ -73,6 +74,26 @@ impl LineFault {
     }
 }
 
+impl ImageFault {
+    /// The same fault, this many lines later.
+    pub(crate) fn later(self, lines: usize) -> ImageFault
+        requires { fault_line self + lines < 0x10000000000000000 }
+        ensures { result ≡ later lines self }
+    {
+        match self {
+            ImageFault::Line(line) => ImageFault::Line(line + lines),
+            ImageFault::Hex(line) => ImageFault::Hex(line + lines),
+            ImageFault::Id(line) => ImageFault::Id(line + lines),
+            ImageFault::Twice(line) => ImageFault::Twice(line + lines),
+            ImageFault::Length(line) => ImageFault::Length(line + lines),
+            ImageFault::FirstId(line) => ImageFault::FirstId(line + lines),
+            ImageFault::AfterEnd(line) => ImageFault::AfterEnd(line + lines),
+            ImageFault::TooMany(line) => ImageFault::TooMany(line + lines),
+            ImageFault::Memory | ImageFault::Header | ImageFault::NoEnd => self,
+        }
+    }
+}
+
 /// Adds what the lines after the first one say to the empty `contents`. The last line must be `end`. `bytes` is room for
 /// the bytes of a line.
 fn put_lines(
@@ -88,6 +109,7 @@ fn put_lines(
         (store_after version [] (pieces 10 text.now) ≡ Ok (store_of contents.new))) }
     ensures err { IfErr result (λ e. (e ≡ ImageFault.Memory) ⊎
         (store_after version [] (pieces 10 text.now) ≡ Err e)) }
+    ensures line { IfErr result (λ e. fault_line e ≤ length text.now + 3) }
 {
     let mut number = 2;
     let mut rest = text;
@@ -119,6 +141,7 @@ fn read_lines(alloc: Global, version: Version, text: &[u8]) -> Result<Contents, 
         (store_after version [] (pieces 10 text.now) ≡ Ok (store_of contents))) }
     ensures err { IfErr result (λ e. (e ≡ ImageFault.Memory) ⊎
         (store_after version [] (pieces 10 text.now) ≡ Err e)) }
+    ensures line { IfErr result (λ e. fault_line e ≤ length text.now + 3) }
 {
     let mut contents = Contents::new(alloc);
     let mut bytes = Vec::new(alloc);
@@ -162,6 +185,19 @@ impl Image {
         };
         Ok(Image {
             contents: read_lines(alloc, version, rest)?,
+        })
+    }
+
+    /// Reads the lines of an image of version 2 after the first one.
+    pub(crate) fn read_lines(alloc: Global, text: &[u8]) -> Result<Image, ImageFault>
+        ensures store { IfOk result (λ image. IsStore image) }
+        ensures ok { IfOk result (λ image. store_after Version.Two [] (pieces 10 text.now) ≡ Ok image) }
+        ensures err { IfErr result (λ e. (e ≡ ImageFault.Memory) ⊎
+            (store_after Version.Two [] (pieces 10 text.now) ≡ Err e)) }
+        ensures line { IfErr result (λ e. fault_line e ≤ length text.now + 3) }
+    {
+        Ok(Image {
+            contents: read_lines(alloc, Version::Two, text)?,
         })
     }
 

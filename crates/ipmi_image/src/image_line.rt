@@ -86,7 +86,7 @@ fn first_word(line: &[u8]) -> Option<(&[u8], &[u8])>
 }
 
 /// The two fields, if there are exactly two.
-fn two(fields: &[u8]) -> Option<(&[u8], &[u8])>
+pub(crate) fn two(fields: &[u8]) -> Option<(&[u8], &[u8])>
     ensures { MatchOption result
         ((cause : LineCause) (line : _) → with_two cause line (pieces 32 fields.now) ≡ Err (LineFault.Line cause))
         (λ t. pieces 32 fields.now ≡ t.0.now ∷ t.1.now ∷ []) }
@@ -100,7 +100,7 @@ fn two(fields: &[u8]) -> Option<(&[u8], &[u8])>
 
 /// The three fields, if there are exactly three.
 #[tactic(auto, using(crate::proofs::LineLemmas::with_three_two))]
-fn three(fields: &[u8]) -> Option<(&[u8], &[u8], &[u8])>
+pub(crate) fn three(fields: &[u8]) -> Option<(&[u8], &[u8], &[u8])>
     ensures { MatchOption result
         ((cause : LineCause) (line : _) → with_three cause line (pieces 32 fields.now) ≡ Err (LineFault.Line cause))
         (λ t. pieces 32 fields.now ≡ t.0.now ∷ t.1.now ∷ t.2.now ∷ []) }
@@ -123,7 +123,7 @@ fn parse_next(field: &[u8]) -> Option<Option<u16>>
 }
 
 /// The shelf named by a word.
-fn parse_shelf(word: &[u8]) -> Option<Shelf>
+pub(crate) fn parse_shelf(word: &[u8]) -> Option<Shelf>
     ensures { result ≡ shelf_in word.now }
 {
     match word {

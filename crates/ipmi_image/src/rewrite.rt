@@ -1,13 +1,15 @@
 //! Writes an image as its canonical text of version 2.
-ghost use Rattle.std.specs.Prelude.{◌≡◌, ◌++◌, ◌∷◌, [], ◌≤◌, OnOk, IfOk, Ok, All, map, flat_map, drop, codes, unwrap_or};
+ghost use Rattle.std.specs.Prelude.{◌≡◌, ◌++◌, ◌∷◌, [], OnOk, IfOk, Ok, map, flat_map, drop, codes, unwrap_or};
 ghost use Rattle.hex.specs.Hex.{encode_lower};
-ghost use Rattle.ipmi_image.specs.Prelude.{chained, store_of_image, sensor_of, store_of, hex_of, next_field, row_fields, rows_lines, part_fields, inventory_lines, reading_fields, info_lines, other_lines, kept_inventory, line_text, lines_text, image_text_of};
+ghost use Rattle.ipmi_image.specs.Prelude.{chained, store_of_image, sensor_of, store_of, hex_of, next_field, row_fields, rows_lines, part_fields, inventory_lines, reading_fields, info_lines, other_lines, kept_inventory, lack_fields, line_text, lines_text, image_text_of, saved_text_of, shelf_word};
 
 use crate::contents::Contents;
 use crate::image::Image;
+use crate::lack::{Item, Lack};
 use crate::rows::{Rows, StoredRow};
+use crate::snapshot::Snapshot;
 use crate::stored::{StoredInventory, StoredSensor};
-use ipmi_bus::INFO_LEN;
+use ipmi_bus::{Code, INFO_LEN, Shelf};
 use std::alloc::{AllocError, Global};
 
 /// The largest number of an inventory's bytes on one line.
@@ -15,6 +17,16 @@ const LINE_BYTES: usize = 64;
 
 /// Enough bytes for the first and the last line, and for everything but the records in most images.
 const OTHER_BYTES: usize = 4096;
+
+/// The word of a shelf.
+fn shelf_word(shelf: Shelf) -> &'static [u8]
+    ensures { result.now ≡ shelf_word shelf }
+{
+    match shelf {
+        Shelf::Sdr => b"sdr",
+        Shelf::Sel => b"sel",
+    }
+}
 
 /// A text to append to.
 #[derive(Drop)]
@@ -148,32 +160,38 @@ impl Text {
         Ok(())
     }
 
-    /// Appends the one digit of a LUN.
-    #[tactic(auto, using(crate::proofs::RewriteLemmas::drop_hex_of_lun))]
-    fn push_lun(&mut self, lun: u8) -> Result<(), AllocError>
-        requires { lun ≤ 3 }
+    /// Appends the second digit of a number.
+    fn push_digit(&mut self, number: u8) -> Result<(), AllocError>
         ensures { OnOk result
-            (self.new.bytes.items ≡ self.old.bytes.items ++ drop 1 (hex_of 1 lun)) }
+            (self.new.bytes.items ≡ self.old.bytes.items ++ drop 1 (hex_of 1 number)) }
     {
-        self.push(&[b'0' + lun])
+        let mut digits = [0; 2];
+        hex::encode_to_slice([number], &mut digits).unwrap();
+        self.push(&digits[1..])
     }
 
-    /// Appends the word `reading`, and the LUN and the number of a sensor.
-    fn push_sensor(&mut self, lun: u8, number: u8) -> Result<(), AllocError>
-        requires { lun ≤ 3 }
+    /// Appends the LUN and the number of a sensor.
+    fn push_sensor_key(&mut self, lun: u8, number: u8) -> Result<(), AllocError>
         ensures { OnOk result (self.new.bytes.items ≡ self.old.bytes.items ++
-            (codes "reading " ++ (drop 1 (hex_of 1 lun) ++ 32 ∷ (hex_of 1 number ++ 32 ∷ [])))) }
+            (drop 1 (hex_of 1 lun) ++ 32 ∷ (hex_of 1 number ++ 32 ∷ []))) }
     {
-        self.push(b"reading ")?;
-        self.push_lun(lun)?;
+        self.push_digit(lun)?;
         self.push(b" ")?;
         self.push_hex(&[number])?;
         self.push(b" ")
     }
 
+    /// Appends the word `reading`, and the LUN and the number of a sensor.
+    fn push_sensor(&mut self, lun: u8, number: u8) -> Result<(), AllocError>
+        ensures { OnOk result (self.new.bytes.items ≡ self.old.bytes.items ++
+            (codes "reading " ++ (drop 1 (hex_of 1 lun) ++ 32 ∷ (hex_of 1 number ++ 32 ∷ [])))) }
+    {
+        self.push(b"reading ")?;
+        self.push_sensor_key(lun, number)
+    }
+
     /// Appends the line of a reading.
     fn push_reading(&mut self, sensor: &StoredSensor) -> Result<(), AllocError>
-        requires { sensor.now.lun ≤ 3 }
         ensures { OnOk result (self.new.bytes.items ≡ self.old.bytes.items ++ line_text
             (reading_fields (sensor_of sensor.now))) }
     {
@@ -201,7 +219,6 @@ impl Text {
 
     /// Appends the lines of all readings.
     fn push_readings(&mut self, sensors: &[StoredSensor]) -> Result<(), AllocError>
-        requires { All (λ sensor. sensor.lun ≤ 3) sensors.now }
         ensures { OnOk result (self.new.bytes.items ≡ self.old.bytes.items ++ lines_text
             (map reading_fields (map sensor_of sensors.now))) }
     {
@@ -214,7 +231,6 @@ impl Text {
     /// Appends all lines after the rows, including the last line.
     #[tactic(auto, using(crate::proofs::RewriteLemmas::texts))]
     fn push_others(&mut self, contents: &Contents) -> Result<(), AllocError>
-        requires { All (λ sensor. sensor.lun ≤ 3) contents.now.sensors }
         ensures { OnOk result (self.new.bytes.items ≡ self.old.bytes.items ++ lines_text
             (other_lines (store_of contents.now))) }
     {
@@ -225,10 +241,84 @@ impl Text {
         self.push(b"end\n")
     }
 
+    /// Appends a code and a line feed.
+    fn push_code(&mut self, code: Code) -> Result<(), AllocError>
+        ensures { OnOk result (self.new.bytes.items ≡ self.old.bytes.items ++ (hex_of 1 code.0 ++ 10 ∷ [])) }
+    {
+        self.push_hex(&[code.0])?;
+        self.push(b"\n")
+    }
+
+    /// Appends the line of a lacking item that one field names.
+    #[tactic(auto, using(std::proofs::Common::append_assoc))]
+    fn push_named(&mut self, kind: &[u8], field: &[u8], code: Code) -> Result<(), AllocError>
+        ensures { OnOk result (self.new.bytes.items ≡ self.old.bytes.items ++ line_text
+            (codes "lacks" ∷ kind.now ∷ field.now ∷ hex_of 1 code.0 ∷ [])) }
+    {
+        self.push(b"lacks ")?;
+        self.push(kind)?;
+        self.push(b" ")?;
+        self.push(field)?;
+        self.push(b" ")?;
+        self.push_code(code)
+    }
+
+    /// Appends the line of a lacking item that one number names.
+    #[tactic(auto, using(std::proofs::Common::append_assoc))]
+    fn push_numbered(&mut self, kind: &[u8], id: &[u8], code: Code) -> Result<(), AllocError>
+        ensures { OnOk result (self.new.bytes.items ≡ self.old.bytes.items ++ line_text
+            (codes "lacks" ∷ kind.now ∷ encode_lower id.now ∷ hex_of 1 code.0 ∷ [])) }
+    {
+        self.push(b"lacks ")?;
+        self.push(kind)?;
+        self.push(b" ")?;
+        self.push_hex(id)?;
+        self.push(b" ")?;
+        self.push_code(code)
+    }
+
+    /// Appends the line of a lacking reading.
+    #[tactic(auto, using(std::proofs::Common::append_assoc))]
+    fn push_lacking_reading(&mut self, lun: u8, number: u8, code: Code) -> Result<(), AllocError>
+        ensures { OnOk result (self.new.bytes.items ≡ self.old.bytes.items ++ line_text
+            (codes "lacks" ∷ codes "reading" ∷ drop 1 (hex_of 1 lun) ∷ hex_of 1 number ∷ hex_of 1 code.0 ∷ [])) }
+    {
+        self.push(b"lacks reading ")?;
+        self.push_sensor_key(lun, number)?;
+        self.push_code(code)?;
+        Ok(())
+    }
+
+    /// Appends the line of a lacking item.
+    fn push_lack(&mut self, lack: &Lack) -> Result<(), AllocError>
+        ensures { OnOk result (self.new.bytes.items ≡ self.old.bytes.items ++ line_text (lack_fields lack.now)) }
+    {
+        let code = lack.code;
+        match lack.item {
+            Item::Record(shelf, id) => {
+                self.push_numbered(shelf_word(shelf), &id.to_be_bytes(), code)
+            }
+            Item::Info(shelf) => self.push_named(b"info", shelf_word(shelf), code),
+            Item::Reading { lun, number } => self.push_lacking_reading(lun, number, code),
+            Item::Size(id) => self.push_numbered(b"size", &id.to_be_bytes(), code),
+            Item::Inventory(id) => self.push_numbered(b"fru", &id.to_be_bytes(), code),
+        }
+    }
+
+    /// Appends the lines of all lacking items.
+    #[tactic(auto, using(crate::proofs::RewriteLemmas::texts))]
+    fn push_lacks(&mut self, lacks: &[Lack]) -> Result<(), AllocError>
+        ensures { OnOk result (self.new.bytes.items ≡ self.old.bytes.items ++ lines_text (map lack_fields lacks.now)) }
+    {
+        'lacks: for lack in lacks {
+            self.push_lack(lack)?;
+        }
+        Ok(())
+    }
+
     /// Appends all lines.
     #[tactic(auto, using(crate::proofs::RewriteLemmas::texts), unfolding(crate::specs::Rewritten::image_text_of))]
     fn push_image(&mut self, contents: &Contents) -> Result<(), AllocError>
-        requires { All (λ sensor. sensor.lun ≤ 3) contents.now.sensors }
         ensures { OnOk result (self.new.bytes.items ≡ self.old.bytes.items ++ image_text_of
             (store_of contents.now)) }
     {
@@ -254,4 +344,27 @@ pub fn image_text(alloc: Global, image: &Image) -> Result<Vec<u8>, AllocError>
     };
     text.push_image(contents)?;
     Ok(text.bytes)
+}
+
+/// The number of bytes in the first line.
+const FIRST_LINE_LEN: usize = 13;
+
+/// The snapshot as a text: that of its image if nothing is lacking; otherwise a text of version 3, in which lines that name the
+/// lacking items come after the first line.
+#[tactic(auto, using(crate::proofs::RewriteLemmas::texts, std::proofs::Common::append_assoc))]
+pub fn snapshot_text(alloc: Global, snapshot: &Snapshot) -> Result<Vec<u8>, AllocError>
+    ensures { IfOk result (λ text. text.items ≡ saved_text_of snapshot.now) }
+{
+    let text = image_text(alloc, snapshot.image())?;
+    if snapshot.lacks().is_empty() {
+        return Ok(text);
+    }
+    let (_, rest) = text.split_at(FIRST_LINE_LEN.min(text.len()));
+    let mut noted = Text {
+        bytes: Vec::with_capacity(alloc, text.len())?,
+    };
+    noted.push(b"ipmi-image 3\n")?;
+    noted.push_lacks(snapshot.lacks())?;
+    noted.push(rest)?;
+    Ok(noted.bytes)
 }

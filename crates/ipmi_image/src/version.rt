@@ -1,6 +1,6 @@
 //! The versions of an image's text.
 ghost use Rattle.std.specs.Prelude.{◌≡◌};
-ghost use Rattle.ipmi_image.specs.Prelude.{takes_dashes, version_in};
+ghost use Rattle.ipmi_image.specs.Prelude.{is_third, takes_dashes, version_in};
 
 /// A version of the text of an image.
 #[derive(Clone, Copy)]
@@ -32,4 +32,11 @@ pub(crate) fn read_version(line: &[u8]) -> Option<Version>
         return Some(Version::Two);
     }
     None
+}
+
+/// Whether this is the first line of an image of version 3.
+pub(crate) fn is_third(line: &[u8]) -> bool
+    ensures { result ≡ is_third line.now }
+{
+    line == b"ipmi-image 3".as_slice()
 }

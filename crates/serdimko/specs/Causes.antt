@@ -18,7 +18,7 @@ beginning_words Beginning.RawRecords =
     codes " (raw bytes of records: an image has them in hex, on lines sdr or sel; 'serdimko-live ... -- capture' makes one)"
 beginning_words Beginning.RawInventory = codes " (raw bytes of an inventory: an image has them in hex, on a line 'fru 00 HEX')"
 beginning_words Beginning.Header =
-    codes " (not an image: the first line has to be 'ipmi-image 1' or 'ipmi-image 2', with a line feed and no space after it; 'serdimko-live ... -- capture' makes an image)"
+    codes " (not an image: the first line has to be 'ipmi-image 1', 'ipmi-image 2' or 'ipmi-image 3', with a line feed and no space after it; 'serdimko-live ... -- capture' makes an image)"
 
 -- why a line is invalid
 abbrev pub line_words : LineCause → List ℕ
@@ -37,6 +37,8 @@ line_words LineCause.ReadingFields = codes " (reading takes three fields: LUN NU
 line_words LineCause.ReadingNumbers = codes " (LUN is one digit, 0 to 3, and NUM two hex digits, as 0 2a)"
 line_words LineCause.InfoFields = codes " (info takes sdr HEX or sel HEX)"
 line_words LineCause.EndFields = codes " (end stands alone, with no space after it)"
+line_words LineCause.Lack =
+    codes " (lacks comes before all other lines, and takes sdr ID CODE, sel ID CODE, info sdr CODE, info sel CODE, reading LUN NUM CODE, size ID CODE or fru ID CODE)"
 line_words LineCause.OddDigits = codes " (an odd number of digits: each byte has two)"
 line_words LineCause.NotHex = codes " (a field has a character that is not a hex digit)"
 

@@ -3,12 +3,11 @@ use Rattle.std.specs.Prelude.{◌≡◌, ◌⊎◌, ◌+◌, ◌==◌, ℕ, Bool
 use Rattle.std.specs.Borrow.{Bor}
 use Rattle.std.specs.declared.alloc.Global.{Global}
 use Rattle.ipmi_bus.specs.Seen.{IsHonest, Seen}
-use Rattle.ipmi_bus.specs.Store.{Store}
-use Rattle.ipmi_commands.specs.Prelude.{IsRewriting}
+use Rattle.ipmi_commands.specs.Prelude.{IsSaving}
 use Rattle.ipmi_commands.specs.declared.limits.RequestLimits.{RequestLimits}
 use Rattle.ipmi_json.specs.declared.object.Label.{Label}
 use Rattle.ipmi_image.specs.Cause.{cause_of}
-use Rattle.ipmi_image.specs.Image.{store_of_image}
+use Rattle.ipmi_image.specs.Snapshot.{Saved, saved_of_image}
 use Rattle.ipmi_image.specs.declared.cause.FaultCause.{FaultCause}
 use Rattle.ipmi_image.specs.declared.image.ImageFault.{ImageFault}
 use Rattle.ipmi_output.specs.Failure.{escaped_name, line_text}
@@ -38,9 +37,9 @@ pub record Fails (report : Report) (error : RunError) (old new : Out) (said said
   pub reports : Reports report last said said' result
 
 -- the image is rewritten
-pub record Rewrites (report : Report) (store : Store) (old new : Out) (said said' : Received) (result : Outcome) : Type 0 where
+pub record Rewrites (report : Report) (saved : Saved) (old new : Out) (said said' : Received) (result : Outcome) : Type 0 where
   pub last : Option RunError
-  pub runs : RunsThenEnds report (λ before after ending. IsRewriting store before after ending) (Ok None) old new last
+  pub runs : RunsThenEnds report (λ before after ending. IsSaving saved before after ending) (Ok None) old new last
   pub reports : Reports report last said said' result
 
 -- the numbers of the query are in their ranges
@@ -48,22 +47,23 @@ abbrev pub IsImageQuery : ImageQuery → Type 0
 IsImageQuery (ImageQuery.Print query) = IsQuery query.now
 IsImageQuery ImageQuery.Rewrite = Unit {0}
 
--- the query runs over a controller that holds the image, is honest, never busy, and cancels nothing; or the image is rewritten
-abbrev pub PrintsStore : RequestLimits → ImageQuery → Report → Store → Out → Out → Received → Received → Outcome → Type 0
-PrintsStore limits (ImageQuery.Print query) report store old new said said' result =
-    (seen seen' : Seen) × IsHonest seen × IsTrue seen.plain × (seen.store ≡ store)
+-- The query runs over an honest controller that holds the image; if nothing is lacking it is never busy and cancels nothing. Or the
+-- image is rewritten.
+abbrev pub PrintsStore : RequestLimits → ImageQuery → Report → Saved → Out → Out → Received → Received → Outcome → Type 0
+PrintsStore limits (ImageQuery.Print query) report saved old new said said' result =
+    (seen seen' : Seen) × IsHonest seen × (seen.plain ≡ (length saved.lacks == 0)) × (seen.store ≡ saved.store)
     × PrintsQuery limits query.now report (state seen None old) (state seen' None new) said said' result
-PrintsStore limits ImageQuery.Rewrite report store old new said said' result = Rewrites report store old new said said' result
+PrintsStore limits ImageQuery.Rewrite report saved old new said said' result = Rewrites report saved old new said said' result
 
 -- the fault of the bytes, and the rule that they break; or memory ran out
 abbrev pub IsFaultOf : List ℕ → ImageFault → Option FaultCause → Type 0
 IsFaultOf bytes fault cause =
-    (fault ≡ ImageFault.Memory) ⊎ ((store_of_image bytes ≡ Err fault) × (cause ≡ cause_of bytes fault))
+    (fault ≡ ImageFault.Memory) ⊎ ((saved_of_image bytes ≡ Err fault) × (cause ≡ cause_of bytes fault))
 
--- the input was read, and it is an image of this store
-abbrev pub IsImageOf : Result (Vec ℕ Global) InputFault → Store → Type 0
-IsImageOf (Err fault) store = ⊥
-IsImageOf (Ok image) store = store_of_image image.items ≡ Ok store
+-- the input was read, and it is an image with this content
+abbrev pub IsImageOf : Result (Vec ℕ Global) InputFault → Saved → Type 0
+IsImageOf (Err fault) saved = ⊥
+IsImageOf (Ok image) saved = saved_of_image image.items ≡ Ok saved
 
 -- why it is no image: it was not read, or it has a fault
 abbrev pub IsErrorOf : Result (Vec ℕ Global) InputFault → RunError → Type 0
@@ -74,7 +74,7 @@ IsErrorOf (Ok image) error =
 abbrev pub PrintsInput : RequestLimits → ImageQuery → Report → Result (Vec ℕ Global) InputFault → Out → Out → Received → Received
     → Outcome → Type 0
 PrintsInput limits query report input old new said said' result =
-    ((store : Store) × IsImageOf input store × PrintsStore limits query report store old new said said' result)
+    ((saved : Saved) × IsImageOf input saved × PrintsStore limits query report saved old new said said' result)
     ⊎ ((error : RunError) × IsErrorOf input error × Fails report error old new said said' result)
 
 -- ---- its name and its labels

@@ -2,12 +2,13 @@
 ghost use Rattle.std.specs.Prelude.{◌≡◌, IfOk, map, MatchOption, OnErr, OnOk, Option, option_map, true};
 ghost use Rattle.std.specs.List.{list_all};
 ghost use Rattle.ipmi_capture.specs.Left.{IsStateOf, leaves_whole};
-ghost use Rattle.ipmi_image.specs.Rewritten.{image_text_of};
+ghost use Rattle.ipmi_capture.specs.Lacks.{saved_of};
+ghost use Rattle.ipmi_image.specs.Snapshot.{saved_text_of};
 ghost use Rattle.ipmi_output.specs.Failure.{line_text};
 ghost use Rattle.ipmi_output.specs.Received.{ReceivesText};
 ghost use Rattle.ipmi_raw.specs.Controller.{last_words, seen_of};
 ghost use Rattle.ipmi_raw.specs.Handed.{OnlyRequests};
-ghost use Rattle.serdimko.specs.Captured.{Captures, EndsUnwritten, printed_text, PrintsText, said_left, SavesImage, SavesText, SaysLines, SaysLost, WritesText};
+ghost use Rattle.serdimko.specs.Captured.{Captures, EndsUnwritten, file_in, PrintsText, said_left, SavesImage, SavesText, SaysLines, SaysLost, status_of_image, WritesText};
 ghost use Rattle.serdimko.specs.Out.{out_of};
 ghost use Rattle.serdimko.specs.RunError.{no_reply_text};
 
@@ -19,13 +20,14 @@ use ipmi_bus::Shelf;
 use ipmi_capture::{Captured, Left, Progress, capture};
 use ipmi_command_line::Word;
 use ipmi_commands::RequestLimits;
-use ipmi_image::image_text;
+use ipmi_image::{ImageFault, Snapshot, snapshot_text};
 use ipmi_output::Part::{Escaped, Text};
 use ipmi_output::{Failure, MessageSink, write_failure, write_message};
+use ipmi_program::read_image;
 use ipmi_raw::{Open, Peer, Piped, RawController};
 use std::alloc::{AllocError, Global};
 use std::fs::{self, File, Files};
-use std::io::{self, Write};
+use std::io::{self, ErrorKind, Write};
 use std::time::Clock;
 
 /// The exit status if the image is not whole.
@@ -34,8 +36,14 @@ const NOT_WHOLE: u8 = 1;
 /// The exit status if the image can't be written.
 const UNWRITTEN: u8 = 4;
 
-/// The last line of an image.
-const END: &[u8] = b"end\n";
+/// Where an image is written.
+#[derive(Clone, Copy)]
+pub(crate) struct Target<'a> {
+    /// The file; None is standard output.
+    pub(crate) file: Option<&'a Word>,
+    /// Whether an image that is not whole may replace a whole one.
+    pub(crate) may_replace: bool,
+}
 
 /// Shows counts on a terminal; shows nothing without one.
 #[derive(Drop)]
@@ -149,15 +157,11 @@ fn write_file<R: Files + AllocGlobal>(rt: &R, name: &str, text: &[u8]) -> io::Re
     written
 }
 
-/// The part of an image's text to print: without its last line it is not an image.
-fn printed_text(text: &[u8], is_whole: bool) -> &[u8]
-    ensures { result.now ≡ printed_text is_whole text.now }
+/// The exit status after an image was written.
+fn status_of_image(is_whole: bool) -> u8
+    ensures { result ≡ status_of_image is_whole }
 {
-    if is_whole {
-        text
-    } else {
-        &text[..text.len().saturating_sub(END.len())]
-    }
+    if is_whole { 0 } else { NOT_WHOLE }
 }
 
 /// Reports that the output accepted no more, unless its reader closed it, and returns the exit status.
@@ -172,7 +176,7 @@ fn end_unwritten<E: MessageSink>(is_closed: bool, err: &mut E) -> u8
     UNWRITTEN
 }
 
-/// Writes the text of an image, or its part to print, to the output, and returns the exit status.
+/// Writes the text of an image to the output, and returns the exit status.
 fn print_text<W: Write + Drop, E: MessageSink>(
     text: &[u8],
     is_whole: bool,
@@ -181,25 +185,41 @@ fn print_text<W: Write + Drop, E: MessageSink>(
 ) -> u8
     ensures { PrintsText is_whole text.now (out_of out.old) (out_of out.new) (E.received err.old) (E.received err.new) result }
 {
-    match write_flushed(out, printed_text(text, is_whole)) {
-        Ok(()) if is_whole => 0,
-        Ok(()) => NOT_WHOLE,
+    match write_flushed(out, text) {
+        Ok(()) => status_of_image(is_whole),
         Err(_) => end_unwritten(is_closed(out), err),
     }
 }
 
-/// Writes the text of an image to a file, if it is whole, and returns the exit status.
+/// Whether the file is not there, or is known not to be a whole image.
+fn is_no_whole_image<R: Files + AllocGlobal>(rt: &R, name: &str) -> bool {
+    let file = match File::open(rt, name) {
+        Ok(file) => file,
+        Err(error) => return error.kind() == ErrorKind::NotFound,
+    };
+    match read_image(rt.alloc(), file) {
+        Ok(bytes) => match Snapshot::read(rt.alloc(), bytes.as_slice()) {
+            Ok(snapshot) => snapshot.is_partial(),
+            Err(fault) => fault != ImageFault::Memory,
+        },
+        Err(_) => false,
+    }
+}
+
+/// Writes the text of an image to a file, and returns the exit status. In place of a whole image it writes one that is not whole only
+/// where it may replace it.
 fn write_text<R: Files + AllocGlobal, E: MessageSink>(
     rt: &R,
     text: &[u8],
     is_whole: bool,
+    may_replace: bool,
     name: &str,
     err: &mut E,
 ) -> u8
-    ensures { WritesText is_whole name.now (E.received err.old) (E.received err.new) result }
+    ensures { WritesText is_whole may_replace name.now (E.received err.old) (E.received err.new) result }
 {
-    if !is_whole {
-        let why = Text(" is not written: the image is not whole");
+    if !is_whole && !may_replace && !is_no_whole_image(rt, name) {
+        let why = Text(" stays as it is, since this image is not whole: --partial replaces it");
         let _ = write_message(err, &[Escaped(name), why]);
         return NOT_WHOLE;
     }
@@ -207,26 +227,29 @@ fn write_text<R: Files + AllocGlobal, E: MessageSink>(
         let _ = write_message(err, &[Text("cannot write "), Escaped(name)]);
         return UNWRITTEN;
     }
-    0
+    status_of_image(is_whole)
 }
 
-/// Writes the image, whole or in part, and returns the exit status.
+/// Writes the image with notes of the items left out, and returns the exit status.
 fn write_captured<R: Files + AllocGlobal, W: Write + Drop, E: MessageSink>(
     rt: &R,
-    captured: &Captured,
-    output: Option<&Word>,
+    captured: Captured,
+    target: Target<'_>,
     out: &mut Output<W>,
     err: &mut E,
 ) -> Result<u8, AllocError>
-    ensures saves { IfOk result (λ status. SavesText (option_map (λ word. word.now) output.entry) captured.now.is_whole
-        (image_text_of captured.now.image) (out_of out.old) (out_of out.new)
+    ensures saves { IfOk result (λ status. SavesText (file_in target.entry) target.entry.may_replace (list_all leaves_whole captured.left.items)
+        (saved_text_of (saved_of captured.image captured.left.items)) (out_of out.old) (out_of out.new)
         (E.received err.old) (E.received err.new) status) }
     ensures err { OnErr result (out.new ≡ out.old) }
 {
-    let text = image_text(rt.alloc(), &captured.image)?;
-    Ok(match output {
-        None => print_text(text.as_slice(), captured.is_whole, out, err),
-        Some(file) => write_text(rt, text.as_slice(), captured.is_whole, file.as_str(), err),
+    let snapshot = captured.into_snapshot(rt.alloc())?;
+    let is_whole = !snapshot.is_partial();
+    let text = snapshot_text(rt.alloc(), &snapshot)?;
+    let text = text.as_slice();
+    Ok(match target.file {
+        None => print_text(text, is_whole, out, err),
+        Some(file) => write_text(rt, text, is_whole, target.may_replace, file.as_str(), err),
     })
 }
 
@@ -234,15 +257,14 @@ fn write_captured<R: Files + AllocGlobal, W: Write + Drop, E: MessageSink>(
 fn report_captured<R: Files + AllocGlobal, W: Write + Drop, E: MessageSink>(
     rt: &R,
     lost: Option<&[u8]>,
-    captured: &Captured,
+    captured: Captured,
     host: Option<&Word>,
-    output: Option<&Word>,
+    target: Target<'_>,
     out: &mut Output<W>,
     err: &mut E,
 ) -> Result<u8, AllocError>
-    requires { captured.now.is_whole ≡ list_all leaves_whole captured.now.left.items }
     ensures { IfOk result (λ status. MatchOption (option_map (λ text. text.now) lost.entry)
-        (SavesImage (option_map (λ name. name.now) host.entry) (option_map (λ word. word.now) output.entry) captured.now.image captured.now.left.items
+        (SavesImage (option_map (λ name. name.now) host.entry) (file_in target.entry) target.entry.may_replace captured.image captured.left.items
         (out_of out.old) (out_of out.new) (E.received err.old) (E.received err.new) status)
         (λ text. SaysLost (option_map (λ name. name.now) host.entry) text (out_of out.old) (out_of out.new) (E.received err.old) (E.received err.new) status)) }
 {
@@ -253,7 +275,7 @@ fn report_captured<R: Files + AllocGlobal, W: Write + Drop, E: MessageSink>(
         return Ok(NOT_WHOLE);
     }
     say_left(rt.alloc(), captured.left.as_slice(), name, is_unknown, err)?;
-    write_captured(rt, captured, output, out, err)
+    write_captured(rt, captured, target, out, err)
 }
 
 /// Reads the contents of the live controller, writes them as an image, reports the items left out, and returns the exit status.
@@ -270,7 +292,7 @@ pub(crate) fn capture_live<
     controller: &mut RawController<Piped<O>, K>,
     limits: RequestLimits,
     host: Option<&Word>,
-    output: Option<&Word>,
+    target: Target<'_>,
     counter: &mut Counter<T>,
     out: &mut Output<W>,
     err: &mut E,
@@ -278,7 +300,7 @@ pub(crate) fn capture_live<
     requires { controller.old.silence.tries ≡ limits.tries }
     ensures captures { IfOk result (Captures (IsStateOf (seen_of {K = K} ⟦<Piped<O> as Peer>⟧.seen)) limits.part limits.tries
         (seen_of ⟦<Piped<O> as Peer>⟧.seen controller.old) (seen_of ⟦<Piped<O> as Peer>⟧.seen controller.new)
-        (last_words controller.new) (option_map (λ name. name.now) host.entry) (option_map (λ word. word.now) output.entry)
+        (last_words controller.new) (option_map (λ name. name.now) host.entry) (file_in target.entry) target.entry.may_replace
         (out_of out.old) (out_of out.new) (E.received err.old) (E.received err.new)) }
     ensures requests { ∥ OnlyRequests O.opens controller.new.peer.tool controller.new.peer.is_lost controller.new.peer.units ∥₁ }
 {
@@ -290,7 +312,5 @@ pub(crate) fn capture_live<
         counter,
     )?;
     counter.clear();
-    let status = report_captured(rt, controller.lost(), &captured, host, output, out, err);
-    drop(captured);
-    status
+    report_captured(rt, controller.lost(), captured, host, target, out, err)
 }

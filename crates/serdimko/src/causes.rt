@@ -21,7 +21,7 @@ fn beginning_words(cause: Beginning) -> &'static str
         Beginning::RawInventory =>
             " (raw bytes of an inventory: an image has them in hex, on a line 'fru 00 HEX')",
         Beginning::Header =>
-            " (not an image: the first line has to be 'ipmi-image 1' or 'ipmi-image 2', with a line feed and no space after it; 'serdimko-live ... -- capture' makes an image)",
+            " (not an image: the first line has to be 'ipmi-image 1', 'ipmi-image 2' or 'ipmi-image 3', with a line feed and no space after it; 'serdimko-live ... -- capture' makes an image)",
     }
 }
 
@@ -50,6 +50,8 @@ fn line_words(cause: LineCause) -> &'static str
         LineCause::ReadingNumbers => " (LUN is one digit, 0 to 3, and NUM two hex digits, as 0 2a)",
         LineCause::InfoFields => " (info takes sdr HEX or sel HEX)",
         LineCause::EndFields => " (end stands alone, with no space after it)",
+        LineCause::Lack =>
+            " (lacks comes before all other lines, and takes sdr ID CODE, sel ID CODE, info sdr CODE, info sel CODE, reading LUN NUM CODE, size ID CODE or fru ID CODE)",
         LineCause::OddDigits => " (an odd number of digits: each byte has two)",
         LineCause::NotHex => " (a field has a character that is not a hex digit)",
     }

@@ -19,7 +19,7 @@ use ipmi_command_line::{Task, Word, Words};
 use ipmi_commands::{
     FoundSensors, Job, RequestLimits, Summary, execute, find_sensors, print_sensors,
 };
-use ipmi_image::ImageController;
+use ipmi_image::SnapshotController;
 use ipmi_output::{Failure, MessageSink, RecordName};
 use std::alloc::{AllocError, Global};
 use std::io::Write;
@@ -41,7 +41,7 @@ pub(crate) trait Connection: Controller {
         ensures { ∥ only_requests self.now ∥₁ };
 }
 
-impl Connection for ImageController {
+impl Connection for SnapshotController {
     ghost lost = { λ _. None };
 
     ghost only_requests = { λ _. ⊤ };

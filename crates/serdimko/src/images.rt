@@ -14,8 +14,8 @@ use crate::outcome::Outcome;
 use crate::report::{Report, Settings};
 use crate::run_error::RunError;
 use ipmi_command_line::Word;
-use ipmi_commands::{RequestLimits, Summary, write_image};
-use ipmi_image::{Image, ImageController, ImageFault, fault_cause};
+use ipmi_commands::{RequestLimits, Summary, write_snapshot};
+use ipmi_image::{ImageFault, Snapshot, SnapshotController, fault_cause};
 use ipmi_output::Part::{Escaped, Text};
 use ipmi_output::{Failure, MessageSink, SinkFault, write_message};
 use ipmi_program::{InputFault, input_name, read_input};
@@ -55,7 +55,7 @@ pub(crate) fn fail<W: Write + Drop, E: MessageSink>(
 /// Prints the image in its canonical spelling.
 fn rewrite<W: Write + Drop, E: MessageSink>(
     alloc: Global,
-    image: &Image,
+    image: &Snapshot,
     report: &Report<'_>,
     out: &mut Output<W>,
     err: &mut E,
@@ -63,7 +63,7 @@ fn rewrite<W: Write + Drop, E: MessageSink>(
     ensures { Rewrites report.now image.now (out_of out.old) (out_of out.new) (E.received err.old) (E.received err.new) result }
 {
     let mut summary = Summary::new();
-    let ending = write_image(alloc, image, out, &mut summary);
+    let ending = write_snapshot(alloc, image, out, &mut summary);
     let last = end_run(alloc, report, ending, Ok(None), &summary, out);
     report.tell(&last, err)
 }
@@ -74,7 +74,7 @@ fn print_store<W: Write + Drop, E: MessageSink>(
     limits: RequestLimits,
     query: ImageQuery<'_>,
     report: &Report<'_>,
-    image: Image,
+    image: Snapshot,
     out: &mut Output<W>,
     err: &mut E,
 ) -> Outcome
@@ -86,7 +86,7 @@ fn print_store<W: Write + Drop, E: MessageSink>(
         ImageQuery::Rewrite => return rewrite(alloc, &image, report, out, err),
         ImageQuery::Print(query) => query,
     };
-    let mut ctl = ImageController::new(image);
+    let mut ctl = SnapshotController::new(image);
     let result = print_query(alloc, &mut ctl, limits, query, report, out, err);
     drop(ctl);
     result
@@ -96,14 +96,14 @@ fn print_store<W: Write + Drop, E: MessageSink>(
 pub(crate) fn image_of<'a>(
     alloc: Global,
     input: &Result<Vec<u8>, InputFault>,
-) -> Result<Image, RunError<'a>>
+) -> Result<Snapshot, RunError<'a>>
     ensures { MatchResult result (λ image. IsImageOf input.now image) (λ error. IsErrorOf input.now error) }
 {
     let bytes = match input {
         Ok(bytes) => bytes.as_slice(),
         Err(fault) => return Err(RunError::unread(*fault)),
     };
-    match Image::read(alloc, bytes) {
+    match Snapshot::read(alloc, bytes) {
         Ok(image) => Ok(image),
         Err(fault) => match fault_cause(alloc, bytes, fault) {
             Ok(cause) => Err(RunError::no_image(fault, cause)),
