@@ -4,6 +4,7 @@ use Rattle.std.specs.List.{list_all}
 use Rattle.std.proofs.lemmas.Bool.Decides.{nat_tests}
 use Rattle.std.proofs.lemmas.List.{drop-map}
 use Rattle.std.proofs.lemmas.List.Elements.{All-head, All-tail}
+use Rattle.ipmi_bus.specs.Answers.{CountsRefusal}
 use Rattle.ipmi_bus.specs.Events.{counts_after, with_failure}
 use Rattle.ipmi_bus.specs.Readers.{ValueIs}
 use Rattle.ipmi_bus.specs.declared.step.Ended.{Ended}
@@ -329,10 +330,10 @@ module _ (r r' : Responder) (s : Seen) (image : r'.image ≡ r.image) where
   fails_of false P Q Refusal code not not_busy h = omega (arith, h)
 
   -- the image refuses a part
-  refuses : (ahead : Bool) (code : ℕ) → PartFailsWith ahead (Unit {0}) (Unit {0}) Refusal code (seen_as false r) (seen_as false r')
-      → (P Q : Type 0) → PartFailsWith ahead P Q Refusal code before after
-  refuses true code h P Q = omega (arith, h)
-  refuses false code h P Q = omega (arith, h)
+  refuses : (ahead : Bool) (code : ℕ) → CountsRefusal ahead code (seen_as false r) (seen_as false r')
+      → CountsRefusal ahead code before after
+  refuses true code h = omega (arith, h)
+  refuses false code h = omega (arith, h)
 
   pub refused_with : (ask : Asked) (into : List ℕ) → r'.sdr_reservation ≡ r.sdr_reservation → IsHonest before
       → PartFailsWith (reads_ahead ask.shelf ask.offset ask.len) (Unit {0}) (Unit {0}) (class_of out_of_range.0) out_of_range.0
@@ -340,7 +341,7 @@ module _ (r r' : Responder) (s : Seen) (image : r'.image ≡ r.image) where
       → PartAnswers ask (Err out_of_range) into before after
   refused_with ask into reservation honest h = record {
     change = unchanged honest;
-    gives = refuses (reads_ahead ask.shelf ask.offset ask.len) out_of_range.0 h _ _;
+    gives = refuses (reads_ahead ask.shelf ask.offset ask.len) out_of_range.0 h;
     keeps = kept ask.shelf r r' s s image reservation (still s);
     beside = kept (other ask.shelf) r r' s s image reservation (still s);
     plain = λ p. absurd (true≢false (sym p));
