@@ -83,8 +83,14 @@ for dialect in --ipmitool --freeipmi; do
   same $dialect sdr list
   same $dialect sel list
 
-  # the third request is for the second record
-  TOOL_TROUBLES='refuse=d4,3'
+  # a refusal to read ahead is kept back, whatever its code
+  for TOOL_TROUBLES in refuse=d4,3 most=20,ff most=33,c9 most=33; do
+    same $dialect sdr hex
+    same $dialect --part 254 sdr list all
+  done
+
+  # the third request is for the second record, and the fourth for its header
+  TOOL_TROUBLES='refuse=d4,3,4'
   says 1 'record 0002h refused with code D4h' $dialect -- --part 254 sdr hex
   if [ "$(cat "$work/out")" != "$("$SERDIMKO" --image "$TOOL_IMAGE" sdr hex | head -n 1)" ]; then
     fault "$dialect, refused: $(cat "$work/out")"
@@ -182,13 +188,13 @@ for dialect in --ipmitool --freeipmi; do
   if [ "$status" -ne 0 ] || [ -s "$work/out" ]; then fault "$dialect capture -o: status $status"; fi
   captured "$dialect capture -o" "$work/saved"
   echo before > "$work/saved"
-  for TOOL_TROUBLES in 'refuse=ff,5' 'die=9' 'garbage=130' 'cut=100'; do
+  for TOOL_TROUBLES in 'refuse=ff,5,6' 'die=9' 'garbage=130' 'cut=100'; do
     live $dialect -- capture -o "$work/saved"
     if [ "$status" -ne 1 ] || [ "$(cat "$work/saved")" != before ] || [ -e "$work/saved.part" ]; then
       fault "$dialect capture -o ($TOOL_TROUBLES): status $status, $(head -n 1 "$work/saved")"
     fi
   done
-  TOOL_TROUBLES='refuse=ff,5'
+  TOOL_TROUBLES='refuse=ff,5,6'
   live $dialect -- --part 254 capture
   if [ "$status" -ne 1 ] || grep -q '^end$' "$work/out" || ! grep -q '^sdr: .*refused with code FFh$' "$work/err"; then
     fault "$dialect capture, refused: status $status, $(cat "$work/err")"
@@ -207,6 +213,15 @@ says 2 "--output does not go with 'sdr'" -- -o x sdr
 : > "$TOOL_LOG"
 live --freeipmi -- sensor
 if [ "$(wc -l < "$TOOL_LOG")" -ne 103 ]; then fault "sensor: $(wc -l < "$TOOL_LOG") requests"; fi
+# From a controller that gives at most 33 bytes, the 47 records of 38 bytes or more take a request more, and the first request is refused.
+# If the refusal doesn't say that the request was too long, each header takes one request, and what follows it one for 32 bytes.
+for trouble in most=33:151 most=33,ff:207; do
+  TOOL_TROUBLES=${trouble%:*}
+  : > "$TOOL_LOG"
+  live --freeipmi -- sensor
+  if [ "$(wc -l < "$TOOL_LOG")" -ne "${trouble#*:}" ]; then fault "sensor, $trouble: $(wc -l < "$TOOL_LOG") requests"; fi
+done
+TOOL_TROUBLES=
 
 # ipmitool has one session for each unit used.
 : > "$TOOL_LOG"

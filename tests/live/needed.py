@@ -1,12 +1,10 @@
 #!/usr/bin/env python3
 """Prints the number of requests that a capture of the image $1 needs, in parts of $2 bytes: a reservation and an info for each
-shelf; for each sensor data record first the header, because it has the record's length, and then the rest in parts; each event
-in parts; the reading of each sensor of the controller with a full or compact record; and, for device 0 and each logical device
-of the controller with a locator, the size and the inventory in parts, or the size twice if there is none (IPMI v2.0, sections
-33.12, 34.2 and 43)."""
+shelf; each sensor data record and each event in parts; the reading of each sensor of the controller with a full or compact
+record; and, for device 0 and each logical device of the controller with a locator, the size and the inventory in parts, or the
+size twice if there is none (IPMI v2.0, sections 33.12, 34.2 and 43)."""
 import sys
 
-HEADER = 5
 CONTROLLER = 0x20
 records, events, inventories = [], [], {}
 for line in open(sys.argv[1], encoding="ascii").read().split("\n")[1:]:
@@ -26,8 +24,7 @@ def parts(count):
 sensors = {(record[6] % 4, record[7]) for record in records if record[3] in (1, 2) and record[5] == CONTROLLER}
 devices = {0} | {record[6] for record in records if record[3] == 0x11 and record[5] == CONTROLLER and record[7] & 0x98 == 0x80}
 needed = 2 + 2
-needed += sum(parts(HEADER) + parts(len(record) - HEADER) for record in records)
-needed += sum(parts(len(event)) for event in events)
+needed += sum(parts(len(row)) for row in records + events)
 needed += len(sensors)
 needed += sum(1 + parts(len(inventories[device])) if device in inventories else 2 for device in devices)
 print(needed)

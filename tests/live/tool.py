@@ -2,10 +2,12 @@
 """Replaces `ipmitool .. exec` and FreeIPMI's `ipmi-raw` in tests: it answers the requests on its standard input like a
 controller with the contents of the image TOOL_IMAGE, with the troubles in TOOL_TROUBLES:
 
-busy=N        each Nth request is refused with C0h       most=N     a part of more than N bytes is refused with CAh
+busy=N        each Nth request is refused with C0h
+most=N        a part of more than N bytes is refused with CAh; most=N,C with code C
 cancel=N      each Nth part cancels the reservation      grant=N    an answer has at most N bytes of data
 unreserved=1  there are no reservations: requests for one are refused with C1h, and 0000h is accepted as one
-silent=N      each Nth request gets no answer            refuse=C,N the Nth request is refused with code C
+silent=N      each Nth request gets no answer
+refuse=C,N    the Nth request is refused with code C; refuse=C,N,M also those after it, to the Mth
 dead=N        from the Nth request on there is no answer
 garbage=N     the Nth answer is malformed                cut=N      the tool exits in the middle of the Nth answer
 long=N        the Nth answer is long and has no end      other=N    the Nth answer is one byte short
@@ -69,8 +71,8 @@ class Controller:
         if self.happens("busy"):
             return 0xC0, b""
         if "refuse" in TROUBLES:
-            code, place = TROUBLES["refuse"].split(",")
-            if self.requests == int(place):
+            code, *places = TROUBLES["refuse"].split(",")
+            if int(places[0]) <= self.requests <= int(places[-1]):
                 return int(code, 16), b""
         if function == 0x04 and command == 0x2D:
             reading = self.image["reading"].get((unit, data[0]))
@@ -120,8 +122,9 @@ class Controller:
     def piece(whole, offset, count):
         if offset >= len(whole):
             return 0xC9, b""
-        if count > int(TROUBLES.get("most", 255)):
-            return 0xCA, b""
+        most, _, code = TROUBLES.get("most", "255").partition(",")
+        if count > int(most):
+            return int(code or "ca", 16), b""
         return 0, whole[offset : offset + min(count, int(TROUBLES.get("grant", 255)))]
 
 

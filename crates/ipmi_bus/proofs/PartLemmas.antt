@@ -2,8 +2,8 @@
 use Rattle.std.proofs.Common.{◌≡◌, ℕ, ◌+◌, ◌<◌, ◌≤◌, Bool, true, false, nat_eq, Option, None, Some, Result, Ok, Err, List, length, take, drop, get_or, slice_range, refl, sym, ap, subst, ◌∙◌, inl, inr, arith, IsTrue, IsSome, ne_eqb, get_or-take, take-take, take-add, MatchOption, IsOk}
 use Rattle.std.proofs.lemmas.Bool.{cases_lt}
 use Rattle.std.proofs.lemmas.Bool.Decides.{nat_tests}
-use Rattle.ipmi_bus.specs.Prelude.{Shelf, Code, CodeClass, Cancelled, Busy, SmallerPart, NotPresent, Refusal, Part, Ended, Stalled, Malformed, CallOutcome, Again, Over, Whole, Absent, Retrieval, Row, IsRow, look, whole_len, len_of, largest_len, rows_of, store_shelf, Seen, stays_trans, IsHonest, StaysHonest, MayLoseReservation, IsQuiet, IsFinished, current, CountsPiece, FailsWith, GivesPiece, PartAnswers, smaller_part, class_of, SameRequest, IsReading, HoldsCurrent, HasMet, KeepsHeld, HonestSince, IsPlainSince, ReadIsHonest, ReadNext, asked_to, wanted_len, after_part, Asked, part_asked, not_present}
-use Rattle.ipmi_bus.specs.Retrieval.{IsOpenRecord, HasRead, TakesRecordPart, MakesSmaller, PartFails}
+use Rattle.ipmi_bus.specs.Prelude.{Shelf, Code, CodeClass, Cancelled, Busy, SmallerPart, NotPresent, Refusal, Part, Ended, Stalled, Malformed, CallOutcome, Again, Over, Whole, Absent, Retrieval, Row, IsRow, look, whole_len, len_of, largest_len, rows_of, store_shelf, Seen, stays_trans, IsHonest, StaysHonest, MayLoseReservation, IsQuiet, IsFinished, current, reads_ahead, CountsPiece, CountsRefusal, PartFailsWith, GivesPiece, PartAnswers, smaller_part, class_of, SameRequest, IsReading, HoldsCurrent, HasMet, KeepsHeld, HonestSince, IsPlainSince, ReadIsHonest, ReadNext, asked_to, wanted_len, after_part, Asked, part_asked, not_present}
+use Rattle.ipmi_bus.specs.Retrieval.{IsOpenRecord, HasRead, TakesRecordPart, MakesSmaller, PartFails, RefusesPart}
 use Rattle.ipmi_bus.proofs.ShelfLemmas.{look_row}
 use Rattle.ipmi_bus.proofs.CallLemmas.{reading_kept, held_on, within_calm, trouble_answers, refusal_answers}
 
@@ -220,12 +220,12 @@ module _ (start old new : Retrieval) (s s' s'' : Seen) (n asked : ℕ) (code : C
   keeps_on r = held_on start old s s' s'' same since stays r parts.keeps
 
   -- a smaller part is to be requested
-  with_smaller : (part : ℕ) → IsQuiet s' s'' → (IsTrue s.plain → HoldsCurrent start s → ⊥)
-      → HonestSince start (record old { part = part; ahead = false }) s s''
-  with_smaller part quiet not_plain = record {
+  with_smaller : (part : ℕ) (ahead : Bool) → IsQuiet s' s'' → (IsTrue s.plain → HoldsCurrent start s → ⊥)
+      → HonestSince start (record old { part = part; ahead = ahead }) s s''
+  with_smaller part ahead quiet not_plain = record {
     stays = over_all;
-    reading = reading_kept old s' s'' part false old.troubles parts.keeps stays.store open_.reserved since.reading;
-    keeps = keeps_on (record old { part = part; ahead = false }) (omega (arith, quiet.troubles)) refl;
+    reading = reading_kept old s' s'' part ahead old.troubles parts.keeps stays.store open_.reserved since.reading;
+    keeps = keeps_on (record old { part = part; ahead = ahead }) (omega (arith, quiet.troubles)) refl;
     met = search arith;
     fresh_troubles = quiet.fresh_troubles ∙ since.fresh_troubles;
     plain = λ p h. absurd (not_plain p h);
@@ -235,8 +235,15 @@ module _ (start old new : Retrieval) (s s' s'' : Seen) (n asked : ℕ) (code : C
   smaller_answers : (result : Result CallOutcome Ended) → 1 < asked → IsQuiet s' s''
       → (IsTrue s.plain → HoldsCurrent start s → ⊥) → MakesSmaller asked old new result
       → ReadNext start new s s'' result
-  smaller_answers (Ok turn) more quiet not_plain does = rw does.0 (subst (λ (r : Retrieval). HonestSince start r s s'') (sym does.2) (with_smaller new.part quiet not_plain))
+  smaller_answers (Ok turn) more quiet not_plain does = rw does.0 (subst (λ (r : Retrieval). HonestSince start r s s'') (sym does.2) (with_smaller new.part _ quiet not_plain))
   smaller_answers (Err ended) more quiet not_plain does = absurd (smaller_some asked more does.1)
+
+  -- a refusal to read ahead is kept from the caller, any other is told
+  refusal_is : (ahead : Bool) (result : Result CallOutcome Ended) → CountsRefusal ahead code.0 s' s''
+      → (IsTrue s.plain → HoldsCurrent start s → ⊥) → RefusesPart ahead code asked old new result
+      → ReadNext start new s s'' result
+  refusal_is true result quiet not_plain does = rw does.0 (subst (λ (r : Retrieval). HonestSince start r s s'') (sym does.2) (with_smaller new.part false quiet not_plain))
+  refusal_is false result refused not_plain does = refusal_answers start old s s' s'' same since stays new code result open_ parts.keeps refused does not_plain
 
   absent_answers : (result : Result CallOutcome Ended)
       → look (rows_of old.shelf s''.store) old.id ≡ None → IsFinished s' s''
@@ -260,13 +267,13 @@ module _ (start old new : Retrieval) (s s' s'' : Seen) (n asked : ℕ) (code : C
 
   part_by_class : (class : CodeClass) (result : Result CallOutcome Ended)
       → ((class ≡ NotPresent → ⊥) → IsTrue s.plain → HoldsCurrent start s → ⊥)
-      → FailsWith (1 < asked) (look (rows_of old.shelf s''.store) old.id ≡ None) class code.0 s' s''
+      → PartFailsWith (reads_ahead old.shelf old.have asked) (1 < asked) (look (rows_of old.shelf s''.store) old.id ≡ None) class code.0 s' s''
       → PartFails class code asked old new result → ReadNext start new s s'' result
   part_by_class Cancelled result not_plain troubled does = trouble_answers start old s s' s'' same since stays true new result open_ parts.keeps troubled does (not_plain (λ e. cc e))
   part_by_class Busy result not_plain troubled does = trouble_answers start old s s' s'' same since stays false new result open_ parts.keeps troubled does (not_plain (λ e. cc e))
   part_by_class SmallerPart result not_plain fails does = smaller_answers result fails.0 fails.1 (not_plain (λ e. cc e)) does
   part_by_class NotPresent result not_plain fails does = absent_answers result fails.0 fails.1 does
-  part_by_class Refusal result not_plain refused does = refusal_answers start old s s' s'' same since stays new code result open_ parts.keeps refused does (not_plain (λ e. cc e))
+  part_by_class Refusal result not_plain fails does = refusal_is (reads_ahead old.shelf old.have asked) result fails (not_plain (λ e. cc e)) does
 
   pub part_failed : (result : Result CallOutcome Ended)
       → PartFails (class_of code.0) code asked old new result → ReadNext start new s s'' result

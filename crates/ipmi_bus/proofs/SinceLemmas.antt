@@ -1,5 +1,5 @@
 -- Reading a record, call by call.
-use Rattle.std.proofs.Common.{◌≡◌, ℕ, ◌+◌, ◌*◌, ◌<◌, ◌≤◌, Option, None, Some, IsSome, Ok, refl, ap, ◌∙◌, arith, ◌-◌}
+use Rattle.std.proofs.Common.{◌≡◌, ℕ, ◌+◌, ◌*◌, ◌<◌, ◌≤◌, inl, inr, Option, None, Some, IsSome, Ok, refl, ap, ◌∙◌, arith, ◌-◌}
 use Rattle.ipmi_bus.specs.Prelude.{AreWithin, AsksAtMost, digits, step_call_bound, Again, Retrieval, largest_len, Seen, IsHonest, StaysHonest, SameRequest, CallLeaves, unreserved, begun, HonestSince, ReadFirstAsks, len_of, look, rows_of}
 use Rattle.ipmi_bus.specs.Retrieval.{IsOpenRecord, calls_left, request_len}
 
@@ -21,7 +21,19 @@ pub record Since (start now : Retrieval) (s s' : Seen) : Type 0 where
       → s'.calls + calls_left (row_len start s) now ≤ s.calls + calls_left (row_len start s) start
 
 same_request_trans : (a b c : Retrieval) → SameRequest a b → SameRequest b c → SameRequest a c
-same_request_trans a b c p q = record { shelf = q.shelf ∙ p.shelf; tries = q.tries ∙ p.tries; id = q.id ∙ p.id; part = omega (arith, p.part, q.part); some = q.some; ahead = λ is. p.ahead (q.ahead is) }
+same_request_trans a b c p q = record {
+  shelf = q.shelf ∙ p.shelf;
+  tries = q.tries ∙ p.tries;
+  id = q.id ∙ p.id;
+  part = omega (arith, p.part, q.part);
+  some = q.some;
+  ahead = λ is. p.ahead (q.ahead is);
+  ahead_stays = λ same. q.ahead_stays (omega (arith, p.part, q.part, same)) ∙ p.ahead_stays (omega (arith, p.part, q.part, same));
+  ahead_ends = λ is. elim (q.ahead_ends is) [
+    | inl same ↦ elim (p.ahead_ends (q.ahead is)) [ inl as_before ↦ inl (same ∙ as_before) | inr some ↦ inr (omega (arith, some, same)) ]
+    | inr some ↦ inr some
+  ];
+}
 
 -- one more call
 module _ (start now new : Retrieval) (s s' s'' : Seen) (since : Since start now s s')

@@ -1,5 +1,5 @@
 -- What an honest controller may answer to each call, and what a plain controller must answer.
-use Rattle.std.specs.Prelude.{◌≡◌, ℕ, ◌+◌, ◌<◌, ◌≤◌, ◌==◌, Bool, true, false, IsTrue, Option, None, Some, MatchOption, Result, Ok, Err, IsOk, MatchResult, List, length, take, drop}
+use Rattle.std.specs.Prelude.{◌≡◌, ℕ, ◌+◌, ◌<◌, ◌≤◌, ◌==◌, ◌&&◌, nat_lt, Bool, true, false, IsTrue, Option, None, Some, MatchOption, Result, Ok, Err, IsOk, MatchResult, List, length, take, drop}
 use Rattle.ipmi_bus.specs.Types.{Busy, Cancelled, Code, CodeClass, FruSize, NotPresent, Part, Refusal, Sdr, Sel, Shelf, SmallerPart}
 use Rattle.ipmi_bus.specs.Shelf.{Row, look}
 use Rattle.ipmi_bus.specs.Store.{Store, rows_of, inventory_of}
@@ -23,6 +23,17 @@ FailsWith may_be_smaller is_absent Busy code old new = IsTroubled old new
 FailsWith may_be_smaller is_absent SmallerPart code old new = may_be_smaller × IsQuiet old new
 FailsWith may_be_smaller is_absent NotPresent code old new = is_absent × IsFinished old new
 FailsWith may_be_smaller is_absent Refusal code old new = IsRefused code old new
+
+-- a refusal to read ahead counts nothing, as a code that asks for a smaller part does
+abbrev pub CountsRefusal : Bool → ℕ → Seen → Seen → Type 0
+CountsRefusal true code old new = IsQuiet old new
+CountsRefusal false code old new = IsRefused code old new
+
+-- the same for a part, whose request reads ahead or does not
+abbrev pub PartFailsWith : Bool → Type 0 → Type 0 → CodeClass → ℕ → Seen → Seen → Type 0
+PartFailsWith ahead may_be_smaller is_absent Refusal code old new = CountsRefusal ahead code old new
+PartFailsWith ahead may_be_smaller is_absent class code old new =
+    FailsWith may_be_smaller is_absent class code old new
 
 abbrev pub not_present : Code
 not_present = record { 0 = 0xCB }
@@ -57,6 +68,11 @@ part_asked shelf reservation id offset len = record {
   len = len;
 }
 
+-- the request reads ahead: it begins in the header of a sensor data record and reaches over it
+abbrev pub reads_ahead : Shelf → ℕ → ℕ → Bool
+reads_ahead Sdr offset len = nat_lt offset 5 && nat_lt 5 (offset + len)
+reads_ahead Sel offset len = false
+
 -- a piece of these bytes that starts at the offset: at least one byte and at most as many as asked
 pub record IsPiece (whole : List ℕ) (offset asked got : ℕ) (into : List ℕ) : Type 0 where
   pub some : 0 < got
@@ -80,8 +96,8 @@ pub record PartAnswers (ask : Asked) (result : Result Part Code) (into : List �
     (old new : Seen) : Type 0 where
   pub change : IsChange old new
   pub gives : MatchResult result (λ part. (row : Row) × GivesPiece ask part into old new row)
-      (λ code. FailsWith (1 < ask.len) (look (rows_of ask.shelf new.store) ask.id ≡ None)
-      (class_of code.0) code.0 old new)
+      (λ code. PartFailsWith (reads_ahead ask.shelf ask.offset ask.len) (1 < ask.len)
+      (look (rows_of ask.shelf new.store) ask.id ≡ None) (class_of code.0) code.0 old new)
   pub keeps : MayLoseReservation ask.shelf old new
   pub beside : MayLoseReservation (other ask.shelf) old new
   pub plain : IsTrue old.plain → MatchOption (look (rows_of ask.shelf old.store) ask.id)

@@ -1,10 +1,10 @@
 -- Re-exports the definitions of this crate that its code and proofs use. Declares nothing.
-pub use Rattle.ipmi_bus.specs.Answers.{BytesAnswers, CountsPiece, FailsWith, GivesPiece, PartAnswers, ReserveAnswers, SizeAnswers, ValueAnswers, Asked, part_asked, not_present}
+pub use Rattle.ipmi_bus.specs.Answers.{BytesAnswers, CountsPiece, CountsRefusal, FailsWith, GivesPiece, PartAnswers, PartFailsWith, reads_ahead, ReserveAnswers, SizeAnswers, ValueAnswers, Asked, part_asked, not_present}
 pub use Rattle.ipmi_bus.specs.Bounds.{AreWithin, digits, DigitsAreFew, fru_call_bound, retrying_call_bound, step_call_bound}
 pub use Rattle.ipmi_bus.specs.Calls.{FailureIs, smaller_part}
 pub use Rattle.ipmi_bus.specs.Code.{class_of}
 pub use Rattle.ipmi_bus.specs.CursorState.{CursorState, start_of}
-pub use Rattle.ipmi_bus.specs.Events.{counts_after, zero_counts}
+pub use Rattle.ipmi_bus.specs.Events.{counts_after, part_failed, zero_counts}
 pub use Rattle.ipmi_bus.specs.Failures.{HasMet, ValueFailureIs}
 pub use Rattle.ipmi_bus.specs.FruRetrieval.{CountFrom, FruEnds, FruNext, FruSince, HasSize, read_call_bound, ReadsWithTries, SameInventory, SizeFails, TakesSize}
 pub use Rattle.ipmi_bus.specs.Grown.{BeginsWith, EachGrew, Grows, OnlyGrew}

@@ -1,9 +1,10 @@
 -- A record being read in parts: what is read so far, and the state after one call.
-use Rattle.std.specs.Prelude.{◌≡◌, ℕ, min, ◌+◌, ◌-◌, ◌*◌, ◌<◌, ◌≤◌, Bool, true, false, IsTrue, MatchResult, nat_lt, if◌then◌else◌, Option, None, Some, IsSome, Result, Ok, Err, List, length, take, slice_index}
+use Rattle.std.specs.Prelude.{◌≡◌, ℕ, min, ◌+◌, ◌-◌, ◌*◌, ◌<◌, ◌≤◌, Bool, true, false, IsTrue, ◌&&◌, ◌⊎◌, MatchResult, nat_lt, if◌then◌else◌, Option, None, Some, IsSome, Result, Ok, Err, List, length, take, slice_index}
 use Rattle.ipmi_text.specs.SdrHeader.{sdr_len}
 use Rattle.ipmi_bus.specs.Types.{Absent, Again, Busy, CallOutcome, Cancelled, Code, CodeClass, Ended, GaveUp, Malformed, NotPresent, Over, Part, Refusal, Refused, Retrieval, Sdr, Sel, Shelf, SmallerPart, Stalled, Whole}
 use Rattle.ipmi_bus.specs.Shelf.{Row, look, largest_len}
 use Rattle.ipmi_bus.specs.Store.{rows_of}
+use Rattle.ipmi_bus.specs.Answers.{reads_ahead}
 use Rattle.ipmi_bus.specs.Seen.{Seen, current}
 use Rattle.ipmi_bus.specs.Tries.{LastCallSays, LastFailed, RefusesRecord}
 use Rattle.ipmi_bus.specs.Bounds.{digits}
@@ -35,8 +36,8 @@ pub record IsOpenRecord (r : Retrieval) : Type 0 where
   pub troubles : r.troubles ≤ r.tries
   pub reserved : 0 < r.have → IsSome r.reservation
 
--- what a call does not change, that the part size does not grow, and that reading ahead is not
--- begun
+-- What a call does not change, that the part size does not grow, and that reading ahead is not begun.
+-- It goes on while the part size stays, and ends at the latest when that falls below 16.
 pub record SameRequest (old new : Retrieval) : Type 0 where
   pub shelf : new.shelf ≡ old.shelf
   pub tries : new.tries ≡ old.tries
@@ -44,6 +45,8 @@ pub record SameRequest (old new : Retrieval) : Type 0 where
   pub part : new.part ≤ old.part
   pub some : 0 < new.part
   pub ahead : IsTrue new.ahead → IsTrue old.ahead
+  pub ahead_stays : new.part ≡ old.part → new.ahead ≡ old.ahead
+  pub ahead_ends : IsTrue new.ahead → (new.part ≡ old.part) ⊎ (16 ≤ new.part)
 
 -- the bytes read so far are those of the row
 pub record HasBytes (r : Retrieval) (seen : Seen) (row : Row) : Type 0 where
@@ -95,13 +98,25 @@ ReserveFails Cancelled code old new result = CountsTrouble false old new result
 ReserveFails Busy code old new result = CountsTrouble false old new result
 ReserveFails _ code old new result = (result ≡ Err (Refused old.id code)) × (new ≡ old)
 
--- the part size is reduced and nothing more is read ahead, or the read stalls because the part size
--- is already one byte
+-- the part size is reduced, and reading ahead goes on if more than 32 bytes were asked for; or the
+-- read stalls because the part size is already one byte
 abbrev pub MakesSmaller : ℕ → Retrieval → Retrieval → Result CallOutcome Ended → Type 0
 MakesSmaller asked old new result = MatchResult result
     (λ turn. (turn ≡ Again) × (smaller_part asked ≡ Some new.part)
-    × (new ≡ record old { part = new.part; ahead = false }))
+    × (new ≡ record old { part = new.part; ahead = old.ahead && nat_lt 32 asked }))
     (λ ended. (ended ≡ Stalled old.id) × (smaller_part asked ≡ None) × (new ≡ old))
+
+-- The request read ahead: its code is kept from the caller. The part size is reduced, and nothing more
+-- is read ahead, so the header is asked for next.
+abbrev pub StopsReadingAhead : ℕ → Retrieval → Retrieval → Result CallOutcome Ended → Type 0
+StopsReadingAhead asked old new result =
+    (result ≡ Ok Again) × (smaller_part asked ≡ Some new.part)
+    × (new ≡ record old { part = new.part; ahead = false })
+
+abbrev pub RefusesPart : Bool → Code → ℕ → Retrieval → Retrieval → Result CallOutcome Ended → Type 0
+RefusesPart true code asked old new result = StopsReadingAhead asked old new result
+RefusesPart false code asked old new result =
+    (result ≡ Err (Refused old.id code)) × (new ≡ old)
 
 -- a failed call for a part of `asked` bytes, by the class of its code
 abbrev pub PartFails : CodeClass → Code → ℕ → Retrieval → Retrieval → Result CallOutcome Ended
@@ -111,7 +126,7 @@ PartFails Busy code asked old new result = CountsTrouble false old new result
 PartFails SmallerPart code asked old new result = MakesSmaller asked old new result
 PartFails NotPresent code asked old new result = (result ≡ Ok (Over Absent)) × (new ≡ old)
 PartFails Refusal code asked old new result =
-    (result ≡ Err (Refused old.id code)) × (new ≡ old)
+    RefusesPart (reads_ahead old.shelf old.have asked) code asked old new result
 
 -- the retrieval after a part is received
 abbrev pub after_part : Part → Retrieval → Retrieval

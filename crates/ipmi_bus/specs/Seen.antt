@@ -11,7 +11,8 @@ use Rattle.ipmi_bus.specs.Store.{Store, IsStore, rows_of}
 -- `store`, and the one that it replaces becomes the first of `earlier`. The counters have no upper
 -- limit. `most_asked` is the largest part asked for, in bytes; `last_asked` is that of the last call,
 -- 0 if it was not for a part; `last_failure` is its code, if it failed. Fresh troubles are those since
--- something was finished. `last_code` is the code of the last refusal.
+-- something was finished. `last_code` is the code of the last refusal. A refusal to read ahead is not
+-- counted as one.
 pub record Seen : Type 0 where
   pub store : Store
   pub earlier : List Store

@@ -25,13 +25,16 @@ cycle_at _ ids = None
 
 -- ---- over any controller
 
--- the shelf and the tries are unchanged, the part size does not grow, and reading ahead is not begun
+-- The shelf and the tries are unchanged, the part size does not grow, and reading ahead is not begun. It
+-- goes on while the part size stays, and ends at the latest when that falls below 16.
 pub record KeepsSettings (old new : CursorState) : Type 0 where
   pub shelf : new.shelf ≡ old.shelf
   pub tries : new.tries ≡ old.tries
   pub part : new.part ≤ old.part
   pub part_not_zero : 0 < new.part
   pub ahead : IsTrue new.ahead → IsTrue old.ahead
+  pub ahead_stays : new.part ≡ old.part → new.ahead ≡ old.ahead
+  pub ahead_ends : IsTrue new.ahead → (new.part ≡ old.part) ⊎ (16 ≤ new.part)
 
 -- how far the first request for a record may reach: over the header of a sensor data record, or when
 -- reading ahead over the longest that the standard has; an entry of the log is asked for whole

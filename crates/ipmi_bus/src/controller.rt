@@ -1,9 +1,9 @@
 //! The requests that a retrieval sends to a management controller, and what is promised of the answers.
 ghost use Rattle.std.specs.Prelude.{◌≡◌, ◌<◌, ◌≤◌, IfOk, OnErr, length, drop};
-ghost use Rattle.ipmi_bus.specs.Prelude.{Seen, IsCall, failing_code, IsHonest, info_of, reading_of, ReserveAnswers, PartAnswers, ValueAnswers, SizeAnswers, BytesAnswers, part_asked};
+ghost use Rattle.ipmi_bus.specs.Prelude.{Seen, IsCall, failing_code, IsHonest, info_of, reading_of, ReserveAnswers, PartAnswers, ValueAnswers, SizeAnswers, BytesAnswers, part_asked, reads_ahead};
 
 use crate::code::Code;
-use ipmi_text::Reading;
+use ipmi_text::{Reading, SDR_HEADER_LEN};
 
 /// The id that requests a shelf's first record.
 pub const FIRST_RECORD_ID: u16 = 0;
@@ -29,6 +29,15 @@ pub enum Shelf {
     Sdr,
     /// The system event log.
     Sel,
+}
+
+/// Whether a request for `len` bytes at the offset reads ahead: it begins in the header of a sensor data record and
+/// reaches over it, so more is asked for than the header, which says how long the record is.
+pub fn reads_ahead(shelf: Shelf, offset: u8, len: usize) -> bool
+    ensures { result ≡ reads_ahead shelf offset len }
+{
+    let offset = usize::from(offset);
+    shelf == Shelf::Sdr && offset < SDR_HEADER_LEN && len > SDR_HEADER_LEN - offset
 }
 
 /// The answer of Get SDR or Get SEL Entry (IPMI v2.0, sections 33.12 and 31.5), without the data.

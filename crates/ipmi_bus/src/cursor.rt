@@ -204,7 +204,12 @@ impl Cursor {
 
     /// Sets whether the cursor reads ahead. Then it doesn't ask for the header of a sensor data record alone, but for up
     /// to 64 bytes at once, as the longest record of the standard has. So a record costs one request if the controller
-    /// gives it whole. Once a request is too long for the controller, nothing more is read ahead.
+    /// gives it whole.
+    ///
+    /// A refusal of such a request is kept from the caller, whatever its code, since controllers have several for one that
+    /// is too long. Then parts are half as long, nothing more is read ahead, and the header is asked for. After a code for
+    /// a smaller part too parts are half as long, but more is read ahead, unless at most 32 bytes were too many.
+    /// Troubles and CBh mean what they always do: by table 5-2 of IPMI v2.0 they are not about the length.
     pub fn read_ahead(&mut self, ahead: bool)
         ensures { self.new ≡ record self.old { ahead = ahead } }
     {

@@ -16,7 +16,7 @@ mod tally;
 pub use code::{Code, CodeClass};
 pub use controller::{
     Controller, FIRST_RECORD_ID, FruSize, INFO_LEN, LARGEST_INVENTORY_LEN, LARGEST_PART,
-    LARGEST_SDR_LEN, LAST_FRU_DEVICE_ID, NO_NEXT_ID, Part, SEL_ENTRY_LEN, Shelf,
+    LARGEST_SDR_LEN, LAST_FRU_DEVICE_ID, NO_NEXT_ID, Part, SEL_ENTRY_LEN, Shelf, reads_ahead,
 };
 pub use cursor::Cursor;
 pub use inventory_reader::{FruEnded, read_fru, read_fru_retrying_parts};

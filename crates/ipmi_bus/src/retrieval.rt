@@ -5,12 +5,15 @@ ghost use Rattle.ipmi_bus.specs.Prelude.{Retrieval, Seen, AsksAtMost, IsCall, fa
 
 use crate::calls::{Failure, after_failure, asked_len, smaller_part};
 use crate::code::Code;
-use crate::controller::{Controller, LARGEST_SDR_LEN, Part, SEL_ENTRY_LEN, Shelf};
+use crate::controller::{Controller, LARGEST_SDR_LEN, Part, SEL_ENTRY_LEN, Shelf, reads_ahead};
 use crate::step::Ended;
 use ipmi_text::{SDR_HEADER_LEN, sdr_len};
 
 /// The length of the longest sensor data record of the standard in bytes.
 const AHEAD_LEN: usize = 64;
+
+/// Many controllers give at most about 32 bytes at once. One that refuses so few may refuse more than the record has.
+const LEAST_AHEAD_LEN: usize = 32;
 
 /// The result of reading a record.
 #[derive(Clone, Copy)]
@@ -38,7 +41,8 @@ pub(crate) struct Retrieval {
     pub(crate) part: u8,
     /// The number of troubles allowed per record.
     pub(crate) tries: u8,
-    /// The header of a sensor data record is not asked for alone. A code for a smaller part ends this.
+    /// The header of a sensor data record is not asked for alone. A refusal ends this, and a code for a smaller part once
+    /// at most 32 bytes are too many.
     pub(crate) ahead: bool,
     pub(crate) reservation: Option<u16>,
     /// The requested id.
@@ -174,7 +178,8 @@ impl Retrieval {
         ctl.part(self.shelf, reservation, self.id, have as u8, into)
     }
 
-    /// Handles a failed request for `asked` bytes: counts a trouble, reduces the part size, or ends the read.
+    /// Handles a failed request for `asked` bytes: counts a trouble, reduces the part size, or ends the read. A refusal to
+    /// read ahead is kept from the caller: it may mean the length, and the header alone is asked for next.
     fn fail_part(&mut self, code: Code, asked: usize) -> Result<CallOutcome, Ended>
         requires is_open { IsOpenRecord self.old }
         requires asked { asked ≤ self.old.part }
@@ -195,11 +200,16 @@ impl Retrieval {
             }
             Failure::Smaller => {
                 self.part = smaller_part(asked).ok_or(Ended::Stalled(self.id))?;
-                self.ahead = false;
+                self.ahead = self.ahead && asked > LEAST_AHEAD_LEN;
                 Ok(CallOutcome::Again)
             }
             Failure::Absent => Ok(CallOutcome::Over(Found::Absent)),
             Failure::GiveUp => Err(Ended::GaveUp(self.id)),
+            Failure::Refuse if reads_ahead(self.shelf, self.have as u8, asked) => {
+                self.part = (asked / 2) as u8;
+                self.ahead = false;
+                Ok(CallOutcome::Again)
+            }
             Failure::Refuse => Err(Ended::Refused(self.id, code)),
         }
     }

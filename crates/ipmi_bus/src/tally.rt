@@ -14,6 +14,8 @@ pub enum Event {
     /// The call failed with this code. Its class says whether that is a trouble, a refusal, a request for a smaller
     /// part, or that nothing is present.
     Failed(Code),
+    /// The same of a call that read ahead (`reads_ahead`): a refusal counts nothing.
+    FailedAhead(Code),
     /// An answer completed something, such as a record by its last byte.
     Finished,
     /// Another store replaced the previous one.
@@ -32,7 +34,7 @@ impl Model for Tally {
 }
 
 impl Tally {
-    ghost use Rattle.ipmi_bus.specs.Events.{counts_after, zero_counts};
+    ghost use Rattle.ipmi_bus.specs.Events.{counts_after, part_failed, zero_counts};
     ghost use Rattle.ipmi_bus.specs.declared.tally.Event.{Event};
 
     /// All counts are zero.
@@ -61,6 +63,19 @@ impl Tally {
         ensures code { result ≡ code }
     {
         self.count(Event::Failed(code));
+        code
+    }
+
+    /// Counts a failure of a call for a part, which read ahead or did not, with this code, and returns the code.
+    pub fn fail_part(&mut self, ahead: bool, code: Code) -> Code
+        ensures counts { self.new.counts ≡ counts_after self.old.counts (part_failed ahead code) }
+        ensures code { result ≡ code }
+    {
+        self.count(if ahead {
+            Event::FailedAhead(code)
+        } else {
+            Event::Failed(code)
+        });
         code
     }
 }

@@ -1,5 +1,5 @@
 -- A reply to a request as the controller reads it is a reply to the original request.
-use Rattle.std.proofs.Common.{◌≡◌, ◌<◌, ◌≤◌, ◌+◌, ◌==◌, ◌&&◌, nat_le, if◌then◌else◌, ℕ, ◌%◌, ◌/◌, ◌*◌, Some, None, Ok, Err, Result, List, [], drop, refl, sym, subst, arith}
+use Rattle.std.proofs.Common.{◌≡◌, ◌<◌, ◌≤◌, ◌+◌, ◌==◌, ◌&&◌, nat_le, if◌then◌else◌, Bool, min, ℕ, ◌%◌, ◌/◌, ◌*◌, Some, None, Ok, Err, Result, List, [], drop, refl, sym, subst, arith}
 use Rattle.std.proofs.lemmas.Bool.Decides.{nat_tests}
 use Rattle.ipmi_bus.specs.declared.code.Code.{Code}
 use Rattle.ipmi_bus.specs.declared.code.CodeClass.{CodeClass}
@@ -7,7 +7,7 @@ use Rattle.ipmi_bus.specs.declared.code.CodeClass.TheVariants.{Busy, Cancelled, 
 use Rattle.ipmi_bus.specs.declared.controller.Part.{Part}
 use Rattle.ipmi_bus.specs.declared.controller.Shelf.{Shelf}
 use Rattle.ipmi_bus.specs.declared.controller.Shelf.TheVariants.{Sdr, Sel}
-use Rattle.ipmi_bus.specs.Answers.{FailsWith, PartAnswers, part_asked}
+use Rattle.ipmi_bus.specs.Answers.{PartAnswers, part_asked, PartFailsWith, reads_ahead}
 use Rattle.ipmi_bus.specs.Code.{class_of}
 use Rattle.ipmi_bus.specs.Seen.{Seen}
 use Rattle.ipmi_bus.specs.Shelf.{look}
@@ -36,18 +36,19 @@ as_read (InventorySize id) = InventorySize id
 as_read (ReadInventory part) = ReadInventory part
 as_read (Reading lun number) = Reading lun number
 
-fails_more : (A : Type 0) (few more : ℕ) (class : CodeClass) (code : ℕ) (s t : Seen) → few ≤ more → FailsWith (1 < few) A class code s t
-    → FailsWith (1 < more) A class code s t
-fails_more A few more Cancelled code s t le h = h
-fails_more A few more Busy code s t le h = h
-fails_more A few more SmallerPart code s t le h = (omega (arith, h.0, le), h.1)
-fails_more A few more NotPresent code s t le h = h
-fails_more A few more Refusal code s t le h = h
+fails_more : (ahead : Bool) (A : Type 0) (few more : ℕ) (class : CodeClass) (code : ℕ) (s t : Seen) → few ≤ more
+    → PartFailsWith ahead (1 < few) A class code s t → PartFailsWith ahead (1 < more) A class code s t
+fails_more ahead A few more Cancelled code s t le h = h
+fails_more ahead A few more Busy code s t le h = h
+fails_more ahead A few more SmallerPart code s t le h = (omega (arith, h.0, le), h.1)
+fails_more ahead A few more NotPresent code s t le h = h
+fails_more ahead A few more Refusal code s t le h = h
 
 answers_more : (shelf : Shelf) (reservation id offset few more : ℕ) (result : Result Part Code) (into : List ℕ) (s t : Seen) → few ≤ more
+    → reads_ahead shelf offset few ≡ reads_ahead shelf offset more
     → PartAnswers (part_asked shelf reservation id offset few) result into s t
     → PartAnswers (part_asked shelf reservation id offset more) result into s t
-answers_more shelf reservation id offset few more (Ok part) into s t le h = record {
+answers_more shelf reservation id offset few more (Ok part) into s t le same h = record {
   change = h.change;
   gives = (
     h.gives.0,
@@ -68,40 +69,55 @@ answers_more shelf reservation id offset few more (Ok part) into s t le h = reco
   beside = h.beside;
   plain = h.plain;
 }
-answers_more shelf reservation id offset few more (Err code) into s t le h = record {
+answers_more shelf reservation id offset few more (Err code) into s t le same h = record {
   change = h.change;
-  gives = fails_more (look (rows_of shelf t.store) id ≡ None) few more (class_of code.0) code.0 s t le h.gives;
+  gives = subst (λ (ahead : Bool). PartFailsWith ahead (1 < more) (look (rows_of shelf t.store) id ≡ None) (class_of code.0) code.0 s t)
+      same (fails_more (reads_ahead shelf offset few) (look (rows_of shelf t.store) id ≡ None) few more (class_of code.0) code.0 s t le h.gives);
   keeps = h.keeps;
   beside = h.beside;
   plain = h.plain;
 }
 
 -- a reply to a request for fewer bytes is also a reply to a request for more
-pub reply_more : (part : RecordPart) (few : ℕ) (reply : Reply) (s t : Seen) → few ≤ part.count
-    → IsReply (Get (record part { count = few })) reply s t → IsReply (Get part) reply s t
-reply_more part few (Data bytes) s t le h = (
+reply_more : (part : RecordPart) (few : ℕ) (reply : Reply) (s t : Seen) → few ≤ part.count
+    → reads_ahead part.shelf part.offset few ≡ reads_ahead part.shelf part.offset part.count → IsReply (Get (record part { count = few })) reply s t → IsReply (Get part) reply s t
+reply_more part few (Data bytes) s t le same h = (
   (h.0.0, omega (arith, h.0.1, le)),
-  answers_more part.shelf part.reservation part.id part.offset few part.count (Ok (part_in bytes)) (drop 2 bytes) s t le h.1,
+  answers_more part.shelf part.reservation part.id part.offset few part.count (Ok (part_in bytes)) (drop 2 bytes) s t le same h.1,
 )
-reply_more part few (Refused code) s t le h = (
+reply_more part few (Refused code) s t le same h = (
   tt,
-  answers_more part.shelf part.reservation part.id part.offset few part.count (Err (record { 0 = code })) [] s t le h.1,
+  answers_more part.shelf part.reservation part.id part.offset few part.count (Err (record { 0 = code })) [] s t le same h.1,
 )
-reply_more part few Silent s t le h = (
+reply_more part few Silent s t le same h = (
   tt,
-  answers_more part.shelf part.reservation part.id part.offset few part.count (Err (record { 0 = 0xC3 })) [] s t le h.1,
+  answers_more part.shelf part.reservation part.id part.offset few part.count (Err (record { 0 = 0xC3 })) [] s t le same h.1,
 )
 
 count_read_le : (shelf : Shelf) (offset count : ℕ) → for_shelf shelf count (if (offset == 0) && nat_le 16 count then 16 else count) ≤ count
 count_read_le Sdr offset count = omega arith
 count_read_le Sel offset count = grind (arith, nat_tests)
 
+count_read_same : (shelf : Shelf) (offset count : ℕ)
+    → reads_ahead shelf offset (for_shelf shelf count (if (offset == 0) && nat_le 16 count then 16 else count)) ≡ reads_ahead shelf offset count
+count_read_same Sdr offset count = refl
+count_read_same Sel offset count = refl
+
+count_least_same : (shelf : Shelf) (offset count : ℕ) → reads_ahead shelf offset (min count 253) ≡ reads_ahead shelf offset count
+count_least_same Sdr offset count = grind (arith, nat_tests)
+count_least_same Sel offset count = refl
+
+-- a reply of at most 253 bytes
+pub reply_least : (part : RecordPart) (reply : Reply) (s t : Seen) → IsReply (Get (record part { count = min part.count 253 })) reply s t
+    → IsReply (Get part) reply s t
+reply_least part reply s t is = reply_more part (min part.count 253) reply s t (omega arith) (count_least_same part.shelf part.offset part.count) is
+
 pub reply_as_read : (sent : Request) (reply : Reply) (s t : Seen) → IsReply (as_read sent) reply s t → IsReply sent reply s t
 reply_as_read DeviceId reply s t is = is
 reply_as_read (Reserve shelf) reply s t is = is
 reply_as_read (Get part) reply s t is =
     reply_more part (for_shelf part.shelf part.count (if (part.offset == 0) && nat_le 16 part.count then 16 else part.count)) reply s t
-    (count_read_le part.shelf part.offset part.count) is
+    (count_read_le part.shelf part.offset part.count) (count_read_same part.shelf part.offset part.count) is
 reply_as_read (Info shelf) reply s t is = is
 reply_as_read (InventorySize id) reply s t is = is
 reply_as_read (ReadInventory part) reply s t is = is

@@ -2,7 +2,7 @@
 use Rattle.std.proofs.Common.{◌≡◌, ℕ, ◌+◌, ◌-◌, drop, ap, Bool, true, false, Option, Result, Ok, Err, List, [], refl, sym, ◌∙◌, arith, IsTrue, true≢false, MatchResult}
 use Rattle.std.specs.Vec.Iter.{into_iter_deque, into_iter_items, into_iter_len}
 use Rattle.std.proofs.lemmas.List.{drop-drop, nil_from_length}
-use Rattle.ipmi_image.specs.Below.{Shelf, Sdr, Sel, Part, FruSize, Code, CodeClass, Cancelled, Busy, SmallerPart, NotPresent, Refusal, class_of, Store, Seen, held, IsHonest, IsQuiet, IsFinished, IsChange, MayLoseReservation, current, Asked, other, FailsWith, CountsPiece, ReserveAnswers, PartAnswers, ValueAnswers, SizeAnswers, BytesAnswers}
+use Rattle.ipmi_image.specs.Below.{Shelf, Sdr, Sel, Part, FruSize, Code, CodeClass, Cancelled, Busy, SmallerPart, NotPresent, Refusal, class_of, Store, Seen, held, IsHonest, IsQuiet, IsFinished, IsChange, MayLoseReservation, current, Asked, other, FailsWith, PartFailsWith, CountsPiece, ReserveAnswers, PartAnswers, ValueAnswers, SizeAnswers, BytesAnswers}
 use Rattle.ipmi_image.specs.declared.scripted.Turn.{Turn}
 use Rattle.ipmi_image.specs.Prelude.{Turns, Responder, Scripted, seen_as}
 
@@ -15,8 +15,8 @@ pub plainly : (r : Responder) → IsHonest (seen_as false r) → IsHonest (seen_
 plainly r honest = record { said = honest.said; store = honest.store }
 
 -- the answer of a plain controller after a turn is an answer of a controller that is not plain, over the turn and the answer
-module _ {asked most : ℕ} (old : Seen) (r r' : Responder) (plain : old.plain ≡ false)
-    (first : Turns asked (Turn.Answers most) old (seen_as false r))
+module _ {asked most : ℕ} {ahead : Bool} (old : Seen) (r r' : Responder) (plain : old.plain ≡ false)
+    (first : Turns asked ahead (Turn.Answers most) old (seen_as false r))
     (change : IsChange (seen_as true r) (seen_as true r')) where
   abbrev mid : Seen
   mid = seen_as true r
@@ -94,6 +94,22 @@ module _ {asked most : ℕ} (old : Seen) (r r' : Responder) (plain : old.plain �
   given P Q (Ok v) goes gave = goes v gave
   given P Q (Err code) goes gave = fails P Q (class_of code.0) code.0 gave
 
+  part_fails : (reads : Bool) (P Q : Type 0) (class : CodeClass) (code : ℕ)
+      → PartFailsWith reads P Q class code mid answered → PartFailsWith reads P Q class code old new
+  part_fails reads P Q Cancelled code h = fails P Q Cancelled code h
+  part_fails reads P Q Busy code h = fails P Q Busy code h
+  part_fails reads P Q SmallerPart code h = fails P Q SmallerPart code h
+  part_fails reads P Q NotPresent code h = fails P Q NotPresent code h
+  part_fails true P Q Refusal code h = quiet h
+  part_fails false P Q Refusal code h = fails P Q Refusal code h
+
+  part_given : {V : Type 0} {Gave Gives : V → Type 0} (reads : Bool) (P Q : Type 0) (result : Result V Code)
+      → ((v : V) → Gave v → Gives v)
+      → MatchResult result Gave (λ code. PartFailsWith reads P Q (class_of code.0) code.0 mid answered)
+      → MatchResult result Gives (λ code. PartFailsWith reads P Q (class_of code.0) code.0 old new)
+  part_given reads P Q (Ok v) goes gave = goes v gave
+  part_given reads P Q (Err code) goes gave = part_fails reads P Q (class_of code.0) code.0 gave
+
   pub after_reserve : (shelf : Shelf) (number : ℕ) → ReserveAnswers shelf (Ok number) mid answered
       → ReserveAnswers shelf (Ok number) old new
   after_reserve shelf number a = record {
@@ -107,7 +123,7 @@ module _ {asked most : ℕ} (old : Seen) (r r' : Responder) (plain : old.plain �
       → PartAnswers ask result into mid answered → PartAnswers ask result into old new
   after_part ask result into a = record {
     change = changed;
-    gives = given _ _ result
+    gives = part_given _ _ _ result
         (λ part g. (
           g.0,
           record {

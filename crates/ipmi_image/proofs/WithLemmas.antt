@@ -4,11 +4,12 @@ use Rattle.std.specs.List.{list_all}
 use Rattle.std.proofs.lemmas.Bool.Decides.{nat_tests}
 use Rattle.std.proofs.lemmas.List.{drop-map}
 use Rattle.std.proofs.lemmas.List.Elements.{All-head, All-tail}
+use Rattle.ipmi_bus.specs.Answers.{CountsRefusal}
 use Rattle.ipmi_bus.specs.Events.{counts_after, with_failure}
 use Rattle.ipmi_bus.specs.Readers.{ValueIs}
 use Rattle.ipmi_bus.specs.declared.step.Ended.{Ended}
 use Rattle.ipmi_bus.specs.declared.tally.Event.{Event}
-use Rattle.ipmi_image.specs.Below.{AllRows, Asked, Busy, BytesAnswers, Cancelled, Code, CodeClass, class_of, CountsPiece, DistinctIds, FailsWith, FruSize, GivesPiece, held, info_of, IsChange, IsFinished, IsHonest, IsQuiet, IsRow, IsShelf, IsStore, LacksId, look, MayLoseReservation, NotPresent, other, Part, part_asked, PartAnswers, Refusal, ReserveAnswers, Row, Sdr, Seen, Sel, Shelf, SizeAnswers, SmallerPart, stays_refl, Store, ValueAnswers}
+use Rattle.ipmi_image.specs.Below.{AllRows, Asked, Busy, BytesAnswers, Cancelled, Code, CodeClass, class_of, CountsPiece, DistinctIds, FailsWith, PartFailsWith, reads_ahead, FruSize, GivesPiece, held, info_of, IsChange, IsFinished, IsHonest, IsQuiet, IsRow, IsShelf, IsStore, LacksId, look, MayLoseReservation, NotPresent, other, Part, part_asked, PartAnswers, Refusal, ReserveAnswers, Row, Sdr, Seen, Sel, Shelf, SizeAnswers, SmallerPart, stays_refl, Store, ValueAnswers}
 use Rattle.ipmi_image.specs.Prelude.{are_current, are_rows, counts_with, is_row, is_sdr_shelf, is_stale, lacks_id, out_of_range, part_answer, Responder, seen_as, seen_with, with_reservation, with_rows}
 
 -- ---- the test for a well-formed shelf
@@ -239,12 +240,29 @@ module _ (r r' : Responder) (s s' : Seen) where
       reserved (Ok n) is g = (quiet 0 is.counts g.0, g.1)
       reserved (Err code) is g = (fails ⊥ ⊥ (class_of code.0) code.0 0 is.counts g.0, kept Sel r r' s s' is.image is.reservation g.1)
 
+  -- no request for an entry of the log reads ahead
+  entry_fails : (P Q : Type 0) (class : CodeClass) (code asked : ℕ)
+      → r'.tally.counts ≡ record (with_failure class code (counts_after r.tally.counts (Event.Called asked))) { last_failure = Some code }
+      → PartFailsWith false P Q class code s s' → PartFailsWith false P Q class code old new
+  entry_fails P Q Cancelled code asked counts h = fails P Q Cancelled code asked counts h
+  entry_fails P Q Busy code asked counts h = fails P Q Busy code asked counts h
+  entry_fails P Q SmallerPart code asked counts h = fails P Q SmallerPart code asked counts h
+  entry_fails P Q NotPresent code asked counts h = fails P Q NotPresent code asked counts h
+  entry_fails P Q Refusal code asked counts h = fails P Q Refusal code asked counts h
+
+  entry_given : {V : Type 0} {Gave Gives : V → Type 0} (P Q : Type 0) (asked : ℕ) (result : Result V Code)
+      → IsAnswered asked result r r' → ((v : V) → IsCounted asked → Gave v → Gives v)
+      → MatchResult result Gave (λ code. PartFailsWith false P Q (class_of code.0) code.0 s s')
+      → MatchResult result Gives (λ code. PartFailsWith false P Q (class_of code.0) code.0 old new)
+  entry_given P Q asked (Ok v) is goes gave = goes v is.counts gave
+  entry_given P Q asked (Err code) is goes gave = entry_fails P Q (class_of code.0) code.0 asked is.counts gave
+
   pub part_with : (reservation id offset asked : ℕ) (result : Result Part Code) (into : List ℕ) → IsAnswered asked result r r'
       → IsHonest old → PartAnswers (part_asked Sel reservation id offset asked) result into s s'
       → PartAnswers (part_asked Sel reservation id offset asked) result into old new
   part_with reservation id offset asked result into is honest a = record {
     change = changed r r' s s' is.image honest a.change;
-    gives = given _ _ asked result is (λ part counts g. (
+    gives = entry_given _ _ asked result is (λ part counts g. (
       g.0,
       record {
         found = g.1.found;
@@ -302,20 +320,28 @@ module _ (r r' : Responder) (s : Seen) (image : r'.image ≡ r.image) where
   piece_of false h = omega (arith, h)
 
   -- the image fails with no trouble
-  fails_of : (P Q : Type 0) (class : CodeClass) (code : ℕ) → class ≢ Cancelled → class ≢ Busy
-      → FailsWith P Q class code (seen_as true r) (seen_as true r') → FailsWith P Q class code before after
-  fails_of P Q Cancelled code not not_busy h = absurd (not refl)
-  fails_of P Q Busy code not not_busy h = absurd (not_busy refl)
-  fails_of P Q SmallerPart code not not_busy h = let q = h.1 in (h.0, omega (arith, q))
-  fails_of P Q NotPresent code not not_busy h = let q = h.1 in (h.0, omega (arith, q))
-  fails_of P Q Refusal code not not_busy h = omega (arith, h)
+  fails_of : (ahead : Bool) (P Q : Type 0) (class : CodeClass) (code : ℕ) → class ≢ Cancelled → class ≢ Busy
+      → PartFailsWith ahead P Q class code (seen_as true r) (seen_as true r') → PartFailsWith ahead P Q class code before after
+  fails_of ahead P Q Cancelled code not not_busy h = absurd (not refl)
+  fails_of ahead P Q Busy code not not_busy h = absurd (not_busy refl)
+  fails_of ahead P Q SmallerPart code not not_busy h = let q = h.1 in (h.0, omega (arith, q))
+  fails_of ahead P Q NotPresent code not not_busy h = let q = h.1 in (h.0, omega (arith, q))
+  fails_of true P Q Refusal code not not_busy h = omega (arith, h)
+  fails_of false P Q Refusal code not not_busy h = omega (arith, h)
+
+  -- the image refuses a part
+  refuses : (ahead : Bool) (code : ℕ) → CountsRefusal ahead code (seen_as false r) (seen_as false r')
+      → CountsRefusal ahead code before after
+  refuses true code h = omega (arith, h)
+  refuses false code h = omega (arith, h)
 
   pub refused_with : (ask : Asked) (into : List ℕ) → r'.sdr_reservation ≡ r.sdr_reservation → IsHonest before
-      → FailsWith (Unit {0}) (Unit {0}) (class_of out_of_range.0) out_of_range.0 (seen_as false r) (seen_as false r')
+      → PartFailsWith (reads_ahead ask.shelf ask.offset ask.len) (Unit {0}) (Unit {0}) (class_of out_of_range.0) out_of_range.0
+      (seen_as false r) (seen_as false r')
       → PartAnswers ask (Err out_of_range) into before after
   refused_with ask into reservation honest h = record {
     change = unchanged honest;
-    gives = omega (arith, h);
+    gives = refuses (reads_ahead ask.shelf ask.offset ask.len) out_of_range.0 h;
     keeps = kept ask.shelf r r' s s image reservation (still s);
     beside = kept (other ask.shelf) r r' s s image reservation (still s);
     plain = λ p. absurd (true≢false (sym p));
@@ -337,9 +363,9 @@ module _ (r r' : Responder) (s : Seen) (image : r'.image ≡ r.image) where
   part_of : (reservation id offset asked : ℕ) (result : Result Part Code) (into : List ℕ)
       → MatchResult result (λ part. Unit {0}) (λ code. (class_of code.0 ≢ Cancelled) × (class_of code.0 ≢ Busy))
       → MatchResult result (λ part. (row : Row) × GivesPiece (part_asked Sdr reservation id offset asked) part into (seen_as true r) (seen_as true r') row)
-      (λ code. FailsWith (1 < asked) (look r'.image.sdr id ≡ None) (class_of code.0) code.0 (seen_as true r) (seen_as true r'))
+      (λ code. PartFailsWith (reads_ahead Sdr offset asked) (1 < asked) (look r'.image.sdr id ≡ None) (class_of code.0) code.0 (seen_as true r) (seen_as true r'))
       → MatchResult result (λ part. (row : Row) × GivesPiece (part_asked Sdr reservation id offset asked) part into before after row)
-      (λ code. FailsWith (1 < asked) (look r'.image.sdr id ≡ None) (class_of code.0) code.0 before after)
+      (λ code. PartFailsWith (reads_ahead Sdr offset asked) (1 < asked) (look r'.image.sdr id ≡ None) (class_of code.0) code.0 before after)
   part_of reservation id offset asked (Ok part) into calm_ g = (
     g.0,
     record {
@@ -350,7 +376,7 @@ module _ (r r' : Responder) (s : Seen) (image : r'.image ≡ r.image) where
       counts = piece_of _ g.1.counts;
     },
   )
-  part_of reservation id offset asked (Err code) into calm_ g = fails_of _ _ (class_of code.0) code.0 calm_.0 calm_.1 g
+  part_of reservation id offset asked (Err code) into calm_ g = fails_of (reads_ahead Sdr offset asked) _ _ (class_of code.0) code.0 calm_.0 calm_.1 g
 
   record_with : (reservation id offset asked : ℕ) (result : Result Part Code) (into : List ℕ)
       → r'.sdr_reservation ≡ r.sdr_reservation → (0 < offset → r.sdr_reservation ≡ Some reservation)

@@ -1,7 +1,7 @@
 -- Re-exports the definitions of lower crates that this crate uses. Declares nothing.
 pub use Rattle.ipmi_text.specs.Bytes.{AreBytes}
 pub use Rattle.ipmi_text.specs.declared.reading.Reading.{Reading}
-pub use Rattle.ipmi_bus.specs.Answers.{Asked, BytesAnswers, CountsPiece, FailsWith, GivesPiece, IsPiece, not_present, other, PartAnswers, ReserveAnswers, SizeAnswers, ValueAnswers, part_asked}
+pub use Rattle.ipmi_bus.specs.Answers.{Asked, BytesAnswers, CountsPiece, FailsWith, GivesPiece, IsPiece, not_present, other, PartAnswers, PartFailsWith, reads_ahead, ReserveAnswers, SizeAnswers, ValueAnswers, part_asked}
 pub use Rattle.ipmi_bus.specs.Code.{class_of}
 pub use Rattle.ipmi_bus.specs.Lent.{row_of_record}
 pub use Rattle.ipmi_bus.specs.Seen.{current, failing_code, held, IsCall, IsChange, IsFinished, IsHonest, IsPlain, IsQuiet, MayLoseReservation, Seen, stays_refl}

@@ -2,7 +2,7 @@
 -- call.
 use Rattle.std.specs.Prelude.{◌≡◌, ◌⊎◌, ℕ, ◌<◌, ◌==◌, nat_lt, max, if◌then◌else◌, Bool, true, false, not, None, Some, Result, Ok, Err, List, [], ◌∷◌}
 use Rattle.std.specs.Vec.Iter.{into_iter_items}
-use Rattle.ipmi_image.specs.Below.{Code, Refusal, Shelf, Sdr, Sel, class_of, Seen, IsCall, IsQuiet, IsChange, MayLoseReservation, FailsWith}
+use Rattle.ipmi_image.specs.Below.{Code, Refusal, Shelf, Sdr, Sel, class_of, Seen, IsCall, IsQuiet, IsChange, MayLoseReservation, PartFailsWith}
 use Rattle.ipmi_image.specs.declared.controller.ImageController.{ImageController}
 use Rattle.ipmi_image.specs.declared.responder.Responder.{Responder}
 use Rattle.ipmi_image.specs.declared.scripted.Mood.{Mood}
@@ -36,17 +36,17 @@ TurnCounts asked (Turn.Answers most) old new =
 TurnCounts asked (Turn.Failed code) old new =
     IsCall asked old new × (new.last_failure ≡ Some code.0)
 
--- the effect of a mood on a call for `asked` bytes: the call is still to be answered, with at most
--- `most` bytes, or it failed
-abbrev pub TurnGives : ℕ → Turn → Seen → Seen → Type 0
-TurnGives asked (Turn.Answers most) old new = IsQuiet old new
-TurnGives asked (Turn.Failed code) old new =
-    FailsWith (1 < asked) ⊥ (class_of code.0) code.0 old new
+-- the effect of a mood on a call for `asked` bytes, which reads ahead or does not: the call is still to
+-- be answered, with at most `most` bytes, or it failed
+abbrev pub TurnGives : ℕ → Bool → Turn → Seen → Seen → Type 0
+TurnGives asked ahead (Turn.Answers most) old new = IsQuiet old new
+TurnGives asked ahead (Turn.Failed code) old new =
+    PartFailsWith ahead (1 < asked) ⊥ (class_of code.0) code.0 old new
 
 -- before the answer, the controller may change its store and cancel its reservations
-pub record Turns (asked : ℕ) (turn : Turn) (old new : Seen) : Type 0 where
+pub record Turns (asked : ℕ) (ahead : Bool) (turn : Turn) (old new : Seen) : Type 0 where
   pub change : IsChange old new
-  pub gives : TurnGives asked turn old new
+  pub gives : TurnGives asked ahead turn old new
   pub sdr : MayLoseReservation Sdr old new
   pub sel : MayLoseReservation Sel old new
 

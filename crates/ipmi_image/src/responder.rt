@@ -1,12 +1,14 @@
 //! The answers of an image to a controller's calls.
 ghost use Rattle.std.specs.Prelude.{◌≡◌, ◌+◌, ◌<◌, ◌≤◌, ◌≢◌, true, false, MatchBool, IfOk, OnErr, Ok, ok_or, Some, None, [], length, drop, option_map, unwrap_or};
-ghost use Rattle.ipmi_image.specs.Below.{IsCall, failing_code, look, current, not_present, row_of_record, class_of, IsStore, rows_of, info_of, reading_of, inventory_of, IsHonest, FailsWith, ReserveAnswers, PartAnswers, ValueAnswers, SizeAnswers, BytesAnswers, part_asked};
+ghost use Rattle.ipmi_image.specs.Below.{IsCall, failing_code, look, current, not_present, row_of_record, class_of, IsStore, rows_of, info_of, reading_of, inventory_of, IsHonest, PartFailsWith, ReserveAnswers, PartAnswers, ValueAnswers, SizeAnswers, BytesAnswers, part_asked};
 ghost use Rattle.ipmi_image.specs.Prelude.{chained, first_id, seen_as, place_asked, IsCopied, number_after, with_reservation, part_answer, fru_answer, size_answer, id_of, with_appended, with_image, counts_with};
 
 use crate::earlier::Earlier;
 use crate::image::Image;
 use crate::rows::Rows;
-use ipmi_bus::{Code, Event, FIRST_RECORD_ID, FruSize, INFO_LEN, Part, Record, Shelf, Tally};
+use ipmi_bus::{
+    Code, Event, FIRST_RECORD_ID, FruSize, INFO_LEN, Part, Record, Shelf, Tally, reads_ahead,
+};
 use ipmi_text::Reading;
 
 /// The index of the record that the id requests; 0000h requests the first. The search begins near the index `near`.
@@ -148,18 +150,18 @@ impl Responder {
         self.replace(image);
     }
 
-    /// Counts a call for `asked` bytes that fails with this code, and returns the code.
-    pub(crate) fn fail(&mut self, asked: u8, code: Code) -> Code
+    /// Counts a call for `asked` bytes that fails with this code, and returns the code. `ahead`: the call reads ahead.
+    pub(crate) fn fail(&mut self, asked: u8, ahead: bool, code: Code) -> Code
         ensures code { result ≡ code }
         ensures same { self.new ≡ record self.old { tally = self.new.tally } }
         ensures counted { IsCall asked (seen_as false self.old) (seen_as false self.new) }
         ensures failure { self.new.tally.counts.last_failure ≡ Some code.0 }
         ensures no_store { self.new.tally.counts.stores_added ≡ self.old.tally.counts.stores_added }
-        ensures counts { FailsWith (Unit {0}) (Unit {0}) (class_of code.0) code.0
+        ensures counts { PartFailsWith ahead (Unit {0}) (Unit {0}) (class_of code.0) code.0
             (seen_as false self.old) (seen_as false self.new) }
     {
         self.tally.count(Event::Called(asked));
-        self.tally.fail(code)
+        self.tally.fail_part(ahead, code)
     }
 
     /// Counts a call for `asked` bytes that another controller answered, and returns its answer.
@@ -252,7 +254,8 @@ impl Responder {
             return Err(self.tally.fail(Code::CANCELLED));
         }
         let Some(got) = copy_piece(row.bytes, usize::from(offset), most, into) else {
-            return Err(self.tally.fail(Code::OUT_OF_RANGE));
+            let ahead = reads_ahead(shelf, offset, into.len());
+            return Err(self.tally.fail_part(ahead, Code::OUT_OF_RANGE));
         };
         if usize::from(offset) + usize::from(got) == row.bytes.len() {
             self.tally.count(Event::Finished);

@@ -5,7 +5,7 @@ ghost use Rattle.ipmi_image.specs.Prelude.{seen_as, number_after, part_answer, f
 
 use crate::image::Image;
 use crate::responder::Responder;
-use ipmi_bus::{Code, CodeClass, Controller, FruSize, LARGEST_PART, Part, Shelf};
+use ipmi_bus::{Code, CodeClass, Controller, FruSize, LARGEST_PART, Part, Shelf, reads_ahead};
 use ipmi_text::Reading;
 use std::vec::IntoIter;
 
@@ -44,11 +44,11 @@ pub struct Scripted {
     moods: IntoIter<Mood>,
 }
 
-/// Applies the mood to a call for `asked` bytes.
-fn mood_turn(responder: &mut Responder, mood: Mood, asked: u8) -> Turn
+/// Applies the mood to a call for `asked` bytes. `ahead`: the call reads ahead.
+fn mood_turn(responder: &mut Responder, mood: Mood, asked: u8, ahead: bool) -> Turn
     ensures counts { TurnCounts asked result (seen_as false responder.old) (seen_as false responder.new) }
     ensures turns { IsHonest (seen_as false responder.old) →
-        Turns asked result (seen_as false responder.old) (seen_as false responder.new) }
+        Turns asked ahead result (seen_as false responder.old) (seen_as false responder.new) }
     ensures exact { result ≡ mood_turn asked mood }
     ensures leaves { responder.new ≡ record (after_mood mood responder.old)
         { near = responder.new.near; tally = responder.new.tally } }
@@ -57,18 +57,18 @@ fn mood_turn(responder: &mut Responder, mood: Mood, asked: u8) -> Turn
         Mood::Grant(most) => Turn::Answers(most.max(1)),
         Mood::Cancel => {
             responder.forget();
-            Turn::Failed(responder.fail(asked, Code::CANCELLED))
+            Turn::Failed(responder.fail(asked, ahead, Code::CANCELLED))
         }
-        Mood::Busy => Turn::Failed(responder.fail(asked, Code::NODE_BUSY)),
+        Mood::Busy => Turn::Failed(responder.fail(asked, ahead, Code::NODE_BUSY)),
         Mood::TooLong => {
             if asked > 1 {
-                return Turn::Failed(responder.fail(asked, Code::TOO_MANY_BYTES));
+                return Turn::Failed(responder.fail(asked, ahead, Code::TOO_MANY_BYTES));
             }
             Turn::Answers(LARGEST_PART)
         }
         Mood::Refuse(code) => {
             if code.0 != 0 && code.class() == CodeClass::Refusal {
-                return Turn::Failed(responder.fail(asked, code));
+                return Turn::Failed(responder.fail(asked, ahead, code));
             }
             Turn::Answers(LARGEST_PART)
         }
@@ -99,19 +99,20 @@ impl Scripted {
         }
     }
 
-    /// Uses up one mood on a call for `asked` bytes; `asked` is 0 for a call that requests no part.
+    /// Uses up one mood on a call for `asked` bytes; `asked` is 0 for a call that requests no part. `ahead`: the call reads
+    /// ahead.
     #[tactic(auto, using(crate::proofs::ScriptLemmas::no_moods_left))]
-    fn turn(&mut self, asked: u8) -> Turn
+    fn turn(&mut self, asked: u8, ahead: bool) -> Turn
         ensures counts { TurnCounts asked result (script_seen self.old) (script_seen self.new) }
         ensures turns { IsHonest (script_seen self.old) →
-            Turns asked result (script_seen self.old) (script_seen self.new) }
+            Turns asked ahead result (script_seen self.old) (script_seen self.new) }
         ensures used { moods_left self.new ≡ drop 1 (moods_left self.old) }
         ensures exact { result ≡ mood_turn asked (next_mood (moods_left self.old)) }
         ensures leaves { StaysAfterMood self.old self.new }
     {
         match self.moods.next() {
             None => Turn::Answers(LARGEST_PART),
-            Some(mood) => mood_turn(&mut self.responder, mood, asked),
+            Some(mood) => mood_turn(&mut self.responder, mood, asked, ahead),
         }
     }
 }
@@ -129,7 +130,7 @@ impl Controller for Scripted {
         ensures used { moods_left self.new ≡ drop 1 (moods_left self.old) }
         ensures leaves { ReservesAfterMood shelf result self.old self.new }
     {
-        match self.turn(0) {
+        match self.turn(0, false) {
             Turn::Answers(_) => Ok(self.responder.reserve(shelf)),
             Turn::Failed(code) => Err(code),
         }
@@ -160,7 +161,8 @@ impl Controller for Scripted {
         ensures used { moods_left self.new ≡ drop 1 (moods_left self.old) }
         ensures leaves { StaysAfterMood self.old self.new }
     {
-        match self.turn(into.len() as u8) {
+        let ahead = reads_ahead(shelf, offset, into.len());
+        match self.turn(into.len() as u8, ahead) {
             Turn::Answers(most) => self
                 .responder
                 .part(shelf, reservation, id, offset, most, into),
@@ -178,7 +180,7 @@ impl Controller for Scripted {
         ensures used { moods_left self.new ≡ drop 1 (moods_left self.old) }
         ensures leaves { StaysAfterMood self.old self.new }
     {
-        match self.turn(0) {
+        match self.turn(0, false) {
             Turn::Answers(_) => self.responder.info(shelf),
             Turn::Failed(code) => Err(code),
         }
@@ -195,7 +197,7 @@ impl Controller for Scripted {
         ensures used { moods_left self.new ≡ drop 1 (moods_left self.old) }
         ensures leaves { StaysAfterMood self.old self.new }
     {
-        match self.turn(0) {
+        match self.turn(0, false) {
             Turn::Answers(_) => self.responder.reading(lun, number),
             Turn::Failed(code) => Err(code),
         }
@@ -211,7 +213,7 @@ impl Controller for Scripted {
         ensures used { moods_left self.new ≡ drop 1 (moods_left self.old) }
         ensures leaves { StaysAfterMood self.old self.new }
     {
-        match self.turn(0) {
+        match self.turn(0, false) {
             Turn::Answers(_) => self.responder.fru_size(id),
             Turn::Failed(code) => Err(code),
         }
@@ -234,7 +236,7 @@ impl Controller for Scripted {
         ensures used { moods_left self.new ≡ drop 1 (moods_left self.old) }
         ensures leaves { StaysAfterMood self.old self.new }
     {
-        match self.turn(into.len() as u8) {
+        match self.turn(into.len() as u8, false) {
             Turn::Answers(most) => self.responder.fru_part(id, offset, most, into),
             Turn::Failed(code) => Err(code),
         }

@@ -3,7 +3,7 @@
 use crate::current::are_current;
 use crate::image::Image;
 use crate::responder::Responder;
-use ipmi_bus::{Code, Controller, FruSize, LARGEST_PART, Part, Shelf};
+use ipmi_bus::{Code, Controller, FruSize, LARGEST_PART, Part, Shelf, reads_ahead};
 use ipmi_text::Reading;
 
 /// A controller over another one, the machine. It answers calls for sensor data records, and reserves them, from an image. Any
@@ -102,7 +102,11 @@ impl<C: Controller> WithRecords<C> {
     {
         self.records.is_store();
         if !self.records.is_reserved(Shelf::Sdr, reservation, offset) {
-            return Err(self.records.fail(into.len() as u8, Code::OUT_OF_RANGE));
+            let ahead = reads_ahead(Shelf::Sdr, offset, into.len());
+            return Err(
+                self.records
+                    .fail(into.len() as u8, ahead, Code::OUT_OF_RANGE),
+            );
         }
         self.records
             .part(Shelf::Sdr, reservation, id, offset, LARGEST_PART, into)

@@ -12,7 +12,7 @@ use Rattle.ipmi_bus.specs.Code.{class_of}
 use Rattle.ipmi_bus.specs.Seen.{Seen, IsHonest, IsChange, StaysHonest, IsQuiet, IsTroubled, IsFinished, IsRefused, MayLoseReservation, current}
 use Rattle.ipmi_bus.specs.Shelf.{Row, look, id_in}
 use Rattle.ipmi_bus.specs.Store.{Store, rows_of, info_of, inventory_of, reading_of}
-use Rattle.ipmi_bus.specs.Answers.{other, CountsPiece, FailsWith, ReserveAnswers, Asked, GivesPiece, PartAnswers, ValueAnswers, SizeAnswers, BytesAnswers, not_present, part_asked}
+use Rattle.ipmi_bus.specs.Answers.{other, CountsPiece, FailsWith, PartFailsWith, reads_ahead, ReserveAnswers, Asked, GivesPiece, PartAnswers, ValueAnswers, SizeAnswers, BytesAnswers, not_present, part_asked}
 use Rattle.ipmi_raw.specs.Controller.{seen_through}
 use Rattle.ipmi_raw.specs.Answer.{CountsCalls, given, IsAnswer, data_in, first_in, part_in, reading_in, size_in, value_in}
 use Rattle.ipmi_raw.specs.declared.request.Request.{Request}
@@ -91,6 +91,15 @@ fails A B SmallerPart code s t c d h = (h.0, quiet s t c d h.1)
 fails A B NotPresent code s t c d h = (h.0, finished s t c d h.1)
 fails A B Refusal code s t c d h = refused code s t c d h
 
+part_fails : (ahead : Bool) (A B : Type 0) (class : CodeClass) (code : ℕ) (s t : Seen) (c d : Counts)
+    → PartFailsWith ahead A B class code s t → PartFailsWith ahead A B class code (through s c) (through t d)
+part_fails ahead A B Cancelled code s t c d h = fails A B Cancelled code s t c d h
+part_fails ahead A B Busy code s t c d h = fails A B Busy code s t c d h
+part_fails ahead A B SmallerPart code s t c d h = fails A B SmallerPart code s t c d h
+part_fails ahead A B NotPresent code s t c d h = fails A B NotPresent code s t c d h
+part_fails true A B Refusal code s t c d h = quiet s t c d h
+part_fails false A B Refusal code s t c d h = refused code s t c d h
+
 reserve : (shelf : Shelf) (result : Result ℕ Code) (s t : Seen) (c d : Counts) → ReserveAnswers shelf result s t
     → ReserveAnswers shelf result (through s c) (through t d)
 reserve shelf (Ok r) s t c d h = record {
@@ -137,7 +146,7 @@ part ask (Ok given) into s t c d h = record {
 }
 part ask (Err code) into s t c d h = record {
   change = change s t c d h.change;
-  gives = fails (1 < ask.len) (look (rows_of ask.shelf t.store) ask.id ≡ None) (class_of code.0) code.0 s t c d h.gives;
+  gives = part_fails (reads_ahead ask.shelf ask.offset ask.len) (1 < ask.len) (look (rows_of ask.shelf t.store) ask.id ≡ None) (class_of code.0) code.0 s t c d h.gives;
   keeps = loses ask.shelf s t c d h.keeps;
   beside = loses (other ask.shelf) s t c d h.beside;
   plain = λ is. owes_part ask (Err code) s c (h.plain is);

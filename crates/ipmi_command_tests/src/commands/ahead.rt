@@ -63,17 +63,17 @@ fn assert_calls_of_cases(rt: &impl Abort, alloc: Global, cases: &str) {
 }
 
 /// `words|image|moods:calls ..`, then the lines.
-const LISTED: &str = "sdr hex|three|.:4
+const LISTED: &str = "sdr hex|three|.:4 .R:7 ..R:6
 sdr 0001 0002 010051c001aa
 sdr 0002 0003 020051c002bbcc
 sdr 0003 ffff 030051c000
 ====
-sdr hex|sensor and locator|.:3 .B:4 .C:5 .1:4 .1C:6 .L:7 ..L:5
+sdr hex|sensor and locator|.:3 .B:4 .C:5 .1:4 .1C:6 .L:5 ..L:4 .LL:10 .R:7
 sdr 0001 0002 \
     010051013320000103017f680101000000003838000100000100000000000000000000005f5a550000000202000000c84350552054656d70
 sdr 0002 ffff 020051110f200180000000000a0100c450535531
 ====
-sdr list all|sensor and locator|.:4 .L:8
+sdr list all|sensor and locator|.:4 .L:6
 CPU Temp         | 45 degrees C      | ok
 PSU1             | FRU 1             | na
 ====
@@ -84,8 +84,9 @@ sel list 2|log|.:3
 
 // A reservation, a call for each record or entry, and one for the reading of the sensor. A busy answer is one call more, and a
 // cancelled reservation two. After one byte the rest is one call, and is lost if the reservation is. A code for a smaller part (L) is
-// one call more; after it the header is asked for alone, and then parts of 32 bytes. The sensor has 56 bytes, the locator 20. A
-// controller that refuses more than 32 bytes answers as in `.L`.
+// one call more; after it parts have 32 bytes, and after the second one 16, and the header is asked for alone. After a refusal (R) it
+// is too, and parts have 32 bytes. The sensor has 56 bytes, the locator 20, the three records 6, 7 and 5. A controller that refuses
+// more than 32 bytes answers as in `.L`.
 #[test]
 fn a_record_is_one_call(rt: HostRuntime) {
     assert_calls_of_cases(&rt, rt.alloc(), LISTED);

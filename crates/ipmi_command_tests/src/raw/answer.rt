@@ -110,7 +110,7 @@ fn part_that_fits(ctl: &mut ImageController, part: RecordPart) -> Reply
 }
 
 /// The reply to Get SDR or Get SEL Entry.
-#[tactic(auto, using(crate::proofs::ReadLemmas::reply_more))]
+#[tactic(auto, using(crate::proofs::ReadLemmas::reply_least))]
 fn part(ctl: &mut ImageController, part: RecordPart) -> Reply
     requires { IsRequest (request.Get part) }
     ensures printed { CanBePrinted result }
