@@ -151,6 +151,7 @@ record Alone (rows : List Row) : Type 0 where
   strict : is_given (codes "strict") rows ≡ false
   json : is_given (codes "json") rows ≡ false
   quiet : is_given (codes "quiet") rows ≡ false
+  partial : is_given (codes "partial") rows ≡ false
   version : is_given (codes "version") rows ≡ false
   help : is_given (codes "help") rows ≡ false
   images : nat_le (length (values_of (codes "image") rows)) 1 ≡ true
@@ -167,7 +168,8 @@ alone rows is =
     let strict = none_or (is_given (codes "strict") rows) _ (not_true _ rest.0) in
     let json = none_or (is_given (codes "json") rows) _ strict.1 in
     let quiet = none_or (is_given (codes "quiet") rows) _ json.1 in
-    let version = none_or (is_given (codes "version") rows) (is_given (codes "help") rows) quiet.1 in
+    let partial = none_or (is_given (codes "partial") rows) _ quiet.1 in
+    let version = none_or (is_given (codes "version") rows) (is_given (codes "help") rows) partial.1 in
     record {
       label = label.0;
       live = live.0;
@@ -177,6 +179,7 @@ alone rows is =
       strict = strict.0;
       json = json.0;
       quiet = quiet.0;
+      partial = partial.0;
       version = version.0;
       help = version.1;
       images = rest.1;
@@ -190,7 +193,7 @@ no_value (Some text) is = absurd (true≢false is)
 all_placed : (options : List Text) (rows : List Row) → Alone rows → has_option options (codes "image") ≡ true
     → misplaced options rows ≡ None
 unfolding misplaced
-all_placed options rows h takes = grind (arith, takes, h.label, h.live, h.records, h.id, h.output, h.strict, h.json, h.quiet)
+all_placed options rows h takes = grind (arith, takes, h.label, h.live, h.records, h.id, h.output, h.strict, h.json, h.quiet, h.partial)
 
 -- ---- the images
 

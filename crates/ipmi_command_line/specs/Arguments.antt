@@ -1,4 +1,4 @@
--- How `clap` parses a command line: fourteen options at any place, and a list of words.
+-- How `clap` parses a command line: fifteen options at any place, and a list of words.
 use Rattle.std.specs.Prelude.{◌&&◌, ◌||◌, nat_lt, nat_le, length, not, is_some, List, [], Some, Bool, true, codes, unwrap_or}
 use Rattle.clap.specs.Simple.{on_top}
 use Rattle.clap.specs.Walk.{is_empty}
@@ -49,9 +49,9 @@ valued_options = with_rule (with_rule (with_rule (with_rule (with_rule four_opti
 
 -- and those without one, and the words
 abbrev pub command_line : App
-command_line = with_rule (with_rule (with_rule (with_rule (with_rule (with_rule valued_options
-    (flag_rule (codes "strict"))) (flag_rule (codes "json"))) (flag_rule (codes "quiet"))) version_rule)
-    help_rule) words_rule
+command_line = with_rule (with_rule (with_rule (with_rule (with_rule (with_rule (with_rule valued_options
+    (flag_rule (codes "strict"))) (flag_rule (codes "json"))) (flag_rule (codes "quiet"))) (flag_rule (codes "partial")))
+    version_rule) help_rule) words_rule
 
 -- `clap` accepts the words; the first is the program's name
 unfoldable pub is_taken : List Text → Bool
@@ -85,7 +85,8 @@ has_other_value rows = has_value (codes "label") rows || (has_value (codes "live
 -- and one without a value
 unfoldable pub has_other_flag : List Row → Bool
 has_other_flag rows = is_given (codes "strict") rows || (is_given (codes "json") rows
-    || (is_given (codes "quiet") rows || (is_given (codes "version") rows || is_given (codes "help") rows)))
+    || (is_given (codes "quiet") rows || (is_given (codes "partial") rows
+    || (is_given (codes "version") rows || is_given (codes "help") rows))))
 
 -- only options of the reference program are given, and at most one image
 abbrev pub is_reference : List Row → Bool

@@ -167,7 +167,8 @@ named_of words from = None
 
 abbrev pub capture_of : Bool → List Row → Option Action
 capture_of whole rows = if whole && (has_value (codes "live") rows && not (has_value (codes "from") rows))
-    then Some (Action.Capture (first_of (codes "output") rows) (is_given (codes "quiet") rows)) else None
+    then Some (Action.Capture (first_of (codes "output") rows) (is_given (codes "quiet") rows) (is_given (codes "partial") rows))
+    else None
 
 abbrev pub rewrite_of : Bool → List Row → Option Action
 rewrite_of whole rows = if whole && (not (has_value (codes "from") rows)

@@ -92,7 +92,7 @@ fn valued_options<'a>(alloc: Global) -> Result<Command<'a>, AllocError>
         .arg(output_rule(alloc))
 }
 
-/// The command line: fourteen options, and any number of words.
+/// The command line: fifteen options, and any number of words.
 fn command_line<'a>(alloc: Global) -> Result<Command<'a>, AllocError>
     ensures { IfOk result (λ c. app_of c ≡ command_line) }
 {
@@ -100,6 +100,7 @@ fn command_line<'a>(alloc: Global) -> Result<Command<'a>, AllocError>
         .arg(flag_rule(alloc, "strict"))?
         .arg(flag_rule(alloc, "json"))?
         .arg(flag_rule(alloc, "quiet"))?
+        .arg(flag_rule(alloc, "partial"))?
         .arg(version_rule(alloc))?
         .arg(help_rule(alloc))?
         .arg(Arg::new(alloc, "words").action(ArgAction::Append))
@@ -168,6 +169,7 @@ fn has_other_flag(matches: &ArgMatches<'_>) -> bool
     is_given(matches, "strict")
         || is_given(matches, "json")
         || is_given(matches, "quiet")
+        || is_given(matches, "partial")
         || is_given(matches, "version")
         || is_given(matches, "help")
 }

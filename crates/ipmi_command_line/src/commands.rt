@@ -64,7 +64,7 @@ const PRINTING: &[&str] = &["image", "live", "records", "json", "label", "strict
 const GETTING: &[&str] = &["image", "live", "records", "json", "label", "strict", "id"];
 
 /// The options of `capture`.
-const CAPTURING: &[&str] = &["live", "output", "quiet"];
+const CAPTURING: &[&str] = &["live", "output", "quiet", "partial"];
 
 /// The options of `image rewrite`.
 const REWRITING: &[&str] = &["image", "strict"];

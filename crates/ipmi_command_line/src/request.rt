@@ -48,8 +48,15 @@ pub enum Action {
     Print(Task, Option<u16>),
     /// Print the block of each sensor with one of these names, from this id on.
     GetSensors(Words, Option<u16>),
-    /// Save a live controller as an image, to this file or to standard output, and perhaps without showing progress.
-    Capture(Option<Word>, bool),
+    /// Save a live controller as an image.
+    Capture {
+        /// The file; None is standard output.
+        output: Option<Word>,
+        /// Progress is not shown.
+        quiet: bool,
+        /// An image that is not whole may replace a whole one.
+        partial: bool,
+    },
     /// Print an image in its canonical spelling.
     Rewrite,
     /// Print a help text.
@@ -445,7 +452,11 @@ fn capture_of<'a>(
     let output = value(matches, "output")
         .map(|text| Word::new(alloc, text))
         .transpose()?;
-    Ok(Action::Capture(output, is_given(matches, "quiet")))
+    Ok(Action::Capture {
+        output,
+        quiet: is_given(matches, "quiet"),
+        partial: is_given(matches, "partial"),
+    })
 }
 
 /// Prints an image in its canonical spelling.
@@ -496,7 +507,7 @@ fn action_of<'a>(
 pub const VALUED: [&str; 6] = ["image", "label", "live", "records", "id", "output"];
 
 /// The options without a value that go with some commands only.
-pub const FLAGS: [&str; 3] = ["strict", "json", "quiet"];
+pub const FLAGS: [&str; 4] = ["strict", "json", "quiet", "partial"];
 
 /// Whether an option is among those of a command.
 #[tactic(auto, using(crate::proofs::CommandLemmas::has_option_is))]

@@ -1,7 +1,7 @@
 -- The lines that name lacking items, and the answers of a controller over a snapshot.
 use Rattle.std.proofs.Common.{◌≡◌, ◌==◌, ℕ, ◌+◌, Bool, true, false, true≢false, cond, find, IfSome, not, Option, None, Some, Result, Ok, Err, List, [], ◌∷◌, ◌++◌, length, option_map, refl, sym, ap, ◌∙◌, arith, codes}
 use Rattle.std.proofs.lemmas.Bool.Decides.{nat_tests}
-use Rattle.ipmi_image.specs.Below.{Busy, Cancelled, class_of, Code, CodeClass, FailsWith, NotPresent, Refusal, Seen, SmallerPart}
+use Rattle.ipmi_image.specs.Below.{Busy, Cancelled, class_of, Code, CodeClass, FailsWith, NotPresent, PartFailsWith, Refusal, Seen, SmallerPart}
 use Rattle.ipmi_image.specs.Prelude.{code_for, ImageFault, is_lack_line, is_third, Item, Lack, lack_of, lack_of_one, lack_of_reading, lacks_then, Line, LineCause, LineFault, may_refuse, pieces, refuses, saved_after, saved_of_image, saved_of_pieces, store_after, store_of_image, the_end, Version, with_three, with_two}
 use Rattle.ipmi_image.proofs.ParseLemmas.{a_word, pieces-join_with_byte}
 use Rattle.ipmi_image.proofs.ReadLemmas.{store_of_image-lines}
@@ -91,11 +91,12 @@ is_lacking asked (lack ∷ lacks) = by (code_for asked (lack ∷ lacks))
     by (Some code) = grind (arith, nat_tests)
 
 -- a call that failed with such a code needs no condition
-pub fails_without : (P Q P' Q' : Type 0) (code : Code) (old new : Seen) → may_refuse code ≡ true
-    → FailsWith P Q (class_of code.0) code.0 old new → FailsWith P' Q' (class_of code.0) code.0 old new
-fails_without P Q P' Q' code old new may = by (class_of code.0) refl
+pub fails_without : (ahead : Bool) (P Q P' Q' : Type 0) (code : Code) (old new : Seen) → may_refuse code ≡ true
+    → PartFailsWith ahead P Q (class_of code.0) code.0 old new → PartFailsWith ahead P' Q' (class_of code.0) code.0 old new
+fails_without ahead P Q P' Q' code old new may = by (class_of code.0) refl
   where
-    by : (class : CodeClass) → class ≡ class_of code.0 → FailsWith P Q class code.0 old new → FailsWith P' Q' class code.0 old new
+    by : (class : CodeClass) → class ≡ class_of code.0 → PartFailsWith ahead P Q class code.0 old new
+        → PartFailsWith ahead P' Q' class code.0 old new
     by Cancelled is fails = fails
     by Busy is fails = fails
     by SmallerPart is fails = absurd (true≢false (sym may ∙ rw (may_refuse, sym is) refl))
@@ -103,9 +104,17 @@ fails_without P Q P' Q' code old new may = by (class_of code.0) refl
     by Refusal is fails = fails
 
 pub fails_any : (P Q : Type 0) (class : CodeClass) (code : ℕ) (old new : Seen)
-    → FailsWith ⊥ ⊥ class code old new → FailsWith P Q class code old new
+    → PartFailsWith false ⊥ ⊥ class code old new → FailsWith P Q class code old new
 fails_any P Q Cancelled code old new fails = fails
 fails_any P Q Busy code old new fails = fails
 fails_any P Q SmallerPart code old new fails = absurd fails.0
 fails_any P Q NotPresent code old new fails = absurd fails.0
 fails_any P Q Refusal code old new fails = fails
+
+pub part_fails_any : (ahead : Bool) (P Q : Type 0) (class : CodeClass) (code : ℕ) (old new : Seen)
+    → PartFailsWith ahead ⊥ ⊥ class code old new → PartFailsWith ahead P Q class code old new
+part_fails_any ahead P Q Cancelled code old new fails = fails
+part_fails_any ahead P Q Busy code old new fails = fails
+part_fails_any ahead P Q SmallerPart code old new fails = absurd fails.0
+part_fails_any ahead P Q NotPresent code old new fails = absurd fails.0
+part_fails_any ahead P Q Refusal code old new fails = fails

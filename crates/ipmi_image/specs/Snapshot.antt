@@ -188,6 +188,13 @@ code_for asked lacks = option_map (λ lack. lack.code) (find (refuses asked) lac
 abbrev pub hides_part : Lack → Bool
 hides_part lack = elim lack.item [ Item.Record shelf id ↦ true | Item.Inventory id ↦ true | _ ↦ false ]
 
+-- a record of the shelf was not read whole
+abbrev pub hides_record : Shelf → Lack → Bool
+hides_record shelf lack = elim lack.item [ Item.Record lacked id ↦ same_shelf lacked shelf | _ ↦ false ]
+
+abbrev pub with_records : Shelf → Saved → Option Store
+with_records shelf saved = if list_any (hides_record shelf) saved.lacks then None else Some saved.store
+
 abbrev pub is_partial : List Lack → Bool
 is_partial lacks = list_any hides_part lacks
 

@@ -1,6 +1,7 @@
 //! What an image lacks, and the lines that say so.
 ghost use Rattle.std.specs.Prelude.{◌≡◌, ◌==◌, true, false, IfSome, length, option_map, find};
-ghost use Rattle.ipmi_image.specs.Prelude.{byte_in, code_for, digit_in, hides, hides_part, is_lack_line, item_in, lack_of_fields, lack_of_one, lack_of_reading, lack_with, may_refuse, pieces, reading_in_fields, refuses, same_shelf, word_in};
+ghost use Rattle.std.specs.List.{list_any};
+ghost use Rattle.ipmi_image.specs.Prelude.{byte_in, code_for, digit_in, hides, hides_part, hides_record, is_lack_line, item_in, lack_of_fields, lack_of_one, lack_of_reading, lack_with, may_refuse, pieces, reading_in_fields, refuses, same_shelf, word_in};
 
 use crate::image_line::{parse_shelf, three, two};
 use crate::text::{cut, read_digit, read_u8, read_u16};
@@ -75,12 +76,29 @@ impl Lack {
         self.item.hides(asked) && may_refuse(self.code)
     }
 
+    /// Whether a record of the shelf was not read whole.
+    fn hides_record(&self, shelf: Shelf) -> bool
+        ensures { result ≡ hides_record shelf self.now }
+    {
+        match self.item {
+            Item::Record(lacked, _) => same_shelf(lacked, shelf),
+            _ => false,
+        }
+    }
+
     /// Whether a record or an inventory was not read whole.
     pub(crate) fn hides_part(&self) -> bool
         ensures { result ≡ hides_part self.now }
     {
         matches!(self.item, Item::Record(..) | Item::Inventory(_))
     }
+}
+
+/// Whether a record of the shelf was not read whole.
+pub(crate) fn hides_records(shelf: Shelf, lacks: &[Lack]) -> bool
+    ensures { result ≡ list_any (hides_record shelf) lacks.now }
+{
+    lacks.iter().any(|lack| lack.hides_record(shelf))
 }
 
 /// The first item without which a request for this one fails.

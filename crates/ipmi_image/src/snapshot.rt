@@ -1,12 +1,13 @@
 //! What a capture saved: an image, and the items that it lacks.
 ghost use Rattle.std.specs.Prelude.{◌≡◌, ◌⊎◌, ◌+◌, ◌≤◌, [], IfOk, IfErr, Ok, Err, length};
 ghost use Rattle.ipmi_image.specs.Below.{IsStore};
-ghost use Rattle.ipmi_image.specs.Prelude.{is_partial, lacks_then, pieces, saved_of_image};
+ghost use Rattle.ipmi_image.specs.Prelude.{is_partial, lacks_then, pieces, saved_of_image, with_records};
 
 use crate::image::{Image, ImageFault};
-use crate::lack::{Lack, parse_lack};
+use crate::lack::{Lack, hides_records, parse_lack};
 use crate::text::cut;
 use crate::version::is_third;
+use ipmi_bus::Shelf;
 use std::alloc::Global;
 use std::marker::Model;
 
@@ -103,6 +104,17 @@ impl Snapshot {
         ensures { result ≡ is_partial self.now.lacks }
     {
         self.lacks.iter().any(|lack| lack.hides_part())
+    }
+
+    /// The image, if no record of the shelf is lacking.
+    pub fn with_records(self, shelf: Shelf) -> Option<Image>
+        ensures { result ≡ with_records shelf self }
+    {
+        let (image, lacks) = self.into_parts();
+        if hides_records(shelf, lacks.as_slice()) {
+            return None;
+        }
+        Some(image)
     }
 
     /// The image and the items that it lacks.

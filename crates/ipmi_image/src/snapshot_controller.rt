@@ -1,12 +1,12 @@
 //! A management controller that answers from a snapshot.
 ghost use Rattle.std.specs.Prelude.{◌≡◌, ◌<◌, ◌≤◌, ◌==◌, false, IfOk, OnErr, MatchOption, Ok, ok_or, None, Some, length, drop};
-ghost use Rattle.ipmi_image.specs.Below.{BytesAnswers, class_of, current, failing_code, FailsWith, info_of, inventory_of, IsCall, IsHonest, look, not_present, PartAnswers, part_asked, reading_of, ReserveAnswers, rows_of, SizeAnswers, ValueAnswers};
+ghost use Rattle.ipmi_image.specs.Below.{BytesAnswers, class_of, current, failing_code, info_of, inventory_of, IsCall, IsHonest, look, not_present, PartAnswers, PartFailsWith, part_asked, reading_of, ReserveAnswers, rows_of, SizeAnswers, ValueAnswers};
 ghost use Rattle.ipmi_image.specs.Prelude.{code_for, fru_answer, Item, number_after, part_answer, seen_as, size_answer, snapshot_answer, snapshot_lacks, snapshot_last_number, snapshot_seen};
 
 use crate::lack::{Item, Lack, code_for};
 use crate::responder::Responder;
 use crate::snapshot::Snapshot;
-use ipmi_bus::{Code, Controller, FruSize, LARGEST_PART, Part, Shelf};
+use ipmi_bus::{Code, Controller, FruSize, LARGEST_PART, Part, Shelf, reads_ahead};
 use ipmi_text::Reading;
 
 /// A controller over a snapshot. It answers like an `ImageController` over the image, but a request for an item that the snapshot
@@ -35,19 +35,20 @@ impl SnapshotController {
         }
     }
 
-    /// The code with which a call for `asked` bytes of the item fails, if it does. Then the call is counted.
-    fn refusal(&mut self, item: Item, asked: u8) -> Option<Code>
+    /// The code with which a call for `asked` bytes of the item fails, if it does. Then the call is counted. `ahead`: the call reads
+    /// ahead.
+    fn refusal(&mut self, item: Item, asked: u8, ahead: bool) -> Option<Code>
         ensures code { result ≡ code_for item self.old.lacks.items }
         ensures same { self.new ≡ record self.old { responder = record self.old.responder { tally = self.new.responder.tally } } }
         ensures counts { MatchOption result (self.new ≡ self.old) (λ code.
             IsCall asked (snapshot_seen self.old) (snapshot_seen self.new)
             × ((snapshot_seen self.new).last_failure ≡ Some code.0)
             × ((snapshot_seen self.new).stores_added ≡ (snapshot_seen self.old).stores_added)
-            × FailsWith ⊥ ⊥ (class_of code.0) code.0 (snapshot_seen self.old) (snapshot_seen self.new)
+            × PartFailsWith ahead ⊥ ⊥ (class_of code.0) code.0 (snapshot_seen self.old) (snapshot_seen self.new)
             × ((snapshot_seen self.old).plain ≡ false)) }
     {
         let code = code_for(item, self.lacks.as_slice())?;
-        Some(self.responder.fail(asked, code))
+        Some(self.responder.fail(asked, ahead, code))
     }
 }
 
@@ -91,7 +92,8 @@ impl Controller for SnapshotController {
         ensures last { snapshot_last_number self.new ≡ snapshot_last_number self.old }
         ensures lacks { snapshot_lacks self.new ≡ snapshot_lacks self.old }
     {
-        match self.refusal(Item::Record(shelf, id), into.len() as u8) {
+        let ahead = reads_ahead(shelf, offset, into.len());
+        match self.refusal(Item::Record(shelf, id), into.len() as u8, ahead) {
             Some(code) => Err(code),
             None => {
                 self.responder
@@ -110,7 +112,7 @@ impl Controller for SnapshotController {
         ensures last { snapshot_last_number self.new ≡ snapshot_last_number self.old }
         ensures lacks { snapshot_lacks self.new ≡ snapshot_lacks self.old }
     {
-        match self.refusal(Item::Info(shelf), 0) {
+        match self.refusal(Item::Info(shelf), 0, false) {
             Some(code) => Err(code),
             None => self.responder.info(shelf),
         }
@@ -126,7 +128,7 @@ impl Controller for SnapshotController {
         ensures last { snapshot_last_number self.new ≡ snapshot_last_number self.old }
         ensures lacks { snapshot_lacks self.new ≡ snapshot_lacks self.old }
     {
-        match self.refusal(Item::Reading { lun, number }, 0) {
+        match self.refusal(Item::Reading { lun, number }, 0, false) {
             Some(code) => Err(code),
             None => self.responder.reading(lun, number),
         }
@@ -142,7 +144,7 @@ impl Controller for SnapshotController {
         ensures last { snapshot_last_number self.new ≡ snapshot_last_number self.old }
         ensures lacks { snapshot_lacks self.new ≡ snapshot_lacks self.old }
     {
-        match self.refusal(Item::Inventory(id), 0) {
+        match self.refusal(Item::Inventory(id), 0, false) {
             Some(code) => Err(code),
             None => self.responder.fru_size(id),
         }
@@ -164,7 +166,7 @@ impl Controller for SnapshotController {
         ensures last { snapshot_last_number self.new ≡ snapshot_last_number self.old }
         ensures lacks { snapshot_lacks self.new ≡ snapshot_lacks self.old }
     {
-        match self.refusal(Item::Inventory(id), into.len() as u8) {
+        match self.refusal(Item::Inventory(id), into.len() as u8, false) {
             Some(code) => Err(code),
             None => self.responder.fru_part(id, offset, LARGEST_PART, into),
         }

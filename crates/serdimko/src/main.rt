@@ -22,11 +22,12 @@ mod reason;
 mod report;
 mod run_error;
 
-use capture::{Counter, capture_live};
+use capture::{Counter, Target, capture_live};
 use closable::{Closable, Output};
 use driver::Query;
 use help::{SHORT, VERSION, help_on};
 use images::{ImageQuery, fail, image_of, print_images};
+use ipmi_bus::Shelf;
 use ipmi_command_line::{
     Action, Format, Limits, LiveTool, Request, Source, UsageError, UsageFault, Word, Words,
     request_of,
@@ -130,14 +131,17 @@ fn run<E: MessageSink>(rt: &HostRuntime, request: Request, err: &mut E) -> Resul
     match action {
         Action::Help(topic) => print_text(rt, help_on(rt.alloc(), topic)?.as_str(), err),
         Action::Version => print_text(rt, VERSION, err),
-        Action::Capture(output, quiet) => run_capture(
-            rt,
-            &source,
-            settings.limits,
-            output.as_ref(),
+        Action::Capture {
+            output,
             quiet,
-            err,
-        ),
+            partial,
+        } => {
+            let target = Target {
+                file: output.as_ref(),
+                may_replace: partial,
+            };
+            run_capture(rt, &source, settings.limits, target, quiet, err)
+        }
         Action::Print(task, from) => {
             run_query(
                 rt,
@@ -254,7 +258,7 @@ fn run_capture<E: MessageSink>(
     rt: &HostRuntime,
     source: &Source,
     limits: RequestLimits,
-    output: Option<&Word>,
+    target: Target<'_>,
     quiet: bool,
     err: &mut E,
 ) -> Result<u8, AllocError> {
@@ -273,7 +277,7 @@ fn run_capture<E: MessageSink>(
         &mut controller,
         limits,
         host.as_ref(),
-        output,
+        target,
         &mut counter,
         &mut out,
         err,
@@ -314,24 +318,24 @@ fn print_machine<'a, E: MessageSink>(
     let labels = labels_of(alloc, settings.labels(), None)?;
     let report = settings.report(labels.as_slice(), file.as_str(), true);
     let image = match image_of(alloc, &read_input(rt, Some(file))) {
-        Ok(image) => image,
+        Ok(snapshot) => snapshot.with_records(Shelf::Sdr),
         Err(error) => return Ok(fail(alloc, &report, error, out, err)),
     };
-    let mut machine = match WithRecords::of_current(image, machine, settings.limits.tries()) {
+    let current = match image {
+        Some(image) => WithRecords::of_current(image, machine, settings.limits.tries()),
+        None => Err(machine),
+    };
+    let mut machine = match current {
         Ok(mut machine) => {
             return Ok(print_live(alloc, settings, host, query, &mut machine, out, err));
         }
         Err(machine) => machine,
     };
-    let (rule, after) = (
-        ": its info is not that of ",
-        ", whose sensor data records are read",
-    );
     let line = [
         Escaped(file.as_str()),
-        Text(rule),
+        Text(" lacks sensor data records, or its info is not that of "),
         Escaped(name_of(host).0),
-        Text(after),
+        Text(": they are read from there"),
     ];
     let _ = write_message(err, &line);
     Ok(print_live(alloc, settings, host, query, &mut machine, out, err))

@@ -7,4 +7,4 @@ returns-clause-counts c =
     let told = c.in_ok-code.ensures in
     let failed = c.fail.ensures in
     let lacking : (length c.args.self.now.lacks.items == 0) ≡ false = rw (sym c.as_slice.ensures.value) told.lacking in
-    rw (lacking, failed.code) (failed.counted, failed.failure, failed.no_store, fails_without _ _ _ _ c.in_ok-code.code _ _ told.refuses failed.counts, refl)
+    rw (lacking, failed.code) (failed.counted, failed.failure, failed.no_store, fails_without c.args.ahead _ _ _ _ c.in_ok-code.code _ _ told.refuses failed.counts, refl)

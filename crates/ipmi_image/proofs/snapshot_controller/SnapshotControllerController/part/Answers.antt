@@ -1,5 +1,5 @@
 use Rattle.std.proofs.Common.{rules, sym, ◌∙◌, true≢false}
-use Rattle.ipmi_image.proofs.SnapshotLemmas.{fails_any}
+use Rattle.ipmi_image.proofs.SnapshotLemmas.{part_fails_any}
 use Rattle.ipmi_image.proofs.snapshot_controller.SnapshotControllerController.part.Goals as goal
 
 pub returns-in-Some-clause-honest : goal.returns-in-Some-clause-honest
@@ -7,7 +7,7 @@ returns-in-Some-clause-honest c = λ honest.
     let failed = c.in-Some.ensures.counts in
     record {
       change = search rules;
-      gives = fails_any _ _ _ _ _ _ failed.3;
+      gives = part_fails_any _ _ _ _ _ _ _ failed.3;
       keeps = search rules;
       beside = search rules;
       plain = λ plain. absurd (true≢false (sym plain ∙ failed.4));
