@@ -11,5 +11,6 @@ mod mood_order;
 mod moods;
 mod places;
 mod rewritten;
+mod snapshots;
 mod tables;
 mod with_records;

@@ -164,11 +164,11 @@ same_shelf Sdr Sdr = true
 same_shelf Sel Sel = true
 same_shelf a b = false
 
--- without the first item there is no answer to a request for the second; an inventory is not read without its size
+-- Without the first item there is no answer to a request for the second. An inventory is not read without its size; a lacking reading
+-- is only noted.
 abbrev pub hides : Item → Item → Bool
 hides (Item.Record s i) (Item.Record shelf id) = same_shelf s shelf && i == id
 hides (Item.Info s) (Item.Info shelf) = same_shelf s shelf
-hides (Item.Reading l n) (Item.Reading lun number) = l == lun && n == number
 hides (Item.Size i) (Item.Inventory id) = i == id
 hides (Item.Inventory i) (Item.Inventory id) = i == id
 hides lacked asked = false

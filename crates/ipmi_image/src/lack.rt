@@ -39,7 +39,8 @@ fn same_shelf(a: Shelf, b: Shelf) -> bool
 }
 
 impl Item {
-    /// Whether there is no answer to a request for the other item where this one is lacking.
+    /// Whether there is no answer to a request for the other item where this one is lacking. A lacking reading is none that the sensor
+    /// has.
     fn hides(self, asked: Item) -> bool
         ensures { result ≡ hides self asked }
     {
@@ -48,8 +49,6 @@ impl Item {
                 same_shelf(lacked, shelf) && id == asked
             }
             (Item::Info(lacked), Item::Info(shelf)) => same_shelf(lacked, shelf),
-            (Item::Reading { lun: at, number: n }, Item::Reading { lun, number }) => at == lun
-                && n == number,
             (Item::Size(lacked), Item::Inventory(id)) => lacked == id,
             (Item::Inventory(lacked), Item::Inventory(id)) => lacked == id,
             _ => false,

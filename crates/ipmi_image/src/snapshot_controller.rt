@@ -10,7 +10,8 @@ use ipmi_bus::{Code, Controller, FruSize, LARGEST_PART, Part, Shelf, reads_ahead
 use ipmi_text::Reading;
 
 /// A controller over a snapshot. It answers like an `ImageController` over the image, but a request for an item that the snapshot
-/// lacks ends with the code that is noted for it, if that is the code of a refusal or of a busy controller.
+/// lacks ends with the code that is noted for it, if that is the code of a refusal or of a busy controller. A reading that it lacks is
+/// not present.
 #[derive(Drop)]
 pub struct SnapshotController {
     responder: Responder,
@@ -123,15 +124,11 @@ impl Controller for SnapshotController {
         ensures failure { (snapshot_seen self.new).last_failure ≡ failing_code result }
         ensures honest { IsHonest (snapshot_seen self.old) →
             ValueAnswers (reading_of lun number) result (snapshot_seen self.old) (snapshot_seen self.new) }
-        ensures exact { result ≡ snapshot_answer (Item.Reading lun number) (snapshot_lacks self.old)
-            (ok_or (reading_of lun number (snapshot_seen self.old).store) not_present) }
+        ensures exact { result ≡ ok_or (reading_of lun number (snapshot_seen self.old).store) not_present }
         ensures last { snapshot_last_number self.new ≡ snapshot_last_number self.old }
         ensures lacks { snapshot_lacks self.new ≡ snapshot_lacks self.old }
     {
-        match self.refusal(Item::Reading { lun, number }, 0, false) {
-            Some(code) => Err(code),
-            None => self.responder.reading(lun, number),
-        }
+        self.responder.reading(lun, number)
     }
 
     fn fru_size(&mut self, id: u8) -> Result<FruSize, Code>

@@ -7,7 +7,7 @@ returns-in-Some-clause-honest c = λ honest.
     let failed = c.in-Some.ensures.counts in
     record {
       change = search rules;
-      gives = part_fails_any _ _ _ _ _ _ _ failed.3;
+      gives = rw (sym c.reads_ahead-ahead.ensures) (part_fails_any _ _ _ _ _ _ _ failed.3);
       keeps = search rules;
       beside = search rules;
       plain = λ plain. absurd (true≢false (sym plain ∙ failed.4));
