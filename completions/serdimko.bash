@@ -3,7 +3,7 @@
 # It calls no function of the package bash-completion, so that a shell may also read it by itself.
 
 _serdimko() {
-  local options='--image --live --records --from --part --tries --id --strict --json --label --output --quiet --help --version -h -V'
+  local options='--image --live --records --from --part --tries --id --strict --json --label --output --partial --quiet --help --version -h -V'
   local cur=${COMP_WORDS[COMP_CWORD]} word value= plain= line= next=
 
   # What comes before the word: the option whose value it is, whether -- came, and the words without options.

@@ -151,7 +151,7 @@ for dialect in --ipmitool --freeipmi; do
   live $dialect -- --records "$TOOL_IMAGE" sensor
   sent=$(wc -l < "$TOOL_LOG")
   if [ "$sent" -ne $((opening + 47)) ]; then fault "$dialect --records: $sent requests"; fi
-  says 0 "$work/older: its info is not that of the controller, whose sensor data records are read" $dialect -- --records "$work/older" sdr hex
+  says 0 "$work/older lacks sensor data records, or its info is not that of the controller: they are read from there" $dialect -- --records "$work/older" sdr hex
   "$SERDIMKO" --image "$TOOL_IMAGE" sdr hex | cmp -s - "$work/out" || fault "$dialect --records, an older image: differs"
   : > "$TOOL_LOG"
   says 3 "cannot read $work/none: no such file" $dialect -- --records "$work/none" sdr hex
@@ -182,23 +182,45 @@ for dialect in --ipmitool --freeipmi; do
     if [ "$status" -ne 0 ]; then fault "$dialect capture ($TOOL_TROUBLES): status $status"; fi
     captured "$dialect capture ($TOOL_TROUBLES)" "$work/out"
   done
-  # to a file: in one step, and only if the image is whole
+  # to a file: in one step, and only if the connection was not lost
   TOOL_TROUBLES=
   live $dialect -- capture -o "$work/saved" --quiet
   if [ "$status" -ne 0 ] || [ -s "$work/out" ]; then fault "$dialect capture -o: status $status"; fi
   captured "$dialect capture -o" "$work/saved"
   echo before > "$work/saved"
-  for TOOL_TROUBLES in 'refuse=ff,5,6' 'die=9' 'garbage=130' 'cut=100'; do
+  for TOOL_TROUBLES in 'die=9' 'garbage=130' 'cut=100'; do
     live $dialect -- capture -o "$work/saved"
     if [ "$status" -ne 1 ] || [ "$(cat "$work/saved")" != before ] || [ -e "$work/saved.part" ]; then
       fault "$dialect capture -o ($TOOL_TROUBLES): status $status, $(head -n 1 "$work/saved")"
     fi
   done
+  # Without the fourth record and those behind it the image is partial. The file is no image before.
   TOOL_TROUBLES='refuse=ff,5,6'
-  live $dialect -- --part 254 capture
-  if [ "$status" -ne 1 ] || grep -q '^end$' "$work/out" || ! grep -q '^sdr: .*refused with code FFh$' "$work/err"; then
-    fault "$dialect capture, refused: status $status, $(cat "$work/err")"
-  fi
+  says 1 'sdr: record 0004h refused with code FFh' $dialect -- --part 254 capture
+  cp "$work/out" "$work/partial"
+  says 1 'sdr: record 0004h refused with code FFh' $dialect -- --part 254 capture -o "$work/saved"
+  cmp -s "$work/partial" "$work/saved" || fault "$dialect capture -o, partial: $(head -n 2 "$work/saved")"
+  if [ "$(head -n 2 "$work/saved")" != $'ipmi-image 3\nlacks sdr 0004 ff' ]; then fault "$dialect, partial: $(head -n 2 "$work/saved")"; fi
+  # a listing of the records ends where one is lacking, and one of the log is as over the machine
+  "$SERDIMKO" --image "$work/saved" sdr hex > "$work/out" 2> "$work/err"
+  if [ $? -ne 1 ] || [ "$(cat "$work/err")" != 'record 0004h refused with code FFh' ]; then fault "$dialect, partial sdr: $(cat "$work/err")"; fi
+  "$SERDIMKO" --image "$TOOL_IMAGE" sdr hex | head -n 3 | cmp -s - "$work/out" || fault "$dialect, partial sdr: $(cat "$work/out")"
+  "$SERDIMKO" --image "$work/saved" sel list > "$work/out" || fault "$dialect, partial sel: status $?"
+  "$SERDIMKO" --image "$TOOL_IMAGE" sel list | cmp -s - "$work/out" || fault "$dialect, partial sel: differs"
+  "$SERDIMKO" --image "$work/saved" image rewrite | cmp -s - "$work/saved" || fault "$dialect, partial: another spelling"
+  says 0 "$work/saved lacks sensor data records, or its info is not that of the controller: they are read from there" \
+    $dialect -- --records "$work/saved" sdr info
+  # a whole image stays, but with --partial
+  TOOL_TROUBLES=
+  live $dialect -- capture -o "$work/saved"
+  captured "$dialect capture -o after a partial image" "$work/saved"
+  cp "$work/saved" "$work/whole"
+  TOOL_TROUBLES='refuse=ff,5,6'
+  says 1 "sdr: record 0004h refused with code FFh
+$work/saved stays as it is, since this image is not whole: --partial replaces it" $dialect -- --part 254 capture -o "$work/saved"
+  cmp -s "$work/whole" "$work/saved" || fault "$dialect capture -o: a whole image is gone"
+  says 1 'sdr: record 0004h refused with code FFh' $dialect -- --part 254 capture --partial -o "$work/saved"
+  cmp -s "$work/partial" "$work/saved" || fault "$dialect capture --partial -o: $(head -n 2 "$work/saved")"
 done
 TOOL_TROUBLES=
 # It sends no more requests than necessary: one reservation for each shelf, and a refused request only once.

@@ -38,7 +38,8 @@ Options, anywhere, also after the command:
   --strict        status 1 if a fault or a missing device was printed
   --json          an object in a line for each thing, and one at the end
   --label KEY=VALUE  with --json, a text in each object; may come several times
-  --output FILE   capture writes to this file (-o) if the image is whole
+  --output FILE   capture writes to this file (-o)
+  --partial       capture replaces a whole image also by one that is not whole
   --quiet         capture shows no progress
   -h, --help      print help
   -V, --version   print the version
@@ -123,9 +124,9 @@ their infos, the readings of the sensors and the inventories that records name.
 
   serdimko-live -I lanplus -H HOST -U USER -E -- capture -o server.image
 
-What the image lacks is said. If it lacks more than refused values and sizes,
-or empty inventories, it is not whole: the status is 1, and -o writes nothing;
-standard output gets what came, without the last line, 'end'.
+What the image lacks is said, and noted in it. If it lacks a record, or an
+inventory whose size was given, it is not whole: the status is 1, and -o
+replaces a whole image only with --partial.
 --tries N counts for each part of an inventory; --quiet shows no progress.
 ";
 
