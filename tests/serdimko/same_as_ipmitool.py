@@ -105,7 +105,7 @@ WHY_NOT_READ = b": (no such file|is a directory|part of its path is not a direct
 EXPLANATION = rb" \([^\n]+\)"
 WHY_NO_HEADER = (
     rb"( \((it is empty: make an image with 'serdimko-live \.\.\. -- capture', and read it with --image FILE|compressed: unpack it first|line ends are CR LF: use LF alone|line ends are CR: use LF alone|begins with a byte order mark: save it without"
-    rb"|is UTF-16 or UTF-32: save it as UTF-8|not an image: the first line has to be 'ipmi-image 1' or 'ipmi-image 2', with a line feed and no space after it; 'serdimko-live ... -- capture' makes an image)\))"
+    rb"|is UTF-16 or UTF-32: save it as UTF-8|not an image: the first line has to be 'ipmi-image 1', 'ipmi-image 2' or 'ipmi-image 3', with a line feed and no space after it; 'serdimko-live ... -- capture' makes an image)\))"
 )
 
 
