@@ -83,13 +83,12 @@ for dialect in --ipmitool --freeipmi; do
   same $dialect sdr list
   same $dialect sel list
 
-  # a refusal to read ahead is kept back, whatever its code
-  for TOOL_TROUBLES in refuse=d4,3 most=20,ff most=33,c9 most=33; do
-    same $dialect sdr hex
-    same $dialect --part 254 sdr list all
+  # a refusal to read ahead is kept back, whatever its code: the third request is for the second record, the fourth for its header
+  TOOL_TROUBLES='refuse=d4,3'
+  same $dialect sdr hex
+  for TOOL_TROUBLES in most=33,ff most=33,c9 most=33; do
+    same $dialect --part 254 sdr elist
   done
-
-  # the third request is for the second record, and the fourth for its header
   TOOL_TROUBLES='refuse=d4,3,4'
   says 1 'record 0002h refused with code D4h' $dialect -- --part 254 sdr hex
   if [ "$(cat "$work/out")" != "$("$SERDIMKO" --image "$TOOL_IMAGE" sdr hex | head -n 1)" ]; then

@@ -1,5 +1,5 @@
 -- A reply to a request as the controller reads it is a reply to the original request.
-use Rattle.std.proofs.Common.{◌≡◌, ◌<◌, ◌≤◌, ◌+◌, ◌==◌, ◌&&◌, nat_le, if◌then◌else◌, Bool, min, ℕ, ◌%◌, ◌/◌, ◌*◌, Some, None, Ok, Err, Result, List, [], drop, refl, sym, subst, arith}
+use Rattle.std.proofs.Common.{◌≡◌, ◌<◌, ◌≤◌, ◌+◌, ◌==◌, ◌&&◌, nat_le, if◌then◌else◌, Bool, min, ap, ◌∙◌, ℕ, ◌%◌, ◌/◌, ◌*◌, Some, None, Ok, Err, Result, List, [], drop, refl, sym, subst, arith}
 use Rattle.std.proofs.lemmas.Bool.Decides.{nat_tests}
 use Rattle.ipmi_bus.specs.declared.code.Code.{Code}
 use Rattle.ipmi_bus.specs.declared.code.CodeClass.{CodeClass}
@@ -80,7 +80,8 @@ answers_more shelf reservation id offset few more (Err code) into s t le same h 
 
 -- a reply to a request for fewer bytes is also a reply to a request for more
 reply_more : (part : RecordPart) (few : ℕ) (reply : Reply) (s t : Seen) → few ≤ part.count
-    → reads_ahead part.shelf part.offset few ≡ reads_ahead part.shelf part.offset part.count → IsReply (Get (record part { count = few })) reply s t → IsReply (Get part) reply s t
+    → reads_ahead part.shelf part.offset few ≡ reads_ahead part.shelf part.offset part.count
+    → IsReply (Get (record part { count = few })) reply s t → IsReply (Get part) reply s t
 reply_more part few (Data bytes) s t le same h = (
   (h.0.0, omega (arith, h.0.1, le)),
   answers_more part.shelf part.reservation part.id part.offset few part.count (Ok (part_in bytes)) (drop 2 bytes) s t le same h.1,
@@ -108,9 +109,11 @@ count_least_same Sdr offset count = grind (arith, nat_tests)
 count_least_same Sel offset count = refl
 
 -- a reply of at most 253 bytes
-pub reply_least : (part : RecordPart) (reply : Reply) (s t : Seen) → IsReply (Get (record part { count = min part.count 253 })) reply s t
-    → IsReply (Get part) reply s t
-reply_least part reply s t is = reply_more part (min part.count 253) reply s t (omega arith) (count_least_same part.shelf part.offset part.count) is
+pub reply_least : (part : RecordPart) (few : ℕ) (reply : Reply) (s t : Seen) → IsReply (Get (record part { count = few })) reply s t
+    → few ≡ min part.count 253 → IsReply (Get part) reply s t
+reply_least part few reply s t is least =
+    reply_more part few reply s t (omega (arith, least))
+    (ap (λ (n : ℕ). reads_ahead part.shelf part.offset n) least ∙ count_least_same part.shelf part.offset part.count) is
 
 pub reply_as_read : (sent : Request) (reply : Reply) (s t : Seen) → IsReply (as_read sent) reply s t → IsReply sent reply s t
 reply_as_read DeviceId reply s t is = is

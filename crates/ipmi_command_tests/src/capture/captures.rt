@@ -288,11 +288,13 @@ info sel 510100000201000000ffffffff00
 end
 ";
 
+// The request for the record, and the one for its header.
 #[test]
 fn after_a_record_that_is_refused_the_rest_comes(rt: HostRuntime) {
     let alloc = rt.alloc();
     let left = "sdr: record 0002h refused with code C1h\nnot whole\n";
-    assert_capture_in_moods(&rt, alloc, 2, "refuse", ENTRY_REFUSED, left);
+    assert_capture_in_moods(&rt, alloc, 2, "refuse refuse", ENTRY_REFUSED, left);
+    assert_capture_in_moods(&rt, alloc, 2, "refuse", SAVED, "");
 }
 
 #[test]
