@@ -266,7 +266,7 @@ fn run_capture<E: MessageSink>(
     };
     let terminal = Some(rt.stderr()).filter(|stderr| !quiet && stderr.is_terminal());
     let mut counter = Counter::new(terminal);
-    let mut controller = controller_of(rt, live, limits.tries());
+    let mut controller = controller_of(rt, live, limits.tries().count);
     let mut out = buffered_output(rt)?;
     let status = capture_live(
         rt,
@@ -307,7 +307,7 @@ fn print_machine<'a, E: MessageSink>(
     requires { IsQuery query.now }
 {
     let alloc = rt.alloc();
-    let mut machine = controller_of(rt, live, settings.limits.tries());
+    let mut machine = controller_of(rt, live, settings.limits.tries().count);
     let Some(file) = records else {
         return Ok(print_live(alloc, settings, host, query, &mut machine, out, err));
     };
@@ -317,21 +317,17 @@ fn print_machine<'a, E: MessageSink>(
         Ok(image) => image,
         Err(error) => return Ok(fail(alloc, &report, error, out, err)),
     };
-    let mut machine = match WithRecords::of_current(image, machine, settings.limits.tries()) {
+    let mut machine = match WithRecords::of_current(image, machine, settings.limits.tries().count) {
         Ok(mut machine) => {
             return Ok(print_live(alloc, settings, host, query, &mut machine, out, err));
         }
         Err(machine) => machine,
     };
-    let (rule, after) = (
-        ": its info is not that of ",
-        ", whose sensor data records are read",
-    );
     let line = [
         Escaped(file.as_str()),
-        Text(rule),
+        Text(": its info is not that of "),
         Escaped(name_of(host).0),
-        Text(after),
+        Text(", whose sensor data records are read"),
     ];
     let _ = write_message(err, &line);
     Ok(print_live(alloc, settings, host, query, &mut machine, out, err))

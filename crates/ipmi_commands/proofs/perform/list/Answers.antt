@@ -11,3 +11,6 @@ returns-in_err-list_page-clause-runs g c =
 pub returns-clause-runs : goal.returns-clause-runs
 returns-clause-runs g c =
     let page = c.in_ok-list_page.ensures in page_runs c.args.listing.now _ _ (Ok c.in_ok-list_page.field-0) page.ends page.calls page.honest
+
+pub returns-in_err-list_page-clause-parts : goal.returns-in_err-list_page-clause-parts
+returns-in_err-list_page-clause-parts g c = λ h. rw (passed _ _ c.from_residual.ensures.1) (c.in_err-list_page.ensures.parts h)
