@@ -115,10 +115,10 @@ ids_kept : (now next : CursorState) (result : Result (Option Row) Ended) → Han
 ids_kept now next result none leaves = grind arith
 
 -- a step of a listing over this shelf with these tries; `each` is the largest number of calls for a record
-module _ (later : ℕ) {tries : Tries} {each count : ℕ} {shelf : Shelf} {begun now next : CursorState}
+module _ (later : ℕ) {tries each count : ℕ} {shelf : Shelf} {begun now next : CursorState}
     {s s' s'' : Seen} {result : Result (Option Row) Ended}
-    (each_is : each ≡ step_call_bound tries.count (largest_len shelf) + later)
-    (same_shelf : now.shelf ≡ shelf) (same_tries : now.tries ≡ tries.count)
+    (each_is : each ≡ step_call_bound tries (largest_len shelf) + later)
+    (same_shelf : now.shelf ≡ shelf) (same_tries : now.tries ≡ tries)
     (called : HasCalled each count begun now s s') (step : IsStep now next s' s'' result) where
   kept_on : set.len next.ids ≤ 65536 → (IsPlace now.place → IsPlace next.place)
       → KeepsListing begun next

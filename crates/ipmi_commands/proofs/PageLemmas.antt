@@ -184,7 +184,7 @@ page_by_cursor (Err failure) fresh some honest lists = record {
 -- ---- pages, one after another
 
 -- the result of the remaining pages leads to the result of all pages
-abbrev pub LeadsTo : Form → ℕ → List ℕ → List ℕ → Place → Place → Seen → Seen → Output → Output
+abbrev pub LeadsTo : Form → Tries → List ℕ → List ℕ → Place → Place → Seen → Seen → Output → Output
     → Type 0
 LeadsTo form tries all left start now s s' old text =
     (s'' : Seen) (new : Output) (ending : Ending)

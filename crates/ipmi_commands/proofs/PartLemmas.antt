@@ -1,11 +1,11 @@
 -- Where each part of an inventory has tries: the endings of a run that give up no inventory.
-use Rattle.std.proofs.Common.{◌≡◌, false, ℕ, Bool, Option, Result, Ok, Err, List}
+use Rattle.std.proofs.Common.{◌≡◌, false, ℕ, Bool, Option, Result, Ok, Err, List, arith}
 use Rattle.ipmi_commands.specs.Below.{Count, Ending, Failure, FruEnded, Place, Seen}
 use Rattle.ipmi_commands.specs.Named.{end_after, listed_end, walk_of}
 use Rattle.ipmi_commands.specs.declared.named.RecordsEnd.{RecordsEnd}
 use Rattle.ipmi_commands.specs.Run.{EndsInfo}
 use Rattle.ipmi_commands.specs.Output.{Output}
-use Rattle.ipmi_commands.specs.Prelude.{Change, end_of, ending_of, EndsListing, EndsNamed, Entries, entries_job, Form, keeping_last, MayEnd, NameLookup, RetriesParts, Tries, Wording, WritesPiece}
+use Rattle.ipmi_commands.specs.Prelude.{Change, end_of, ending_of, EndsListing, EndsNamed, Entries, entries_job, Form, keeping_last, MayEnd, NameLookup, RetriesParts, RunsNamedInPages, Tries, Wording, WritesPiece}
 
 module _ (tries : Tries) (S : Seen → Type 0) (seen : Seen) where
   -- a listing in a form other than that of devices
@@ -65,3 +65,8 @@ pub job_spares : (tries : Tries) (S : Seen → Type 0) (entries : Entries) (coun
 job_spares tries S entries Count.All from c ending ends = entries_spare tries S c.seen' entries ending ends
 job_spares tries S entries (Count.First n) from c ending ends = entries_spare tries S c.seen' entries ending ends
 job_spares tries S entries (Count.Last n) from c ending ends = entries_spare tries S c.seen' entries ending ends
+
+-- entries with names in pages
+pub pages_spare : {wording : Wording} {from : Option ℕ} {sizes : List ℕ} {c : Change} {ending : Ending} (tries : Tries) (S : Seen → Type 0)
+    → RunsNamedInPages wording from tries sizes c ending → RetriesParts tries S c.seen' ending
+pages_spare {wording = wording} {from = from} {c = c} {ending = ending} tries S runs = events_spare tries S c.seen' wording Count.All from ending runs.ends

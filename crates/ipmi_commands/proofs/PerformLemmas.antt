@@ -2,7 +2,7 @@
 use Rattle.std.proofs.Common.{◌≡◌, false, ℕ, ◌+◌, ◌≤◌, IsTrue, Option, None, Some, Result, Ok, Err, Vec, Global, List, [], ◌∷◌, ◌++◌, option_map, refl, arith}
 use Rattle.ipmi_commands.specs.Below.{Done, LastFailed, NotPresent, Sdr, Shelf, Place, First, Seen, IsHonest, Row, Store, info_of, WalkEnd, Ending, Failure}
 use Rattle.ipmi_commands.specs.Run.{EndsInfo, EndsInventory, ShowsInventory}
-use Rattle.ipmi_commands.specs.Prelude.{LacksInventory, LacksValue, AtEnd, AtRecord, cause_of, Change, change, ending_of, points_at_walk_end, EndsFor, EndsListing, failure_of, Finds, Form, info_plan, inventories_plan, AtInventory, inventory_item, inventory_plan, most_on_walk, IsAllowed, IsAmong, IsInfoText, IsPage, IsPieceOver, IsTextWhile, Item, Job, Listing, listing, listing_plan, IsStopAmong, OfInfo, OfInventory, Plan, row_items, Runs, ReadPoint, next_points, Subject, text_plan, ReadError, Wording, WritesPiece, shown}
+use Rattle.ipmi_commands.specs.Prelude.{LacksInventory, LacksValue, AtEnd, AtRecord, cause_of, Change, change, ending_of, points_at_walk_end, EndsFor, EndsListing, failure_of, Finds, Form, info_plan, inventories_plan, AtInventory, inventory_item, inventory_plan, most_on_walk, IsAllowed, IsAmong, IsInfoText, IsPage, IsPieceOver, IsTextWhile, Item, Job, Listing, listing, listing_plan, IsStopAmong, OfInfo, OfInventory, Plan, row_items, Runs, ReadPoint, next_points, Subject, text_plan, ReadError, Wording, WritesPiece, shown, inventory_call_bound}
 use Rattle.ipmi_commands.specs.Output.{Output, piece_of}
 use Rattle.ipmi_commands.specs.declared.piece.Piece.{Piece}
 use Rattle.ipmi_commands.specs.declared.limits.Tries.{Tries}
@@ -69,7 +69,7 @@ value_ends : (seen : Seen) (unread : ReadError) → LacksValue unread seen
 value_ends seen unread says = grind arith
 
 -- the contract for each result of an info
-module _ (wording : Wording) (shelf : Shelf) (tries : Tries) (s s' : Seen) (calls : s'.calls ≤ s.calls + (tries + 1)) where
+module _ (wording : Wording) (shelf : Shelf) (tries : Tries) (s s' : Seen) (calls : s'.calls ≤ s.calls + (tries.count + 1)) where
   abbrev FoundInfo : Result (Option (Vec ℕ Global)) ReadError → Type 0
   FoundInfo result = IsHonest s → Finds (λ store found. IsInfoText wording shelf (info_of shelf store) (option_map (λ text. text.items) found)) (AtRecord 0 ∷ []) tries s s' result
 

@@ -1,5 +1,6 @@
 -- What reading an inventory tells, with tries for each part of it or for the whole.
-use Rattle.std.proofs.Common.{◌≡◌, ◌==◌, ℕ, zero, suc, ◌+◌, ◌<◌, ◌≤◌, Bool, true, false, IsTrue, Option, None, Some, Result, Ok, Err, Vec, Global, List, [], ◌∷◌, IfErr, inl, if◌then◌else◌, option_map, refl, sym, ap, ne_eqb, ◌∙◌, arith}
+use Rattle.std.proofs.Common.{◌≡◌, ◌==◌, ℕ, zero, suc, ◌+◌, ◌<◌, ◌≤◌, Bool, true, false, IsTrue, Option, None, Some, Result, Ok, Err, Vec, Global, List, [], ◌∷◌, IfErr, inl, if◌then◌else◌, option_map, refl, sym, ap, ◌∙◌, arith}
+use Rattle.std.proofs.lemmas.Bool.Decides.{nat_tests}
 use Rattle.ipmi_bus.specs.declared.code.Code.{Code}
 use Rattle.ipmi_bus.specs.Tries.{IsRefusedWith, WithinTries}
 use Rattle.ipmi_commands.specs.Below.{Failure, FruEnded, inventory_len, inventory_of, InventoryCounts, InventoryIs, IsRefusedOverChange, Keeps, KeepsReservations, PartsCame, PlainMayAnswer, ReadsInventory, ReadsRetryingParts, Seen, StaysHonest, Store}
@@ -54,6 +55,10 @@ told S true id tries s s' result reads =
 abbrev pub Holds : ℕ → Store → Option (Vec ℕ Global) → Type 0
 Holds id store found = option_map (λ bytes. bytes.items) found ≡ inventory_of id store
 
+-- CBh is one of the two
+not_both : (code : ℕ) → (code == 0xCB) ≡ false → code ≡ 0xCB → ⊥
+not_both code other is = grind (arith, nat_tests)
+
 module _ (S : Seen → Type 0) (id : ℕ) (tries : Tries) (s s' : Seen) where
   asks : (result : Result (List ℕ) FruEnded) → Told tries.for_each_part id tries.count s s' result → (cause : Cause)
       → s.troubles ≤ s'.troubles → CountsSo tries s s' cause → (IsTrue s.plain → IsFine cause)
@@ -77,8 +82,11 @@ module _ (S : Seen → Type 0) (id : ℕ) (tries : Tries) (s s' : Seen) where
   abbrev Unread : FruEnded → Type 0
   Unread ended = Told tries.for_each_part id tries.count s s' (Err ended)
 
+  abbrev unread_if : Bool → FruEnded → Result (Option (Vec ℕ Global)) ReadError
+  unread_if absent ended = if absent then Ok None else Err (ReadError.Inventory id ended)
+
   by_code : (code : Code) (absent : Bool) → (code.0 == 0xCB) ≡ absent → Unread (FruEnded.Refused code)
-      → Finds (Holds id) (AtInventory id ∷ []) tries s s' (if absent then Ok None else Err (ReadError.Inventory id (FruEnded.Refused code)))
+      → Finds (Holds id) (AtInventory id ∷ []) tries s s' (unread_if absent (FruEnded.Refused code))
   by_code code true is t =
       let none = rw is at t.counts in record {
         asks = asks (Err (FruEnded.Refused code)) t AtEnd (omega (arith, t.grows, none.0.grows)) (none.0.refusals ∙ t.refusals) (λ p. tt);
@@ -88,7 +96,7 @@ module _ (S : Seen → Type 0) (id : ℕ) (tries : Tries) (s s' : Seen) where
       let refused = rw is at t.counts in record {
         asks = asks (Err (FruEnded.Refused code)) t (Refused (AtInventory id) code.0) (omega (arith, t.grows, refused.grows))
             (refused.refusals ∙ ap (λ (n : ℕ). n + 1) t.refusals, refused.last_code)
-            (λ p. absurd (ne_eqb is (t.plain p).0));
+            (λ p. absurd (not_both code.0 is (t.plain p).0));
         there = inl refl;
       }
 
@@ -131,6 +139,6 @@ module _ (S : Seen → Type 0) (id : ℕ) (tries : Tries) (s s' : Seen) where
       → IfErr (unread_inventory id ended) (λ unread. RetriesParts tries S s' (Err (failure_of unread)))
   parts_unread ended reads = by (is_absent ended)
     where
-      by : (absent : Bool) → IfErr (if absent then Ok None else Err (ReadError.Inventory id ended)) (λ unread. RetriesParts tries S s' (Err (failure_of unread)))
+      by : (absent : Bool) → IfErr (unread_if absent ended) (λ unread. RetriesParts tries S s' (Err (failure_of unread)))
       by true = tt
       by false = given_up ended reads

@@ -134,14 +134,14 @@ MayEnd (Job.AllInventories wording name) c ending = EndsListing (Form.Device wor
 
 -- ---- over an honest controller
 
--- of some calls, one after another and the last of all, none brought bytes, and more than `tries` of them met a trouble
+-- the last calls up to this state: none of them brought bytes, and more than `tries` of them met a trouble
 pub record TroublesInARow (IsState : Seen → Type 0) (tries : ℕ) (seen : Seen) : Type 0 where
   pub first : Seen
   pub calls : ℕ
   pub none : NoneCame IsState calls first seen
   pub troubles : first.troubles + tries < seen.troubles
 
--- where each part of an inventory has tries, it is given up only after more troubles, and no part that brought bytes between them
+-- where each part of an inventory has tries, it is given up only after more troubles than that, with no bytes between them
 abbrev pub RetriesParts : Tries → (Seen → Type 0) → Seen → Ending → Type 0
 RetriesParts tries IsState seen (Err (Failure.Inventory id FruEnded.GaveUp)) =
     IsTrue tries.for_each_part → TroublesInARow IsState tries.count seen

@@ -7,13 +7,27 @@ use ipmi_command_line::Command;
 pub const LIVE_PART: u8 = 64;
 
 /// How many retries a run may make for each record, reading and info, and for each inventory or each part of one.
-#[derive(Clone, Copy, Debug, PartialEq, Eq)]
+#[derive(Clone, Copy)]
 pub struct Tries {
     /// The number of retries.
     pub count: u8,
     /// Whether each part of an inventory has so many: they are counted afresh after each part that brought bytes.
     /// Otherwise the whole inventory has.
     pub for_each_part: bool,
+}
+
+impl Tries {
+    ghost use Rattle.ipmi_commands.specs.Prelude.{for_inventory};
+
+    /// So many for each record, reading, info or inventory.
+    fn for_inventory(count: u8) -> Tries
+        ensures { result ≡ for_inventory count }
+    {
+        Tries {
+            count,
+            for_each_part: false,
+        }
+    }
 }
 
 /// What a run may take of a controller: how many bytes of a record or inventory per request, how many retries, and whether
@@ -40,10 +54,7 @@ impl RequestLimits {
     {
         RequestLimits {
             part,
-            tries: Tries {
-                count: tries,
-                for_each_part: false,
-            },
+            tries: Tries::for_inventory(tries),
             ahead: false,
         }
     }
@@ -56,8 +67,9 @@ impl RequestLimits {
         ensures ahead { result.ahead ≡ true }
     {
         RequestLimits {
+            part,
+            tries: Tries::for_inventory(tries),
             ahead: true,
-            ..RequestLimits::new(part, tries)
         }
     }
 
@@ -68,11 +80,12 @@ impl RequestLimits {
         ensures ahead { result.ahead ≡ self.ahead }
     {
         RequestLimits {
+            part: self.part,
             tries: Tries {
                 count: self.tries.count,
                 for_each_part: true,
             },
-            ..self
+            ahead: self.ahead,
         }
     }
 

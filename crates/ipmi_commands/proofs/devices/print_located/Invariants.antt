@@ -1,6 +1,6 @@
 use Rattle.std.proofs.Common.{◌≡◌, ◌+◌, ◌*◌, ◌≤◌, length}
 use Rattle.ipmi_commands.specs.Below.{AsksAtMost, IsHonest, records_in}
-use Rattle.ipmi_commands.specs.Prelude.{printed}
+use Rattle.ipmi_commands.specs.Prelude.{printed, inventory_call_bound}
 use Rattle.ipmi_commands.proofs.DeviceLemmas.{LeadsLocated}
 use Rattle.ipmi_commands.proofs.devices.print_located.Given as goal
 
