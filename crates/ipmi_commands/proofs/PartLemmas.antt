@@ -1,5 +1,5 @@
 -- Where each part of an inventory has tries: the endings of a run that give up no inventory.
-use Rattle.std.proofs.Common.{◌≡◌, false, ℕ, Bool, Option, Result, Ok, Err, List, arith}
+use Rattle.std.proofs.Common.{◌≡◌, false, ℕ, Bool, Option, Result, Err, List, arith}
 use Rattle.ipmi_commands.specs.Below.{Count, Ending, Failure, FruEnded, Place, Seen}
 use Rattle.ipmi_commands.specs.Named.{end_after, listed_end, walk_of}
 use Rattle.ipmi_commands.specs.declared.named.RecordsEnd.{RecordsEnd}

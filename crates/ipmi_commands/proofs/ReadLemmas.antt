@@ -1,10 +1,9 @@
 -- What reading an inventory tells, with tries for each part of it or for the whole.
-use Rattle.std.proofs.Common.{◌≡◌, ◌==◌, ℕ, zero, suc, ◌+◌, ◌<◌, ◌≤◌, Bool, true, false, IsTrue, Option, None, Some, Result, Ok, Err, Vec, Global, List, [], ◌∷◌, IfErr, inl, if◌then◌else◌, option_map, refl, sym, ap, ◌∙◌, arith}
+use Rattle.std.proofs.Common.{◌≡◌, ◌==◌, ℕ, zero, suc, ◌+◌, ◌≤◌, Bool, true, false, IsTrue, Option, None, Some, Result, Ok, Err, Vec, Global, List, [], ◌∷◌, IfErr, inl, if◌then◌else◌, option_map, refl, sym, ap, ◌∙◌, arith}
 use Rattle.std.proofs.lemmas.Bool.Decides.{nat_tests}
 use Rattle.ipmi_bus.specs.declared.code.Code.{Code}
-use Rattle.ipmi_bus.specs.Tries.{IsRefusedWith, WithinTries}
-use Rattle.ipmi_commands.specs.Below.{Failure, FruEnded, inventory_len, inventory_of, InventoryCounts, InventoryIs, IsRefusedOverChange, Keeps, KeepsReservations, PartsCame, PlainMayAnswer, ReadsInventory, ReadsRetryingParts, Seen, StaysHonest, Store}
-use Rattle.ipmi_commands.specs.Prelude.{AtEnd, AtInventory, AsksAt, Cause, cause_of_unread, CountsSo, failure_of, Finds, FindsIt, FindsNone, GaveUp, is_absent, IsFine, NoMemory, read_call_bound, ReadError, ReadsFor, Refused, RetriesParts, Tries, TroublesInARow, unread_inventory}
+use Rattle.ipmi_commands.specs.Below.{Failure, FruEnded, inventory_len, inventory_of, InventoryCounts, InventoryIs, Keeps, KeepsReservations, PartsCame, PlainMayAnswer, Seen, StaysHonest, Store}
+use Rattle.ipmi_commands.specs.Prelude.{AtEnd, AtInventory, AsksAt, Cause, CountsSo, failure_of, Finds, GaveUp, is_absent, IsFine, NoMemory, read_call_bound, ReadError, ReadsFor, Refused, RetriesParts, Tries, unread_inventory}
 
 -- since a state there were at most as many troubles as tries, or one more; nothing was refused before that state
 pub record Told (each : Bool) (id tries : ℕ) (s s' : Seen) (result : Result (List ℕ) FruEnded) : Type 0 where

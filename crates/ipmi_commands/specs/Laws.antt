@@ -1,5 +1,5 @@
 -- Laws of plans. They follow from the definitions of plans.
-use Rattle.std.specs.Prelude.{◌≡◌, ℕ, List, [], ◌∷◌}
+use Rattle.std.specs.Prelude.{◌≡◌, List, [], ◌∷◌}
 use Rattle.ipmi_commands.specs.Below.{AreBytes, Store, IsStore, Ending}
 use Rattle.ipmi_commands.specs.declared.limits.Tries.{Tries}
 use Rattle.ipmi_commands.specs.declared.job.Detail.{Detail}
