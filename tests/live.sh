@@ -112,6 +112,44 @@ for dialect in --ipmitool --freeipmi; do
   done
 done
 
+# Where one request in seven is busy, each part of an inventory has retries. The 256 bytes of device 0 are 14 parts, and there is a request
+# for their size, so two requests are busy. The text has all fields, as the bytes of the image say, which are ASCII.
+fields_of() {
+  python3 - "$1" << 'END'
+import sys
+inventory = bytes.fromhex("".join(line.split()[2] for line in open(sys.argv[1], encoding="ascii") if line.startswith("fru 00 ")))
+for area, first in ((2, 3), (3, 6), (4, 3)):
+    at = inventory[area] * 8 + first
+    while inventory[at] != 0xC1:
+        after = at + 1 + (inventory[at] & 0x3F)
+        print(inventory[at + 1 : after].decode("ascii"))
+        at = after
+END
+}
+fields_of "$TOOL_IMAGE" | grep . > "$work/fields"
+for dialect in --ipmitool --freeipmi; do
+  opening=0
+  if [ $dialect = --ipmitool ]; then opening=1; fi
+  TOOL_TROUBLES='busy=7'
+  : > "$TOOL_LOG"
+  says 0 '' $dialect -- --part 19 --tries 1 fru print 0
+  sent=$(wc -l < "$TOOL_LOG")
+  if [ "$sent" -ne $((opening + 17)) ]; then fault "$dialect, parts of a busy controller: $sent requests"; fi
+  sed -n 's/^\(Chassis\|Board\|Product\) .*: //p' "$work/out" > "$work/printed"
+  while read -r field; do
+    grep -qxF -- "$field" "$work/printed" || fault "$dialect, parts of a busy controller: no $field"
+  done < "$work/fields"
+  same $dialect --part 19 --tries 1 fru print 0
+  for command in fru 'fru list' 'fru --json'; do
+    # shellcheck disable=SC2086  # the words of a command
+    "$SERDIMKO" --image "$TOOL_IMAGE" $command > "$work/wanted"
+    # shellcheck disable=SC2086
+    live $dialect -- --records "$TOOL_IMAGE" --part 19 --tries 1 $command
+    if [ "$status" -ne 0 ] || ! cmp -s "$work/wanted" "$work/out"; then fault "$dialect $command, parts of a busy controller: $(cat "$work/err")"; fi
+  done
+done
+TOOL_TROUBLES=
+
 # A machine that dies costs `--tries` + 1 requests, and Get Device ID.
 for dialect in --ipmitool --freeipmi; do
   silence='ipmi_cmd_raw: session timeout'

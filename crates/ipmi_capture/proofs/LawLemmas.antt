@@ -11,6 +11,7 @@ use Rattle.ipmi_capture.specs.Left.{EndIsNoted, LacksInfo, LacksInventory, Lacks
 use Rattle.ipmi_capture.specs.declared.left.Left.{Left}
 use Rattle.ipmi_commands.specs.Prelude.{after_names, AtInventory, bytes_of_rows, entries_in, IfChosen, info_plan, inventories_plan, inventory_plan, is_name, IsBlockIn, IsBlockOfName, IsDevicePiece, IsInventoryIn, IsLocatorPiece, IsRowText, Item, last_rows, listing, listing_plan, OfInventory, OnEntries, OnWalk, reading_by, reading_for, row_is_of_kind, row_items, ReadPoint, points_before, view_has_name, with_first_points}
 use Rattle.ipmi_commands.specs.declared.job.Wording.{Wording}
+use Rattle.ipmi_commands.specs.declared.limits.Tries.{Tries}
 use Rattle.ipmi_command_line.specs.declared.task.Count.{Count}
 use Rattle.ipmi_command_line.specs.declared.task.Kind.{Kind}
 use Rattle.ipmi_command_line.specs.declared.task.Task.{Task}
@@ -399,7 +400,7 @@ module _ (exists : WalkExists) (unique : WalkIsUnique) (found : FoundIsRow) (ima
 
   -- a listing of entries with lines of this form
   lines_same : (entries : _) (count : Count) (from : Option ℕ)
-      → SameWalk Sel image store → IsKnownPlace Sel image (start_of from) → (tries tries' : ℕ)
+      → SameWalk Sel image store → IsKnownPlace Sel image (start_of from) → (tries tries' : Tries)
       → OnEntries entries count from tries store (λ plan calls.
       OnEntries entries count from tries' image (λ plan' calls'.
       (plan' ≡ plan) × All (SameText image store) plan.items))
@@ -425,7 +426,7 @@ module _ (exists : WalkExists) (unique : WalkIsUnique) (found : FoundIsRow) (ima
 
   -- events with the names of their sensors: the sensor data records are walked first
   events_same : (wording : Wording) (count : Count) (from : Option ℕ) → SameWalk Sdr image store → SameWalk Sel image store
-      → IsKnownPlace Sel image (start_of from) → (tries tries' : ℕ)
+      → IsKnownPlace Sel image (start_of from) → (tries tries' : Tries)
       → OnWalk Sdr First store (λ sensors end. OnEntries (entries_in wording (bytes_of_rows sensors)) count from tries store (λ plan calls.
       OnWalk Sdr First image (λ sensors' end'. OnEntries (entries_in wording (bytes_of_rows sensors')) count from tries' image (λ plan' calls'.
       (after_names sensors' end' plan' ≡ after_names sensors end plan) × All (SameText image store) (after_names sensors end plan).items))))
@@ -460,7 +461,7 @@ module _ (exists : WalkExists) (unique : WalkIsUnique) (found : FoundIsRow) (ima
 
   -- all devices, with the name of device 0
   devices_same : (wording : Wording) → SameWalk Sdr image store
-      → All (SameInventory image store) (0 ∷ devices_of image.sdr) → (tries tries' : ℕ)
+      → All (SameInventory image store) (0 ∷ devices_of image.sdr) → (tries tries' : Tries)
       → OnWalk Sdr First store (λ records end. let plan = inventories_plan wording (device_name 0 (bytes_of_rows records)) records end in
       OnWalk Sdr First image (λ records' end'. let plan' = inventories_plan wording (device_name 0 (bytes_of_rows records')) records' end' in
       (after_names records' end' plan' ≡ after_names records end plan) × All (SameText image store) (after_names records end plan).items))

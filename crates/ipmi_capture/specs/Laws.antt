@@ -8,6 +8,7 @@ use Rattle.ipmi_capture.specs.declared.left.Left.{Left}
 use Rattle.ipmi_commands.specs.Job.{job_in}
 use Rattle.ipmi_commands.specs.declared.job.Job.{Job}
 use Rattle.ipmi_commands.specs.declared.job.Wording.{Wording}
+use Rattle.ipmi_commands.specs.declared.limits.Tries.{Tries}
 use Rattle.ipmi_commands.specs.Plan.{Item, view_has_name}
 use Rattle.ipmi_commands.specs.Run.{FollowsPlan}
 use Rattle.ipmi_commands.specs.Texts.{IsTextOver, row_is_of_kind}
@@ -44,7 +45,7 @@ SameText image store item = (text : List ℕ)
 -- There is a job, which has the same plan over both stores, and each item has the same texts. So runs that stop at the same item
 -- print the same. The tries may differ, as they affect only the number of calls.
 abbrev pub SamePlan : Option Job → Store → Store → Type 0
-SamePlan (Some job) image store = (tries tries' : ℕ)
+SamePlan (Some job) image store = (tries tries' : Tries)
     → FollowsPlan job tries store (λ plan calls. FollowsPlan job tries' image (λ plan' calls'.
     (plan' ≡ plan) × All (SameText image store) plan.items))
 SamePlan None image store = ⊥

@@ -34,6 +34,7 @@ mod parts;
 mod printed;
 mod record_lengths;
 mod refused_memory;
+mod retried_parts;
 pub(crate) mod saved;
 mod short_outputs;
 mod summaries;

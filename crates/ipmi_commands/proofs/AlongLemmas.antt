@@ -3,6 +3,7 @@ use Rattle.std.proofs.Common.{◌≡◌, ◌⊎◌, inl, inr, ℕ, ◌+◌, ◌<
 use Rattle.std.proofs.lemmas.List.{drop-drop}
 use Rattle.ipmi_commands.specs.Below.{step_call_bound, digits, first_row, len_of, look, Place, Ended, Row, rows_of, WalkEnd, WalkStep, Seen, AsksNothing, CursorState, StandsAt, IsStep, StaysHonest, StepLeaves, asked_at}
 use Rattle.ipmi_commands.specs.Prelude.{CallsAlong, calls_for, calls_for_points, first_rows, Form, IsOnWalk, IsWithin, points_because_of, shelf_of}
+use Rattle.ipmi_commands.specs.declared.limits.Tries.{Tries}
 use Rattle.ipmi_commands.proofs.CallLemmas.{digits_some, first_row-first_rows, next_calls, next_one}
 
 -- the rows within the limit, if the cursor was after k rows of a walk
@@ -14,14 +15,14 @@ abbrev pub left_rows : Option ℕ → ℕ → List Row → ℕ → List Row
 left_rows most count walk k = drop count (used most walk k)
 
 -- the cursor returned `count` rows since it was after k rows, and this many calls are left
-pub record IsAlong (form : Form) (tries : ℕ) (most : Option ℕ) (count : ℕ) (begun now : CursorState)
+pub record IsAlong (form : Form) (tries : Tries) (most : Option ℕ) (count : ℕ) (begun now : CursorState)
     (s s' : Seen) (start : Place) (walk : List Row) (k : ℕ) : Type 0 where
   pub stands : StandsAt (rows_of (shelf_of form) s.store) start walk (k + count) now
   pub calls : s'.calls + digits now.part + calls_for form s.store tries (left_rows most count walk k)
       ≤ s.calls + calls_for form s.store tries (used most walk k) + digits begun.part
 
 -- a cursor that makes no more calls
-pub stopped_along : {form : Form} {tries : ℕ} {most : Option ℕ} {count : ℕ} {begun now : CursorState}
+pub stopped_along : {form : Form} {tries : Tries} {most : Option ℕ} {count : ℕ} {begun now : CursorState}
     {s s' : Seen} {start : Place} {walk : List Row} {k : ℕ}
     → IsAlong form tries most count begun now s s' start walk k → 0 < now.part
     → CallsAlong form tries (used most walk k) begun s s'
@@ -29,11 +30,11 @@ stopped_along {now = now} along some part = omega (arith, along.calls, digits_so
 
 -- ---- its next step, if no store was added
 
-pub record StepsAlong (form : Form) (tries : ℕ) (most : Option ℕ) (count : ℕ) (begun now next : CursorState)
+pub record StepsAlong (form : Form) (tries : Tries) (most : Option ℕ) (count : ℕ) (begun now next : CursorState)
     (s s' s'' : Seen) (result : Result (Option Row) Ended) (start : Place) (walk : List Row) (end : WalkEnd)
     (k : ℕ) : Type 0 where
   pub shelf : now.shelf ≡ shelf_of form
-  pub tries_are : now.tries ≡ tries
+  pub tries_are : now.tries ≡ tries.count
   pub some : 0 < begun.part → 0 < now.part
   pub below : IsWithin most (count + 1)
   pub stays : StaysHonest s s'
@@ -43,7 +44,7 @@ pub record StepsAlong (form : Form) (tries : ℕ) (most : Option ℕ) (count : �
   pub there : IsAlong form tries most count begun now s s' start walk k
   pub step : IsStep now next s' s'' result
 
-module _ {form : Form} {tries : ℕ} {most : Option ℕ} {count : ℕ} {begun now next : CursorState}
+module _ {form : Form} {tries : Tries} {most : Option ℕ} {count : ℕ} {begun now next : CursorState}
     {s s' s'' : Seen} {result : Result (Option Row) Ended} {start : Place} {walk : List Row} {end : WalkEnd}
     {k : ℕ} (a : StepsAlong form tries most count begun now next s s' s'' result start walk end k) where
   same_rows : rows_of now.shelf s'.store ≡ rows_of (shelf_of form) s.store
@@ -63,7 +64,7 @@ module _ {form : Form} {tries : ℕ} {most : Option ℕ} {count : ℕ} {begun no
   for_next : len_of (look (rows_of (shelf_of form) s.store) (asked_at now.place))
       ≡ len_of (first_row (drop (k + count) walk))
       → s''.calls + digits next.part ≤ s'.calls
-      + step_call_bound tries (len_of (first_row (drop (k + count) walk))) + digits now.part
+      + step_call_bound tries.count (len_of (first_row (drop (k + count) walk))) + digits now.part
   for_next is = rw (same_rows, a.tries_are, is) at ((a.step.honest a.stays.honest).calls a.then_)
 
   pub next_row : first_row (left_rows most count walk k) ≡ first_row (drop (k + count) walk)
@@ -85,7 +86,7 @@ asks_something : (now next : CursorState) (row : Row) → StepLeaves now next (O
     → AsksNothing now → ⊥
 asks_something now next row leaves asks = grind arith
 
-module _ {form : Form} {tries : ℕ} {most : Option ℕ} {count : ℕ} {begun now next : CursorState}
+module _ {form : Form} {tries : Tries} {most : Option ℕ} {count : ℕ} {begun now next : CursorState}
     {s s' s'' : Seen} {row : Row} {start : Place} {walk : List Row} {end : WalkEnd} {k : ℕ}
     (a : StepsAlong form tries most count begun now next s s' s'' (Ok (Some row)) start walk end k) where
   pub row_is : left_rows most count walk k ≡ row ∷ left_rows most (count + 1) walk k

@@ -3,6 +3,7 @@ use Rattle.std.proofs.Common.{◌≡◌, ◌⊎◌, inl, inr, ℕ, Bool, false, 
 use Rattle.ipmi_commands.specs.Below.{CodeClass, CursorState, End, Failure, RefusesRecord, RefusesValue, IsStep, StepLeaves, Ended, Seen, IsHonest}
 use Rattle.ipmi_commands.specs.Run.{MayEndOn}
 use Rattle.ipmi_commands.specs.Prelude.{end_of, ending_of, EndsListing, failure_of, Form, PieceErrorIsTrue, ReachesEnd, shelf_of, ReadError, AtEnd, Cause, CountsSo, FindsNone, IsFine, AsksAt, NoMemory, ReadPoint}
+use Rattle.ipmi_commands.specs.declared.limits.Tries.{Tries}
 use Rattle.ipmi_commands.proofs.CountLemmas.{ends_as, ends_here}
 
 -- the reason for the failure is returned unchanged
@@ -11,21 +12,21 @@ pub passed : {T E : Type 0} (result : Result T E) (error : E) → IsErrAnd resul
 passed result error is = grind arith
 
 -- nothing was requested
-pub asks_nothing : (points : List ReadPoint) (tries : ℕ) (s : Seen) → IsHonest s
+pub asks_nothing : (points : List ReadPoint) (tries : Tries) (s : Seen) → IsHonest s
     → AsksAt points tries s s AtEnd
 asks_nothing points tries s honest = record { ends = ends_here honest refl tt; calls = λ same. omega arith; keeps = λ p. record { sdr = refl; sel = refl } }
 
 -- after an item was found, the run may still end for this cause
-pub asks_as : {points : List ReadPoint} {tries : ℕ} {s s' : Seen} {cause : Cause}
+pub asks_as : {points : List ReadPoint} {tries : Tries} {s s' : Seen} {cause : Cause}
     → AsksAt points tries s s' AtEnd
     → CountsSo tries s s' cause → IsFine cause → AsksAt points tries s s' cause
 asks_as asks counts fine = record { ends = ends_as asks.ends counts fine; calls = asks.calls; keeps = asks.keeps }
 
 -- memory ran out before anything was requested, or after
-pub no_memory : {points : List ReadPoint} {tries : ℕ} {s : Seen} → IsHonest s → FindsNone points tries s s NoMemory
+pub no_memory : {points : List ReadPoint} {tries : Tries} {s : Seen} → IsHonest s → FindsNone points tries s s NoMemory
 no_memory {points} {tries} {s} honest = record { asks = asks_as (asks_nothing points tries s honest) refl tt; there = tt }
 
-pub then_no_memory : {points : List ReadPoint} {tries : ℕ} {s s' : Seen} → AsksAt points tries s s' AtEnd
+pub then_no_memory : {points : List ReadPoint} {tries : Tries} {s s' : Seen} → AsksAt points tries s s' AtEnd
     → FindsNone points tries s s' NoMemory
 then_no_memory asks = record { asks = asks_as asks asks.ends.counts tt; there = tt }
 

@@ -9,6 +9,7 @@ use Rattle.std.proofs.lemmas.Nat.{mul-le}
 use Rattle.std.proofs.Math.Seq.{take-nil}
 use Rattle.ipmi_commands.specs.Below.{step_call_bound, digits, Shelf, Ended, Row, first_row, len_of, largest_len, place_after, Place, place_after_rows, Seen, CursorState, IsStep, StepLeaves, HandsOut, Store, WalkEnd, Done, Failure}
 use Rattle.ipmi_commands.specs.Prelude.{calls_for, Form, is_reached, IsWithin, IsPlace, KeepsListing, ListingCalls, first_end, first_rows}
+use Rattle.ipmi_commands.specs.declared.limits.Tries.{Tries}
 
 -- ---- digits
 
@@ -164,7 +165,7 @@ module _ (later : ℕ) {tries each count : ℕ} {shelf : Shelf} {begun now next 
 
 -- ---- along a walk
 
-module _ (form : Form) (store : Store) (tries : ℕ) where
+module _ (form : Form) (store : Store) (tries : Tries) where
   pub calls_for-append : (done rest : List Row)
       → calls_for form store tries (done ++ rest)
       ≡ calls_for form store tries done + calls_for form store tries rest
@@ -178,8 +179,8 @@ module _ (form : Form) (store : Store) (tries : ℕ) where
   calls_split size walk = sym (calls_for-append (take size walk) (drop size walk)) ∙ ap (calls_for form store tries) (take-append-drop size walk)
 
   -- a step for the next row, or a step that finds no row
-  pub next_calls : (rows : List Row) → step_call_bound tries (len_of (first_row rows))
-      ≤ calls_for form store tries rows + step_call_bound tries 0
+  pub next_calls : (rows : List Row) → step_call_bound tries.count (len_of (first_row rows))
+      ≤ calls_for form store tries rows + step_call_bound tries.count 0
   next_calls rows = grind arith
 
 -- ---- rows

@@ -7,6 +7,7 @@ use Rattle.ipmi_commands.specs.declared.named.RecordsEnd.{RecordsEnd}
 use Rattle.ipmi_commands.specs.declared.piece.Piece.{Piece}
 use Rattle.ipmi_commands.specs.Prelude.{Change, LacksInventory, NameLookup, EndsNamed, OfInventory, AtEnd, AtInventory, AtRecord, calls_for_devices, calls_for_point, calls_for_points, cause_of, change, failure_of, FindsLocator, Form, inventories_plan, inventory_plan, IsAmong, IsPieceOver, IsTextWhile, Item, Job, locator_points, next_points, OfRow, Plan, points_at_walk_end, ReadError, ReadPoint, row_items, Runs, shown, Subject, text_plan, Wording, WritesPiece}
 use Rattle.ipmi_commands.specs.Output.{Output}
+use Rattle.ipmi_commands.specs.declared.limits.Tries.{Tries}
 use Rattle.ipmi_commands.proofs.CountLemmas.{between, ends_here, ends_since}
 use Rattle.ipmi_bus.proofs.HeldLemmas.{keeps_first, keeps_second}
 use Rattle.ipmi_commands.proofs.ItemLemmas.{leaves_joined, leaves_longer, leaves_map, no_items, none_printed, printed_map}
@@ -16,7 +17,7 @@ use Rattle.ipmi_commands.proofs.PerformLemmas.{none_leaves, text_ends, text_leav
 
 -- ---- one record
 
-pub locator_found : (wording : Wording) (tries : ℕ) (bytes : List ℕ) (s s' : Seen) (old new : Output) (piece : Piece) (ending : Ending)
+pub locator_found : (wording : Wording) (tries : Tries) (bytes : List ℕ) (s s' : Seen) (old new : Output) (piece : Piece) (ending : Ending)
     → FindsLocator wording bytes tries s s' (Ok piece) → WritesPiece (shown piece) old new ending
     → PrintsLocator wording tries bytes (change s s' old new) ending
 locator_found wording tries bytes s s' old new piece ending finds writes = λ row is.
@@ -33,7 +34,7 @@ locator_found wording tries bytes s s' old new piece ending finds writes = λ ro
       calls_are = λ same. found.asks.calls (keeps_at_same points s s' found.asks.ends.stays.store same);
     }
 
-pub locator_unread : (wording : Wording) (tries : ℕ) (bytes : List ℕ) (s s' : Seen) (text : Output) (unread : ReadError)
+pub locator_unread : (wording : Wording) (tries : Tries) (bytes : List ℕ) (s s' : Seen) (text : Output) (unread : ReadError)
     → FindsLocator wording bytes tries s s' (Err unread)
     → PrintsLocator wording tries bytes (change s s' text text) (Err (failure_of unread))
 locator_unread wording tries bytes s s' text unread finds = λ row is.
@@ -47,7 +48,7 @@ locator_unread wording tries bytes s s' text unread finds = λ row is.
 
 -- ---- a text, then the rest of a plan
 
-module _ (tries : ℕ) (subject : Subject) (points more : List ReadPoint) (p : Plan) (first rest : Store → ℕ) where
+module _ (tries : Tries) (subject : Subject) (points more : List ReadPoint) (p : Plan) (first rest : Store → ℕ) where
   abbrev longer : Plan
   longer = record { items = record { subject = subject; points = more } ∷ p.items; end = p.end; end_points = p.end_points }
 
@@ -104,7 +105,7 @@ fewer_calls left after bytes each calls calls' most is before more =
     let size : length left ≡ length after + 1 = omega (arith, ap length is) in
     omega (arith, rw size at before, one, more)
 
-module _ (wording : Wording) (walked : RecordsEnd) (tries : ℕ) where
+module _ (wording : Wording) (walked : RecordsEnd) (tries : Tries) where
   listed_cause : (walked : RecordsEnd) → cause_of (listed_end walked) ≡ AtEnd
   listed_cause RecordsEnd.Whole = refl
   listed_cause (RecordsEnd.Cycle n) = refl

@@ -11,6 +11,7 @@ use Rattle.ipmi_commands.specs.declared.limits.RequestLimits.{RequestLimits}
 use Rattle.ipmi_commands.specs.Kept.{kept_row, kept_rows, Keeps, KeepsByCursor, KeepsEntries, last_of, PrintsKept}
 use Rattle.ipmi_commands.specs.Output.{Output, piece_of}
 use Rattle.ipmi_commands.specs.Prelude.{AtEnd, cause_of, change, ending_of, EndsFor, EndsListing, EndsPrinting, Entries, FindsIt, Change, Form, IsAllowed, IsAmong, IsEntryLine, IsFresh, IsPieceOver, IsTextWhile, Item, Job, last_plan, last_rows, ListsHonestly, most_on_walk, next_points, OfRow, OnWalk, Plan, points_at_walk_end, PrintsAfter, ReadError, ReadPoint, row_items, Runs, TracesListing, walk_call_bound, WritesPiece}
+use Rattle.ipmi_commands.specs.declared.limits.Tries.{Tries}
 use Rattle.ipmi_commands.proofs.AskLemmas.{asks_nothing, no_memory}
 use Rattle.ipmi_commands.proofs.CountLemmas.{between, ends_as, ends_here}
 use Rattle.ipmi_commands.proofs.GrownListing.{fresh_grown}
@@ -48,13 +49,13 @@ last_of-pushed n items item some =
 -- ---- a walk by a cursor
 
 -- the entries returned so far are skipped, and the last of them are kept
-pub record Keeping (n tries : ℕ) (begun now : CursorState) (s s' : Seen) (text : Output) (kept : List KeptEntry) : Type 0 where
+pub record Keeping (n : ℕ) (tries : Tries) (begun now : CursorState) (s s' : Seen) (text : Output) (kept : List KeptEntry) : Type 0 where
   pub count : ℕ
   pub listed : Listed Form.Skipped tries None count false begun now (change s s' text text)
   pub kept_are : (h : IsHonest s) → kept ≡ last_of n (kept_rows (handed_out (listed.went h).tracing.steps))
 
-pub keeping_begun : (n tries : ℕ) (begun : CursorState) (s : Seen) (text : Output) (kept : List KeptEntry) → kept ≡ []
-    → begun.shelf ≡ Sel → begun.tries ≡ tries → set.len begun.ids ≤ 65536
+pub keeping_begun : (n : ℕ) (tries : Tries) (begun : CursorState) (s : Seen) (text : Output) (kept : List KeptEntry) → kept ≡ []
+    → begun.shelf ≡ Sel → begun.tries ≡ tries.count → set.len begun.ids ≤ 65536
     → Keeping n tries begun begun s s text kept
 unfolding traced_none
 keeping_begun n tries begun s text kept none shelf tries_are room = record {
@@ -82,7 +83,7 @@ keeping_begun n tries begun s text kept none shelf tries_are room = record {
   kept_are = λ h. none ∙ sym (drop-nil (0 - n));
 }
 
-module _ {n tries : ℕ} {begun now : CursorState} {s s' : Seen} {text : Output} {kept : List KeptEntry}
+module _ {n : ℕ} {tries : Tries} {begun now : CursorState} {s s' : Seen} {text : Output} {kept : List KeptEntry}
     (k : Keeping n tries begun now s s' text kept) {next : CursorState} {s'' : Seen} where
   -- the next entry was kept
   pub keeping_more : {row : Row} → IsStep now next s' s'' (Ok (Some row)) → (kept' : List KeptEntry)
@@ -131,14 +132,14 @@ module _ {n tries : ℕ} {begun now : CursorState} {s s' : Seen} {text : Output}
 
 -- ---- a walk from a start
 
-tries_are : {limits : RequestLimits} {from : Option ℕ} {begun : CursorState} → IsFresh limits Form.Skipped from begun → begun.tries ≡ limits.tries
+pub tries_are : {limits : RequestLimits} {from : Option ℕ} {begun : CursorState} → IsFresh limits Form.Skipped from begun → begun.tries ≡ limits.tries.count
 tries_are fresh = ap (λ (x : CursorState). x.tries) fresh.is
 
 module _ {limits : RequestLimits} {from : Option ℕ} {begun now : CursorState} {s s' : Seen} {text : Output}
     (fresh : IsFresh limits Form.Skipped from begun) where
-  pub keeps_calls : {n : ℕ} {kept : List KeptEntry} {ending : Ending} → KeepsByCursor n begun.tries begun now s s' text kept ending
+  pub keeps_calls : {n : ℕ} {kept : List KeptEntry} {ending : Ending} → KeepsByCursor n limits.tries begun now s s' text kept ending
       → s'.calls ≤ s.calls + most_on_walk Form.Skipped limits.tries
-  keeps_calls k = rw (← tries_are fresh) (omega (arith, k.lists.calls.all fresh.some, fresh.falls))
+  keeps_calls k = omega (arith, k.lists.calls.all fresh.some, fresh.falls)
 
   -- all entries of the walk were returned
   all_handed : (h : IsHonest s) (count : ℕ) (trace : TracesListing Form.Skipped None begun now (change s s' text text) (Ok count))
@@ -154,7 +155,7 @@ module _ {limits : RequestLimits} {from : Option ℕ} {begun now : CursorState} 
       (fresh.stands (rows_of begun.shelf s.store) walk) trace.traced.are since.0 in
       follows.1 ∙ take_all follows.0 walk (omega (arith, whole, trace.ends.0.count_is, ap (length {A = Row}) follows.1, length-take follows.0 walk))
 
-  keeps_along : (n tries : ℕ) (kept : List KeptEntry) → IsHonest s → (result : Result ℕ Failure) (lists : ListsHonestly Form.Skipped tries None begun now (change s s' text text) result)
+  keeps_along : (n : ℕ) (tries : Tries) (kept : List KeptEntry) → IsHonest s → (result : Result ℕ Failure) (lists : ListsHonestly Form.Skipped tries None begun now (change s s' text text) result)
       → IfOk result (λ count. kept ≡ last_of n (kept_rows (handed_out lists.traces.steps)))
       → s'.stores_added ≡ s.stores_added → OnWalk Sel (start_of from) s.store (λ walk end.
       Keeps n (IsPieceOver s.store) (start_of from) walk end text kept (ending_of result)
@@ -168,7 +169,7 @@ module _ {limits : RequestLimits} {from : Option ℕ} {begun now : CursorState} 
       let counted = counts fresh (Err failure) walk end along.0 in
       ((λ entries. counted entries n), along.1)
 
-  keeps_grown : (n tries : ℕ) (kept : List KeptEntry) → IsHonest s → (result : Result ℕ Failure) (lists : ListsHonestly Form.Skipped tries None begun now (change s s' text text) result)
+  keeps_grown : (n : ℕ) (tries : Tries) (kept : List KeptEntry) → IsHonest s → (result : Result ℕ Failure) (lists : ListsHonestly Form.Skipped tries None begun now (change s s' text text) result)
       → IfOk result (λ count. kept ≡ last_of n (kept_rows (handed_out lists.traces.steps)))
       → OnGrowing Sel (start_of from) s s' (λ log. Keeps n (IsTextWhile s s') (start_of from) log Done text kept (ending_of result))
   keeps_grown n tries kept h (Ok count) lists kept_are = λ first log grew.
@@ -180,14 +181,14 @@ module _ {limits : RequestLimits} {from : Option ℕ} {begun now : CursorState} 
       let counted = counts_grown from (Err failure) lists.traces first g lists.traces.ends in
       (g.log, g.was, λ entries. counted entries n)
 
-  pub keeps_entries : (n : ℕ) (kept : List KeptEntry) (ending : Ending) → IsHonest s → KeepsByCursor n begun.tries begun now s s' text kept ending
+  pub keeps_entries : (n : ℕ) (kept : List KeptEntry) (ending : Ending) → IsHonest s → KeepsByCursor n limits.tries begun now s s' text kept ending
       → KeepsEntries n (start_of from) limits.tries s s' text kept ending
   keeps_entries n kept ending h k =
       let lists = k.lists.honest h in
-      let keeps : KeepsEntries n (start_of from) begun.tries s s' text kept (ending_of k.listed) = record {
+      let keeps : KeepsEntries n (start_of from) limits.tries s s' text kept (ending_of k.listed) = record {
         ends = fresh_ends fresh lists;
-        along = keeps_along n begun.tries kept h k.listed lists (k.kept_are h);
-        grows = keeps_grown n begun.tries kept h k.listed lists (k.kept_are h);
+        along = keeps_along n limits.tries kept h k.listed lists (k.kept_are h);
+        grows = keeps_grown n limits.tries kept h k.listed lists (k.kept_are h);
         traces = inr (record {
           begun = begun;
           now = now;
@@ -200,10 +201,9 @@ module _ {limits : RequestLimits} {from : Option ℕ} {begun now : CursorState} 
           kept_are = k.kept_are h;
         });
       } in
-      subst (λ (tries : ℕ). KeepsEntries n (start_of from) tries s s' text kept ending) (tries_are fresh)
-      (subst (λ (e : Ending). KeepsEntries n (start_of from) begun.tries s s' text kept e) (sym k.is) keeps)
+      subst (λ (e : Ending). KeepsEntries n (start_of from) limits.tries s s' text kept e) (sym k.is) keeps
 
-pub keeps_without_memory : (n tries : ℕ) (start : Place) (s : Seen) (text : Output) (kept : List KeptEntry) → IsHonest s
+pub keeps_without_memory : (n : ℕ) (tries : Tries) (start : Place) (s : Seen) (text : Output) (kept : List KeptEntry) → IsHonest s
     → KeepsEntries n start tries s s text kept (Err Failure.OutOfMemory)
 keeps_without_memory n tries start s text kept h = record {
   ends = ends_here h refl tt;
@@ -293,14 +293,14 @@ printing_ends entries seen (Err Failure.OutOfMemory) ends = tt
 printing_ends entries seen (Err Failure.WriteFault) ends = tt
 printing_ends entries seen (Err _) ends = absurd ends
 
-printing_for : (tries : ℕ) (IsPlain : Type 0) (s s' : Seen) (ending : Ending) → EndsFor tries IsPlain s s' AtEnd → EndsPrinting ending
+printing_for : (tries : Tries) (IsPlain : Type 0) (s s' : Seen) (ending : Ending) → EndsFor tries IsPlain s s' AtEnd → EndsPrinting ending
     → EndsFor tries IsPlain s s' (cause_of ending)
 printing_for tries IsPlain s s' (Ok done) for ends = for
 printing_for tries IsPlain s s' (Err Failure.OutOfMemory) for ends = ends_as for for.counts tt
 printing_for tries IsPlain s s' (Err Failure.WriteFault) for ends = ends_as for for.counts tt
 printing_for tries IsPlain s s' (Err _) for ends = absurd ends
 
-module _ (entries : Entries) (n : ℕ) (from : Option ℕ) (tries : ℕ) (s s' : Seen) (kept : List KeptEntry)
+module _ (entries : Entries) (n : ℕ) (from : Option ℕ) (tries : Tries) (s s' : Seen) (kept : List KeptEntry)
     (calls : s'.calls ≤ s.calls + most_on_walk Form.Skipped tries) where
   -- the walk failed, and nothing was printed
   not_printed : (rows : List Row) (c : Change) (failure : Failure) (walked : Result ℕ Failure) → Err failure ≡ ending_of walked → c.new ≡ c.old

@@ -7,6 +7,7 @@ use Rattle.ipmi_commands.specs.Traced.{EndsTrace}
 use Rattle.ipmi_commands.specs.declared.limits.RequestLimits.{RequestLimits}
 use Rattle.ipmi_commands.specs.Prelude.{AreTexts, calls_for, Cause, cause_of, Change, change, Counted, CountsEntries, points_at_walk_end, end_points_of_last, ending_of, EndsListing, Entries, first_end, first_rows, Form, IsAllowed, IsAmong, IsFresh, IsPieceOver, IsTextWhile, OfRow, OnGrowingLast, TracesListing, Item, Job, last_plan, Leaves, listing, listing_plan, ListsAfter, ListsHonestly, ListsAlong, Plan, Printed, Prints, row_items, rows_end, second_walk_bound, ReadPoint, points_of_rows, next_points, points_of_walk, Subject, walk_call_bound, with_first_points}
 use Rattle.ipmi_commands.specs.Output.{and_then, no_output, Output}
+use Rattle.ipmi_commands.specs.declared.limits.Tries.{Tries}
 use Rattle.ipmi_commands.proofs.CallLemmas.{calls_split}
 use Rattle.ipmi_commands.proofs.CountLemmas.{between, ends_here, ends_since}
 use Rattle.ipmi_bus.proofs.HeldLemmas.{begins_length, grew_first, grew_second}
@@ -79,7 +80,7 @@ last_leaves IsText entries n k start walk old new ending is allowed =
 
 -- ---- skipped entries
 
-calls_for-named : (entries : Entries) (store : Store) (tries : ℕ) (rows : List Row)
+calls_for-named : (entries : Entries) (store : Store) (tries : Tries) (rows : List Row)
     → calls_for (Form.EntryLine entries) store tries rows ≡ calls_for Form.Skipped store tries rows
 calls_for-named entries store tries [] = refl
 calls_for-named entries store tries (row ∷ rows) = rw (calls_for-named entries store tries rows) refl
@@ -147,7 +148,7 @@ counts_grown from {begun} {now} {c} (Ok count) trace first g ends = (
 counts_grown from {begun} {now} {c} (Err failure) trace first g ends = λ entries n.
     passing_failed (IsTextWhile c.seen c.seen') (none_while c.seen c.seen') entries n None (start_of from) g.log Done refl c.old c.new failure (cause_of (Err failure)) g.allowed
 
-module _ {limits : RequestLimits} {from : Option ℕ} {tries : ℕ} {begun now : CursorState}
+module _ {limits : RequestLimits} {from : Option ℕ} {tries : Tries} {begun now : CursorState}
     {c : Change}
     (fresh : IsFresh limits Form.Skipped from begun) where
   pub counts : (result : Result ℕ Failure) (walk : List Row) (end : WalkEnd)
@@ -169,7 +170,7 @@ module _ {limits : RequestLimits} {from : Option ℕ} {tries : ℕ} {begun now :
         (g.log, g.was, counts_grown from result lists.traces first g lists.traces.ends);
   }
 
-pub counted_without_memory : (tries : ℕ) (start : Place) (s : Seen) (text : Output) → IsHonest s
+pub counted_without_memory : (tries : Tries) (start : Place) (s : Seen) (text : Output) → IsHonest s
     → CountsEntries start tries (change s s text text) (Err Failure.OutOfMemory)
 counted_without_memory tries start s text honest = record {
   ends = ends_here honest refl tt;
@@ -180,7 +181,7 @@ counted_without_memory tries start s text honest = record {
 
 -- ---- skipping entries, and listing those after them
 
-pub after_without_memory : (entries : Entries) (tries : ℕ) (start : Place) (passed : ℕ)
+pub after_without_memory : (entries : Entries) (tries : Tries) (start : Place) (passed : ℕ)
     (s : Seen) (text : Output) → IsHonest s
     → ListsAfter entries start passed tries (change s s text text) (Err Failure.OutOfMemory)
 after_without_memory entries tries start passed s text honest = record {
@@ -194,7 +195,7 @@ after_without_memory entries tries start passed s text honest = record {
 }
 
 module _ (entries : Entries) {limits : RequestLimits} {from : Option ℕ}
-    {tries passed : ℕ} {begun mid : CursorState} {s s' : Seen} {old text : Output} (fresh : IsFresh limits Form.Skipped from begun) where
+    {tries : Tries} {passed : ℕ} {begun mid : CursorState} {s s' : Seen} {old text : Output} (fresh : IsFresh limits Form.Skipped from begun) where
   -- skipping failed
   pub after_failed : (failure : Failure) → IsHonest s
       → ListsHonestly Form.Skipped tries (Some passed) begun mid (change s s' old text) (Err failure)
@@ -298,7 +299,7 @@ second_walk_bound-some : (bound : ℕ) (rows : List Row) → 0 < length rows
     → second_walk_bound bound rows ≡ bound
 second_walk_bound-some bound rows some = grind arith
 
-module _ (entries : Entries) (n : ℕ) (from : Option ℕ) (tries : ℕ) (some : 1 ≤ n) (s s' : Seen)
+module _ (entries : Entries) (n : ℕ) (from : Option ℕ) (tries : Tries) (some : 1 ≤ n) (s s' : Seen)
     (old text : Output) where
   -- counting failed, or there are no entries
   pub last_prints_none : (result : Result ℕ Failure) → IfOk result (λ count. count ≡ 0)

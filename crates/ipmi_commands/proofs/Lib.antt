@@ -17,7 +17,9 @@ mod NamedPages
 mod OutputLemmas
 mod PageLemmas
 mod PagesLaw
+mod PartLemmas
 mod PerformLemmas
+mod ReadLemmas
 mod RunLemmas
 mod SensorLemmas
 mod PointLemmas

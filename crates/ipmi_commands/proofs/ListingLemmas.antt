@@ -8,6 +8,7 @@ use Rattle.ipmi_commands.specs.Below.{End, First, first_row, handed_out, KeepsRe
 use Rattle.ipmi_commands.specs.declared.limits.RequestLimits.{RequestLimits}
 use Rattle.ipmi_commands.specs.Prelude.{AsksAt, AtEnd, AtRecord, Cause, cause_of, cause_of_unread, Change, change, CountsSo, end_of, points_at_walk_end, ending_of, EndsFor, failure_of, FindsIt, FindsNone, first_end, first_rows, Form, HasFirstItems, IsAllowed, IsAmong, IsFine, IsFresh, IsOnWalk, is_reached, OnWalk, walk_call_bound, IsPieceOver, listing, listing_plan, Lists, ListsAlong, ListsHonestly, Item, IsStopAmong, most_after, most_for_one, IsWithin, OnEachWalk, Plan, Printed, row_items, rows_end, OfRow, shelf_of, ReadPoint, points_because_of, StopsAt, TracesListing, ReadError}
 use Rattle.ipmi_commands.specs.Output.{and_then, IsCut, Output, piece_of}
+use Rattle.ipmi_commands.specs.declared.limits.Tries.{Tries}
 use Rattle.ipmi_commands.proofs.AlongLemmas.{in_all, IsAlong, left_rows, one_more, row_is, stepped, StepsAlong, stopped_along, used}
 use Rattle.ipmi_commands.proofs.AskLemmas.{asks_as}
 use Rattle.ipmi_commands.proofs.CallLemmas.{HasCalled, at_limit, called_ended, called_more, called_stopped, calls_ended, first_end-all, first_end-none, first_rows-all, none_left, not_at_limit, place_after_rows-append, within_more}
@@ -40,14 +41,14 @@ place_here most count start walk k within =
 -- ---- the state so far
 
 -- along a walk: the cursor, and the rows printed
-pub record WentAlong (form : Form) (tries : ℕ) (most : Option ℕ) (count : ℕ) (begun now : CursorState)
+pub record WentAlong (form : Form) (tries : Tries) (most : Option ℕ) (count : ℕ) (begun now : CursorState)
     (c : Change) (start : Place) (walk : List Row) (k : ℕ) : Type 0 where
   pub along : IsAlong form tries most count begun now c.seen c.seen' start walk k
   pub are_printed : Printed (IsPieceOver c.seen.store)
       (row_items form (from_here start walk k) (take count (used most walk k))) c.old c.new
 
 -- over an honest controller
-pub record Went (form : Form) (tries : ℕ) (most : Option ℕ) (count : ℕ) (begun now : CursorState)
+pub record Went (form : Form) (tries : Tries) (most : Option ℕ) (count : ℕ) (begun now : CursorState)
     (c : Change) : Type 0 where
   pub ends : EndsFor tries (IsTrue c.seen.plain
       × CursorHoldsCurrent begun c.seen) c.seen c.seen' AtEnd
@@ -58,10 +59,10 @@ pub record Went (form : Form) (tries : ℕ) (most : Option ℕ) (count : ℕ) (b
   pub tracing : Tracing form count begun now c
 
 -- a listing that continues
-pub record Listed (form : Form) (tries : ℕ) (most : Option ℕ) (count : ℕ) (wrote : Bool)
+pub record Listed (form : Form) (tries : Tries) (most : Option ℕ) (count : ℕ) (wrote : Bool)
     (begun now : CursorState) (c : Change) : Type 0 where
   pub shelf : now.shelf ≡ shelf_of form
-  pub tries_are : now.tries ≡ tries
+  pub tries_are : now.tries ≡ tries.count
   pub called : HasCalled (most_for_one form tries) count begun now c.seen c.seen'
   pub within : IsWithin most count
   pub has_written : Wrote wrote c.old c.new
@@ -74,18 +75,18 @@ abbrev pub step_cause : Result (Option Row) Ended → Cause
 step_cause (Ok row) = AtEnd
 step_cause (Err ended) = cause_of (Err (Failure.Ended ended))
 
-step_counts : (old : CursorState) (s s' : Seen) (result : Result (Option Row) Ended)
-    → StepAnswers old s s' result → (s.troubles ≤ s'.troubles)
-    × CountsSo old.tries s s' (step_cause result)
-step_counts old s s' result answers = grind arith
+step_counts : (tries : Tries) (old : CursorState) (s s' : Seen) (result : Result (Option Row) Ended)
+    → old.tries ≡ tries.count → StepAnswers old s s' result → (s.troubles ≤ s'.troubles)
+    × CountsSo tries s s' (step_cause result)
+step_counts tries old s s' result tries_are answers = grind arith
 
-pub step_ends : (tries : ℕ) (old new : CursorState) (s s' : Seen) (result : Result (Option Row) Ended)
-    → old.tries ≡ tries → StepIsHonest old new s s' result
+pub step_ends : (tries : Tries) (old new : CursorState) (s s' : Seen) (result : Result (Option Row) Ended)
+    → old.tries ≡ tries.count → StepIsHonest old new s s' result
     → EndsFor tries (IsTrue s.plain × CursorHoldsCurrent old s) s s' (step_cause result)
-step_ends tries old new s s' result tries_are step = let counts = step_counts old s s' result step.answers in record {
+step_ends tries old new s s' result tries_are step = let counts = step_counts tries old s s' result tries_are step.answers in record {
   stays = step.stays;
   grows = counts.0;
-  counts = rw tries_are at counts.1;
+  counts = counts.1;
   plain = λ p. fine result (step.plain p.0 p.1).fine;
 }
   where
@@ -141,7 +142,7 @@ pub ok_end : {T : Type 0} (P : T → Type 0) (form : Form) (wrote : Bool) (value
     → IfOk (end_of form wrote value) P
 ok_end P form wrote value holds = grind arith
 
-module _ {form : Form} {tries : ℕ} {most : Option ℕ} {count : ℕ} {wrote : Bool}
+module _ {form : Form} {tries : Tries} {most : Option ℕ} {count : ℕ} {wrote : Bool}
     {begun now : CursorState} {s s' : Seen} {old new : Output}
     (kept : Listed form tries most count wrote begun now (change s s' old new)) where
   -- all rows within the limit were listed
@@ -469,7 +470,7 @@ module _ {limits : RequestLimits} {form : Form} {from : Option ℕ} {begun : Cur
   fresh_room = rw no_ids (omega arith)
 
 module _ {limits : RequestLimits} {form : Form} {from : Option ℕ} {begun now : CursorState}
-    {tries : ℕ} {most : Option ℕ}
+    {tries : Tries} {most : Option ℕ}
     {c : Change} {result : Result ℕ Failure} (fresh : IsFresh limits form from begun) where
   pub fresh_ends : ListsHonestly form tries most begun now c result
       → EndsFor tries (IsTrue c.seen.plain) c.seen c.seen' (cause_of (ending_of result))

@@ -3,11 +3,12 @@ use Rattle.std.proofs.Common.{◌≡◌, inl, inr, ℕ, ◌+◌, ◌*◌, ◌≤
 use Rattle.std.specs.List.{AllPass, concat}
 use Rattle.std.proofs.lemmas.List.Elements.{All-cons, All-nil}
 use Rattle.std.proofs.lemmas.Nat.{mul-le}
-use Rattle.ipmi_commands.specs.Below.{AllOf, Count, CycleAt, device_name, Done, Ending, EndsBy, Failure, First, FoundIsRow, fru_call_bound, IsHonest, IsShelf, IsStore, IsWalk, is_whole_record, MissingAt, OnGrowing, Place, place_after, records_in, Row, rows_of, Sdr, Seen, stays_refl, Store, WalkEnd}
+use Rattle.ipmi_commands.specs.Below.{AllOf, Count, CycleAt, device_name, Done, Ending, EndsBy, Failure, First, FoundIsRow, IsHonest, IsShelf, IsStore, IsWalk, is_whole_record, MissingAt, OnGrowing, Place, place_after, records_in, Row, rows_of, Sdr, Seen, stays_refl, Store, WalkEnd}
 use Rattle.ipmi_commands.specs.Named.{end_after, ending_then, listed_end, PrintsDevices, PrintsPlan, walk_of}
 use Rattle.ipmi_commands.specs.declared.named.RecordsEnd.{RecordsEnd}
-use Rattle.ipmi_commands.specs.Prelude.{after_names, AreTexts, AtEnd, AtInventory, bytes_of_rows, calls_for_devices, calls_for_point, inventories_plan, WritesRecords, WritesWhole, walk_call_bound, entries_job, keeping_last, OnEntries, Cause, cause_of, Change, change, Dishonest, end_after_names, ending_of, end_points_of_last, EndsNamed, EndsFor, EndsListing, Entries, entries_in, Form, GaveUp, HasFirstItems, IsAllowed, IsAmong, IsPage, IsPieceOver, IsTextWhile, Item, Job, Leaves, listing, listing_plan, MayEnd, most_calls, most_named, most_on_walk, NameLookup, next_points, NoMemory, NoOutput, OfRow, OnNamed, FollowsPlan, Plan, Printed, Refused, row_items, rows_end, Runs, ReadPoint, points_at_walk_end, points_before, points_of_walk, Subject, TracesJob, with_first_points, Wording}
+use Rattle.ipmi_commands.specs.Prelude.{after_names, AreTexts, AtEnd, AtInventory, bytes_of_rows, calls_for_devices, calls_for_point, inventories_plan, WritesRecords, WritesWhole, walk_call_bound, entries_job, keeping_last, OnEntries, Cause, cause_of, Change, change, Dishonest, end_after_names, ending_of, end_points_of_last, EndsNamed, EndsFor, EndsListing, Entries, entries_in, Form, GaveUp, HasFirstItems, IsAllowed, IsAmong, IsPage, IsPieceOver, IsTextWhile, Item, Job, Leaves, listing, listing_plan, MayEnd, most_calls, most_named, most_on_walk, NameLookup, next_points, NoMemory, NoOutput, OfRow, OnNamed, FollowsPlan, Plan, Printed, Refused, row_items, rows_end, Runs, ReadPoint, points_at_walk_end, points_before, points_of_walk, Subject, TracesJob, with_first_points, Wording, inventory_call_bound}
 use Rattle.ipmi_commands.specs.Output.{no_output, Output}
+use Rattle.ipmi_commands.specs.declared.limits.Tries.{Tries}
 use Rattle.ipmi_commands.proofs.CountLemmas.{between, ends_here, ends_since}
 use Rattle.ipmi_commands.proofs.DeviceLemmas.{row_with}
 use Rattle.ipmi_bus.proofs.HeldLemmas.{grew_first, keeps_same, keeps_second}
@@ -69,7 +70,7 @@ next_points-first points (item ∷ items) at_end = refl
 -- ---- entries with the names of their sensors
 
 -- the listing that `count` selects follows its plan
-module _ (entries : Entries) (from : Option ℕ) (tries : ℕ) (store : Store) (Holds : Plan → ℕ → Type 0) where
+module _ (entries : Entries) (from : Option ℕ) (tries : Tries) (store : Store) (Holds : Plan → ℕ → Type 0) where
   entries_map : (More : Plan → ℕ → Type 0) (count : Count) → ((plan : Plan) (calls : ℕ) → Holds plan calls → More plan calls)
       → FollowsPlan (keeping_last (entries_job entries count from)) tries store Holds → OnEntries entries count from tries store More
   entries_map More Count.All keep on = λ walk end w ends. keep _ _ (on walk end w ends)
@@ -87,13 +88,13 @@ module _ (entries : Entries) (from : Option ℕ) (tries : ℕ) (store : Store) (
   job_all (Count.Last n) holds = λ walk end w ends. holds _ _
 
 -- a fact about every plan
-pub named_all : (wording : Wording) (records : List Row) (end : WalkEnd) (tries : ℕ) (store : Store) (Holds : Plan → ℕ → Type 0)
+pub named_all : (wording : Wording) (records : List Row) (end : WalkEnd) (tries : Tries) (store : Store) (Holds : Plan → ℕ → Type 0)
     (named : NameLookup) → ((plan : Plan) (calls : ℕ) → Holds plan calls) → OnNamed wording records end named tries store Holds
 named_all wording records end tries store Holds (NameLookup.Events count from) holds =
     entries_all (entries_in wording (bytes_of_rows records)) from tries store Holds count holds
 named_all wording records end tries store Holds NameLookup.Devices holds = holds _ _
 
-entries_calls : (entries : Entries) (count : Count) (from : Option ℕ) (tries : ℕ)
+entries_calls : (entries : Entries) (count : Count) (from : Option ℕ) (tries : Tries)
     → most_calls (keeping_last (entries_job entries count from)) tries ≤ most_named (NameLookup.Events count from) tries
 entries_calls entries Count.All from tries = omega arith
 entries_calls entries (Count.First n) from tries = omega arith
@@ -121,7 +122,7 @@ memory_traces entries Count.All from s text = (Err Failure.OutOfMemory, refl, in
 memory_traces entries (Count.First n) from s text = (Err Failure.OutOfMemory, refl, inl (inl refl, refl, refl))
 memory_traces entries (Count.Last n) from s text = inl (refl, refl, refl)
 
-pub events_without_memory : (entries : Entries) (count : Count) (from : Option ℕ) (tries : ℕ) (s : Seen) (text : Output)
+pub events_without_memory : (entries : Entries) (count : Count) (from : Option ℕ) (tries : Tries) (s : Seen) (text : Output)
     → Runs (keeping_last (entries_job entries count from)) tries (change s s text text) (Err Failure.OutOfMemory)
 events_without_memory entries count from tries s text = record {
   calls = omega arith;
@@ -198,7 +199,7 @@ walked_end records (CycleAt n) result walked is at = grind arith
 walked_end records (MissingAt n) result walked is at = grind arith
 
 -- the run ends with this failure before anything is printed
-module _ (tries : ℕ) (s s' : Seen) (kept : Output) (wording : Wording) (named : NameLookup)
+module _ (tries : Tries) (s s' : Seen) (kept : Output) (wording : Wording) (named : NameLookup)
     (calls : s'.calls ≤ s.calls + most_on_walk Form.Bytes tries) where
   pub failed_ends : (named : NameLookup) (result : Result Place Failure) (failure : Failure)
       → walk_of result ≡ Err failure → EndsListing Form.Bytes s' (ending_of result)
@@ -314,7 +315,7 @@ devices_allowed IsText wording records end old new ending allowed =
 -- ---- after the walk of the records
 
 -- the walk of the records, over an honest controller
-module _ (look_row : FoundIsRow) (split : RecordsAreFound) (tries : ℕ) (s s' s'' : Seen) (kept old new : Output) (wording : Wording)
+module _ (look_row : FoundIsRow) (split : RecordsAreFound) (tries : Tries) (s s' s'' : Seen) (kept old new : Output) (wording : Wording)
     (result : Result Place Failure) (walked : RecordsEnd) (is : walk_of result ≡ Ok walked)
     (page_of : IsHonest s → IsPage Form.Bytes First tries None (change s s' no_output kept) result) where
   abbrev read_ends : IsHonest s → EndsFor tries (IsTrue s.plain) s s' AtEnd
@@ -378,12 +379,12 @@ module _ (look_row : FoundIsRow) (split : RecordsAreFound) (tries : ℕ) (s s' s
 
   pub devices_run : (ending : Ending) → s'.calls ≤ s.calls + most_on_walk Form.Bytes tries
       → WritesWhole Form.Bytes [] kept.bytes (ending_of result)
-      → s''.calls ≤ s'.calls + (length (records_in kept.bytes) + 1) * fru_call_bound tries 65535
+      → s''.calls ≤ s'.calls + (length (records_in kept.bytes) + 1) * inventory_call_bound tries 65535
       → EndsNamed wording NameLookup.Devices s'' ending
       → (IsHonest s' → PrintsDevices wording walked tries (records_in kept.bytes) (change s' s'' old new) ending)
       → Runs (Job.NameLookup wording NameLookup.Devices) tries (change s s'' old new) ending
   devices_run ending calls whole later_calls may devices_of = record {
-    calls = omega (arith, calls, later_calls, few_calls (length (records_in kept.bytes)) (fru_call_bound tries 65535) (few_records split (ending_of result) kept.bytes (walked_at_end result walked is) whole));
+    calls = omega (arith, calls, later_calls, few_calls (length (records_in kept.bytes)) (inventory_call_bound tries 65535) (few_records split (ending_of result) kept.bytes (walked_at_end result walked is) whole));
     ends = may;
     why = λ h.
         let ends = read_ends h in

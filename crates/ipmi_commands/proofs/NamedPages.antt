@@ -5,20 +5,21 @@ use Rattle.ipmi_commands.specs.Named.{ending_then, ReadsRecords}
 use Rattle.ipmi_commands.specs.declared.named.RecordsEnd.{RecordsEnd}
 use Rattle.ipmi_commands.specs.Prelude.{IsPieceOver, ArePages, bytes_of_rows, cause_of, change, ending_of, EndsListing, entries_in, entries_with, Form, listing, listing_plan, most_on_walk, NameLookup, pages_made, RunsNamedInPages, Wording}
 use Rattle.ipmi_commands.specs.Output.{no_output, Output}
+use Rattle.ipmi_commands.specs.declared.limits.Tries.{Tries}
 use Rattle.ipmi_commands.proofs.CountLemmas.{between, ends_since}
 use Rattle.ipmi_commands.proofs.NamedLemmas.{entries_end, failed_ends, failed_for, read_records, RecordsAreFound, stop_by, then_allowed, then_ends, then_for, walked_at_end, walked_end}
 use Rattle.ipmi_commands.proofs.PageLemmas.{page_without_memory}
 use Rattle.ipmi_commands.proofs.PagesLaw.{OneListing, pages_are_one}
 
 -- there is no memory for the table of the sensors, as if there were none for the first page
-pub no_pages : (form : Form) (start : Place) (tries : ℕ) (sizes : List ℕ) (s : Seen) (text : Output)
+pub no_pages : (form : Form) (start : Place) (tries : Tries) (sizes : List ℕ) (s : Seen) (text : Output)
     → IsHonest s → ArePages form tries start sizes (change s s text text) (Err Failure.OutOfMemory)
 no_pages form start tries [] s text h =
     (Err Failure.OutOfMemory, refl, page_without_memory form start tries None s text h)
 no_pages form start tries (size ∷ sizes) s text h =
     inl (Failure.OutOfMemory, refl, page_without_memory form start tries (Some size) s text h)
 
-module _ (tries : ℕ) (s s' : Seen) (kept : Output) (wording : Wording) (from : Option ℕ)
+module _ (tries : Tries) (s s' : Seen) (kept : Output) (wording : Wording) (from : Option ℕ)
     (sizes : List ℕ) where
   -- the walk of the records ended the run before an entry was asked for
   pub pages_failed : (text : Output) (failure : Failure)

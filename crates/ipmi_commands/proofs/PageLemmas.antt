@@ -8,6 +8,7 @@ use Rattle.ipmi_commands.specs.Below.{Place, End, Ended, Id, IsLog, Shelf, stays
 use Rattle.ipmi_commands.specs.declared.limits.RequestLimits.{RequestLimits}
 use Rattle.ipmi_commands.specs.Prelude.{ArePages, AtEnd, cause_of, Change, change, end_of, ending_of, first_end, first_rows, Form, IsAllowed, IsFresh, IsPage, IsPieceOver, IsTextWhile, IsWithin, Traces, listing, listing_plan, ListsHonestly, pages_made, shelf_of, Subject}
 use Rattle.ipmi_commands.specs.Output.{no_output, Output}
+use Rattle.ipmi_commands.specs.declared.limits.Tries.{Tries}
 use Rattle.ipmi_commands.proofs.OutputLemmas.{then_nothing}
 use Rattle.ipmi_commands.proofs.CallLemmas.{first_end-none}
 use Rattle.ipmi_commands.proofs.CountLemmas.{ends_here}
@@ -46,7 +47,7 @@ no_steps form start most s text honest within done =
     })
 
 -- a page of size 0
-pub page_of_none : (form : Form) (place : Place) (tries : ℕ) (s : Seen) (text : Output) → IsHonest s
+pub page_of_none : (form : Form) (place : Place) (tries : Tries) (s : Seen) (text : Output) → IsHonest s
     → IsPage form place tries (Some 0) (change s s text text) (end_of form false place)
 page_of_none form place tries s text honest =
     let cause : cause_of (ending_of (end_of form false place)) ≡ AtEnd = grind arith in
@@ -82,7 +83,7 @@ empty_leaves IsText form most text =
     no_end most = grind arith
 
 -- a page from the end
-pub page_at_end : (form : Form) (tries : ℕ) (most : Option ℕ) (s : Seen) (text : Output) → IsHonest s
+pub page_at_end : (form : Form) (tries : Tries) (most : Option ℕ) (s : Seen) (text : Output) → IsHonest s
     → IsPage form End tries most (change s s text text) (end_of form false End)
 page_at_end form tries most s text honest =
     let cause : cause_of (ending_of (end_of form false End)) ≡ AtEnd = grind arith in
@@ -105,7 +106,7 @@ page_at_end form tries most s text honest =
     along (row ∷ walk) end empty ends = cc empty
 
 -- a page whose cursor is out of memory
-pub page_without_memory : (form : Form) (place : Place) (tries : ℕ) (most : Option ℕ) (s : Seen)
+pub page_without_memory : (form : Form) (place : Place) (tries : Tries) (most : Option ℕ) (s : Seen)
     (text : Output) → IsHonest s
     → IsPage form place tries most (change s s text text) (Err Failure.OutOfMemory)
 page_without_memory form place tries most s text honest = record {
@@ -123,7 +124,7 @@ no_log shelf store [] log = log.ends
 no_log shelf store (row ∷ rows) log = let none = log.walks.first in cc none
 
 -- a page from id 0000h
-pub page_of_cycle : (form : Form) (tries : ℕ) (most : Option ℕ) (s : Seen) (text : Output) → IsHonest s
+pub page_of_cycle : (form : Form) (tries : Tries) (most : Option ℕ) (s : Seen) (text : Output) → IsHonest s
     → (most ≡ Some 0 → ⊥) → IsPage form (Id 0) tries most (change s s text text) (Err (Failure.Ended (Ended.Cycle 0)))
 page_of_cycle form tries most s text honest some = record {
   ends = ends_here honest refl tt;
@@ -152,7 +153,7 @@ abbrev pub page_result : Place → Result ℕ Failure → Result Place Failure
 page_result next (Ok count) = Ok next
 page_result next (Err failure) = Err failure
 
-pub page_by_cursor : {limits : RequestLimits} {form : Form} {from : Option ℕ} {tries : ℕ}
+pub page_by_cursor : {limits : RequestLimits} {form : Form} {from : Option ℕ} {tries : Tries}
     {most : Option ℕ}
     {begun now : CursorState} {c : Change} (result : Result ℕ Failure) → IsFresh limits form from begun
     → (most ≡ Some 0 → ⊥) → IsHonest c.seen → ListsHonestly form tries most begun now c result
@@ -183,14 +184,14 @@ page_by_cursor (Err failure) fresh some honest lists = record {
 -- ---- pages, one after another
 
 -- the result of the remaining pages leads to the result of all pages
-abbrev pub LeadsTo : Form → ℕ → List ℕ → List ℕ → Place → Place → Seen → Seen → Output → Output
+abbrev pub LeadsTo : Form → Tries → List ℕ → List ℕ → Place → Place → Seen → Seen → Output → Output
     → Type 0
 LeadsTo form tries all left start now s s' old text =
     (s'' : Seen) (new : Output) (ending : Ending)
     → ArePages form tries now left (change s' s'' text new) ending
     → ArePages form tries start all (change s s'' old new) ending
 
-module _ (form : Form) (tries : ℕ) (all : List ℕ) (k : ℕ) (start now : Place) (s s' s'' : Seen)
+module _ (form : Form) (tries : Tries) (all : List ℕ) (k : ℕ) (start now : Place) (s s' s'' : Seen)
     (old text text' : Output) (there : k < length all)
     (leads : LeadsTo form tries all (drop k all) start now s s' old text) where
   leads_here : LeadsTo form tries all (get_or all k 0 ∷ drop (k + 1) all) start now s s' old text

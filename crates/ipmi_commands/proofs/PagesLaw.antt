@@ -7,6 +7,7 @@ use Rattle.std.proofs.lemmas.List.{drop_all}
 use Rattle.ipmi_commands.specs.Below.{Place, First, End, Row, IsShelf, Store, rows_of, store_shelf, IsWalk, TailIsWalk, WalkEnd, EndsBy, place_after, place_after_rows, Seen, IsHonest, step_call_bound, Ending, Failure}
 use Rattle.ipmi_commands.specs.Prelude.{ArePages, calls_for, cause_of, Change, change, EndsFor, EndsListing, Form, GoesOn, IsAllowed, IsOneListing, IsOpen, IsPieceOver, Job, Listing, listing, listing_in, listing_plan, lists_all, most_on_walk, OnWalk, pages_made, Plan, Printed, row_items, rows_end, RunsPaged, shelf_of}
 use Rattle.ipmi_commands.specs.Output.{Output}
+use Rattle.ipmi_commands.specs.declared.limits.Tries.{Tries}
 use Rattle.ipmi_commands.proofs.CallLemmas.{calls_split}
 use Rattle.ipmi_commands.proofs.ItemLemmas.{after_items, leaves_joined, leaves_longer, row_items-split}
 use Rattle.ipmi_commands.proofs.PageLemmas.{calls_of_page, no_walk}
@@ -23,7 +24,7 @@ same_end : (form : Form) (rows : List Row) (end : WalkEnd) → NamesNone form
 same_end form rows end none = grind arith
 
 -- the result of all pages together
-pub record OneListing (form : Form) (start : Place) (tries : ℕ) (sizes : List ℕ) (c : Change)
+pub record OneListing (form : Form) (start : Place) (tries : Tries) (sizes : List ℕ) (c : Change)
     (ending : Ending) : Type 0 where
   pub ends : EndsFor tries (IsTrue c.seen.plain) c.seen c.seen' (cause_of ending)
   pub along : c.seen'.stores_added ≡ c.seen.stores_added
@@ -104,7 +105,7 @@ module _ (walk_tail : TailIsWalk) where
 
   -- ---- the law
 
-  pub pages_are_one : (form : Form) (tries : ℕ) (start : Place) (sizes : List ℕ) (s s' : Seen)
+  pub pages_are_one : (form : Form) (tries : Tries) (start : Place) (sizes : List ℕ) (s s' : Seen)
       (old new : Output) (ending : Ending) → NamesNone form → IsHonest s → ArePages form tries start sizes (change s s' old new) ending
       → OneListing form start tries sizes (change s s' old new) ending
   pages_are_one form tries start [] s s' old new ending none honest last = record {
@@ -117,7 +118,7 @@ module _ (walk_tail : TailIsWalk) where
         ends = rw last.1 page.ends;
         along = λ same walk end w ends open_.
             let along = page.along same walk end w ends in
-            let made = calls_of_page size sizes (calls_for form s.store tries (take size walk)) (step_call_bound tries 0 + 7) s s' (omega (arith, along.calls)) page.none in (
+            let made = calls_of_page size sizes (calls_for form s.store tries (take size walk)) (step_call_bound tries.count 0 + 7) s s' (omega (arith, along.calls)) page.none in (
               rw last.1 (leaves_wide form s.store (rows_of (shelf_of form) s.store) start walk end ends size old new none last.0 along.leaves),
               omega (arith, made, calls_split form s.store tries size walk),
             );
@@ -134,9 +135,9 @@ module _ (walk_tail : TailIsWalk) where
             let there = rest_there form s.store (rows_of (shelf_of form) s.store) start more.next walk end size w (store_shelf (shelf_of form) s.store honest.store) ends open_ along.goes_on in
             let rest = (subst (λ (x : Store). OnWalk (shelf_of form) more.next x (λ walk end. IsOpen end
             → IsAllowed (IsPieceOver x) (plan_from form more.next None walk end) more.text new ending
-            × (s'.calls ≤ more.seen.calls + 0 + calls_for form x tries walk + pages_made sizes * (step_call_bound tries 0 + 7)))) (page.ends.stays.store.stays first)
+            × (s'.calls ≤ more.seen.calls + 0 + calls_for form x tries walk + pages_made sizes * (step_call_bound tries.count 0 + 7)))) (page.ends.stays.store.stays first)
             (later.along (since same).1)) (drop size walk) end there.0 there.1 open_ in
-            let made = calls_of_page size sizes (calls_for form s.store tries (take size walk)) (step_call_bound tries 0 + 7) s more.seen (omega (arith, along.calls)) page.none in (
+            let made = calls_of_page size sizes (calls_for form s.store tries (take size walk)) (step_call_bound tries.count 0 + 7) s more.seen (omega (arith, along.calls)) page.none in (
               leaves_of_rest form s.store (rows_of (shelf_of form) s.store) start more.next walk end size w old more.text new ending none along.leaves.0 along.goes_on rest.0,
               omega (arith, rest.1, made, calls_split form s.store tries size walk),
             );
@@ -145,7 +146,7 @@ module _ (walk_tail : TailIsWalk) where
 -- ---- a job that can be done in pages
 
 -- it lists all records of a shelf, in a form that does not search for a name; the result of the pages
-pub paged : TailIsWalk → (job : Job) (tries : ℕ) (sizes : List ℕ) (s s' : Seen)
+pub paged : TailIsWalk → (job : Job) (tries : Tries) (sizes : List ℕ) (s s' : Seen)
     (old new : Output) (ending : Ending) (l : Listing) → lists_all job ≡ true → listing_in job ≡ Some l
     → s'.calls ≤ s.calls + pages_made sizes * most_on_walk l.form tries
     → EndsListing l.form s' ending

@@ -1,10 +1,11 @@
 -- Tasks that print one text, and the task of all inventories: one text, then a listing.
 use Rattle.std.proofs.Common.{◌≡◌, false, ℕ, ◌+◌, ◌≤◌, IsTrue, Option, None, Some, Result, Ok, Err, Vec, Global, List, [], ◌∷◌, ◌++◌, option_map, refl, arith}
-use Rattle.ipmi_commands.specs.Below.{Done, fru_call_bound, LastFailed, NotPresent, Sdr, Shelf, Place, First, Seen, IsHonest, Row, Store, info_of, WalkEnd, Ending, Failure}
+use Rattle.ipmi_commands.specs.Below.{Done, LastFailed, NotPresent, Sdr, Shelf, Place, First, Seen, IsHonest, Row, Store, info_of, WalkEnd, Ending, Failure}
 use Rattle.ipmi_commands.specs.Run.{EndsInfo, EndsInventory, ShowsInventory}
-use Rattle.ipmi_commands.specs.Prelude.{LacksInventory, LacksValue, AtEnd, AtRecord, cause_of, Change, change, ending_of, points_at_walk_end, EndsFor, EndsListing, failure_of, Finds, Form, info_plan, inventories_plan, AtInventory, inventory_item, inventory_plan, most_on_walk, IsAllowed, IsAmong, IsInfoText, IsPage, IsPieceOver, IsTextWhile, Item, Job, Listing, listing, listing_plan, IsStopAmong, OfInfo, OfInventory, Plan, row_items, Runs, ReadPoint, next_points, Subject, text_plan, ReadError, Wording, WritesPiece, shown}
+use Rattle.ipmi_commands.specs.Prelude.{LacksInventory, LacksValue, AtEnd, AtRecord, cause_of, Change, change, ending_of, points_at_walk_end, EndsFor, EndsListing, failure_of, Finds, Form, info_plan, inventories_plan, AtInventory, inventory_item, inventory_plan, most_on_walk, IsAllowed, IsAmong, IsInfoText, IsPage, IsPieceOver, IsTextWhile, Item, Job, Listing, listing, listing_plan, IsStopAmong, OfInfo, OfInventory, Plan, row_items, Runs, ReadPoint, next_points, Subject, text_plan, ReadError, Wording, WritesPiece, shown, inventory_call_bound}
 use Rattle.ipmi_commands.specs.Output.{Output, piece_of}
 use Rattle.ipmi_commands.specs.declared.piece.Piece.{Piece}
+use Rattle.ipmi_commands.specs.declared.limits.Tries.{Tries}
 use Rattle.ipmi_commands.proofs.CountLemmas.{between, ends_as, ends_since}
 use Rattle.ipmi_bus.proofs.HeldLemmas.{keeps_first, keeps_second}
 use Rattle.ipmi_commands.proofs.ItemLemmas.{cut_after, leaves_joined, leaves_longer, leaves_map, no_items, none_printed, one_printed, printed_map, stops_after}
@@ -13,7 +14,7 @@ use Rattle.ipmi_commands.proofs.MeanwhileLemmas.{growing_second, keeps_at_same, 
 -- ---- one listing
 
 -- a page is the run of its listing
-pub page_runs : (l : Listing) (tries : ℕ) (c : Change) (result : Result Place Failure)
+pub page_runs : (l : Listing) (tries : Tries) (c : Change) (result : Result Place Failure)
     → EndsListing l.form c.seen' (ending_of result)
     → c.seen'.calls ≤ c.seen.calls + most_on_walk l.form tries
     → (IsHonest c.seen → IsPage l.form l.start tries l.most c result)
@@ -39,7 +40,7 @@ text_leaves IsText subject points old new text (Err Failure.WriteFault) is write
 text_leaves IsText subject points old new text (Err _) is writes = absurd writes
 
 -- the reason for the ending is the result of writing
-pub text_ends : (tries : ℕ) (IsPlain : Type 0) (s s' : Seen) (text old new : Output) (ending : Ending)
+pub text_ends : (tries : Tries) (IsPlain : Type 0) (s s' : Seen) (text old new : Output) (ending : Ending)
     → EndsFor tries IsPlain s s' AtEnd → WritesPiece text old new ending
     → EndsFor tries IsPlain s s' (cause_of ending)
 text_ends tries IsPlain s s' text old new ending ends writes = grind (arith, ends_as)
@@ -68,7 +69,7 @@ value_ends : (seen : Seen) (unread : ReadError) → LacksValue unread seen
 value_ends seen unread says = grind arith
 
 -- the contract for each result of an info
-module _ (wording : Wording) (shelf : Shelf) (tries : ℕ) (s s' : Seen) (calls : s'.calls ≤ s.calls + (tries + 1)) where
+module _ (wording : Wording) (shelf : Shelf) (tries : Tries) (s s' : Seen) (calls : s'.calls ≤ s.calls + (tries.count + 1)) where
   abbrev FoundInfo : Result (Option (Vec ℕ Global)) ReadError → Type 0
   FoundInfo result = IsHonest s → Finds (λ store found. IsInfoText wording shelf (info_of shelf store) (option_map (λ text. text.items) found)) (AtRecord 0 ∷ []) tries s s' result
 
@@ -134,7 +135,7 @@ inventory_lost wording id name s s' text (ReadError.Inventory device ended) says
 inventory_lost wording id name s s' text ReadError.Memory says = refl
 inventory_lost wording id name s s' text (ReadError.Ended ended) says = absurd says
 
-module _ (wording : Wording) (id : ℕ) (name : Option (List ℕ)) (tries : ℕ) (s s' : Seen) (calls : s'.calls ≤ s.calls + fru_call_bound tries 65535) where
+module _ (wording : Wording) (id : ℕ) (name : Option (List ℕ)) (tries : Tries) (s s' : Seen) (calls : s'.calls ≤ s.calls + inventory_call_bound tries 65535) where
   abbrev FoundInventory : Result Piece ReadError → Type 0
   FoundInventory result = IsHonest s → Finds (λ store piece. IsPieceOver store (OfInventory wording id name) (shown piece)) (AtInventory id ∷ []) tries s s' result
 
@@ -187,7 +188,7 @@ first_leaves IsText wording name walk end old new failure allowed =
         → IsAmong (next_points (rest ++ row_items (Form.Device wording) First walk) (points_at_walk_end First walk end)) point
     there point rest among = grind arith
 
-pub first_run : (wording : Wording) (name : Option (List ℕ)) (tries : ℕ) (s s' : Seen) (old new : Output) (failure : Failure)
+pub first_run : (wording : Wording) (name : Option (List ℕ)) (tries : Tries) (s s' : Seen) (old new : Output) (failure : Failure)
     → Runs (Job.Inventory wording 0 name) tries (change s s' old new) (Err failure)
     → Runs (Job.AllInventories wording name) tries (change s s' old new) (Err failure)
 first_run wording name tries s s' old new failure runs = record {
@@ -211,7 +212,7 @@ first_run wording name tries s s' old new failure runs = record {
     of_device _ ends = absurd ends.writes
 
 -- the inventory of device 0, then the output of a listing of the locators
-pub inventories_run : (wording : Wording) (name : Option (List ℕ)) (tries : ℕ) (s s' s'' : Seen) (old text new : Output)
+pub inventories_run : (wording : Wording) (name : Option (List ℕ)) (tries : Tries) (s s' s'' : Seen) (old text new : Output)
     (next : Result Place Failure) → s''.calls ≤ s'.calls + most_on_walk (Form.Device wording) tries
     → EndsListing (Form.Device wording) s'' (ending_of next)
     → Runs (Job.Inventory wording 0 name) tries (change s s' old text) (Ok tt)

@@ -1,9 +1,10 @@
 -- A run over an image, and rewriting an image.
 use Rattle.std.proofs.Common.{◌≡◌, ◌⊎◌, inl, inr, ℕ, ◌+◌, arith, false, IsTrue, Option, None, Some, Result, Ok, Err, List, [], refl, subst, sym, ap₂, ◌∙◌}
 use Rattle.ipmi_commands.specs.Below.{CommandState, Count, Failure, failure_of_image, ImageFault, Row, Store, Seen, WalkEnd, IsHonest, image_text_of, Ending, Task}
-use Rattle.ipmi_commands.specs.Prelude.{after_names, AnswersJob, change, Form, IsAllowed, IsRewriting, IsPieceOver, Job, job_in, job_of, job_of_command, NameLookup, no_output, OnBytes, OfImage, OnNamed, FollowsPlan, pieces_of, faults_of, Plan, printed, rewrite_plan, Runs, RunsCommand, RunsOver, walk_call_bound, Wording, WritesPiece}
+use Rattle.ipmi_commands.specs.Prelude.{after_names, AnswersJob, change, for_inventory, Form, IsAllowed, IsRewriting, IsPieceOver, Job, job_in, job_of, job_of_command, NameLookup, no_output, OnBytes, OfImage, OnNamed, FollowsPlan, pieces_of, faults_of, Plan, printed, rewrite_plan, Runs, RunsCommand, RunsOver, walk_call_bound, Wording, WritesPiece}
 use Rattle.ipmi_commands.specs.Output.{Output, piece_of}
 use Rattle.ipmi_commands.specs.declared.summary.Summary.{Summary}
+use Rattle.ipmi_commands.specs.declared.limits.Tries.{Tries}
 use Rattle.ipmi_commands.proofs.NamedLemmas.{named_all}
 use Rattle.ipmi_commands.proofs.ItemLemmas.{no_items}
 use Rattle.ipmi_commands.proofs.PerformLemmas.{text_leaves}
@@ -28,9 +29,9 @@ module _ (command : CommandState) (found : Option Job) (is : job_of_command comm
         (subst (λ job. Holds job (printed old begun) (printed new now)) (sym is) holds),
   )
 
-  pub command_runs : (s s' : Seen) → RunsCommand found command.tries (change s s' (printed old begun) (printed new now)) ending
-      → OnBytes old new (λ a b. RunsCommand (job_of_command command) command.tries (change s s' a b) ending)
-  command_runs s s' runs = on_command (λ job a b. RunsCommand job command.tries (change s s' a b) ending) runs
+  pub command_runs : (s s' : Seen) → RunsCommand found (for_inventory command.tries) (change s s' (printed old begun) (printed new now)) ending
+      → OnBytes old new (λ a b. RunsCommand (job_of_command command) (for_inventory command.tries) (change s s' a b) ending)
+  command_runs s s' runs = on_command (λ job a b. RunsCommand job (for_inventory command.tries) (change s s' a b) ending) runs
 
   pub command_answers : (store : Store) → RunsOver found store (printed old begun) (printed new now) ending
       → OnBytes old new (λ a b. RunsOver (job_of_command command) store a b ending)
@@ -39,19 +40,19 @@ module _ (command : CommandState) (found : Option Job) (is : job_of_command comm
 -- ---- a run over an image
 
 -- a fact about the plan that does not depend on the tries
-named_kept : (Holds : Plan → Type 0) (wording : Wording) (records : List Row) (end : WalkEnd) (named : NameLookup) (tries : ℕ)
+named_kept : (Holds : Plan → Type 0) (wording : Wording) (records : List Row) (end : WalkEnd) (named : NameLookup) (tries : Tries)
     (store : Store) (More : Plan → ℕ → Type 0)
     → ((plan : Plan) (calls : ℕ) → More plan calls → Holds plan)
     → OnNamed wording records end named tries store More
-    → OnNamed wording records end named 0 store (λ plan calls. Holds plan)
+    → OnNamed wording records end named (for_inventory 0) store (λ plan calls. Holds plan)
 named_kept Holds wording records end (NameLookup.Events Count.All from) tries store More keep on = λ walk e w ends. keep _ _ (on walk e w ends)
 named_kept Holds wording records end (NameLookup.Events (Count.First n) from) tries store More keep on = λ walk e w ends. keep _ _ (on walk e w ends)
 named_kept Holds wording records end (NameLookup.Events (Count.Last n) from) tries store More keep on = λ walk e w ends. keep _ _ (on walk e w ends)
 named_kept Holds wording records end NameLookup.Devices tries store More keep on = keep _ _ on
 
-plan_kept : (Holds : Plan → Type 0) (job : Job) (tries : ℕ) (store : Store) (More : Plan → ℕ → Type 0)
+plan_kept : (Holds : Plan → Type 0) (job : Job) (tries : Tries) (store : Store) (More : Plan → ℕ → Type 0)
     → ((plan : Plan) (calls : ℕ) → More plan calls → Holds plan)
-    → FollowsPlan job tries store More → FollowsPlan job 0 store (λ plan calls. Holds plan)
+    → FollowsPlan job tries store More → FollowsPlan job (for_inventory 0) store (λ plan calls. Holds plan)
 plan_kept Holds (Job.Records l) tries store More keep on = λ walk end w ends. keep _ _ (on walk end w ends)
 plan_kept Holds (Job.Last entries n from) tries store More keep on = λ walk end w ends. keep _ _ (on walk end w ends)
 plan_kept Holds (Job.LastKept entries n from) tries store More keep on = λ walk end w ends. keep _ _ (on walk end w ends)
@@ -63,7 +64,7 @@ plan_kept Holds (Job.AllInventories wording name) tries store More keep on = λ 
 plan_kept Holds _ tries store More keep on = keep _ _ on
 
 -- a run over a plain controller with the store of the image
-pub over_image : (job : Job) (tries : ℕ) (store : Store) (s s' : Seen) (old new : Output)
+pub over_image : (job : Job) (tries : Tries) (store : Store) (s s' : Seen) (old new : Output)
     (ending : Ending) → IsHonest s → IsTrue s.plain → s.store ≡ store
     → Runs job tries (change s s' old new) ending
     → RunsOver (Some job) store old new ending
@@ -82,12 +83,12 @@ rewritten store old new ending writes = record { allowed = text_leaves (IsPieceO
 -- ---- an image that was not read
 
 plan_all : (Holds : Plan → Type 0) (job : Job) (store : Store) → ((plan : Plan) → Holds plan)
-    → FollowsPlan job 0 store (λ plan calls. Holds plan)
+    → FollowsPlan job (for_inventory 0) store (λ plan calls. Holds plan)
 plan_all Holds (Job.Records l) store holds = λ walk end w ends. holds _
 plan_all Holds (Job.Last entries n from) store holds = λ walk end w ends. holds _
 plan_all Holds (Job.LastKept entries n from) store holds = λ walk end w ends. holds _
 plan_all Holds (Job.NameLookup wording named) store holds = λ records end w ends.
-    named_all wording records end 0 store (λ plan calls. Holds (after_names records end plan)) named (λ plan calls. holds _)
+    named_all wording records end (for_inventory 0) store (λ plan calls. Holds (after_names records end plan)) named (λ plan calls. holds _)
 plan_all Holds (Job.AllInventories wording name) store holds = λ walk end w ends. holds _
 plan_all Holds _ store holds = holds _
 

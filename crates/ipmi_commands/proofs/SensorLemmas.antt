@@ -15,6 +15,7 @@ use Rattle.ipmi_records.specs.Sdr.{name_of}
 use Rattle.ipmi_commands.specs.Sensors.{AddsNamed, AreFoundWhile, AreNamed, FindsAlong, FindsBy, FindsWhile, Found, found_among, found_by, found_of, found_of_result, found_points, has_one_of, SearchCalls, Searches, SearchesBy, StopsAtResult, with_readings}
 use Rattle.ipmi_commands.specs.Traced.{IsStopAmong, IsTraced, seen_next}
 use Rattle.ipmi_commands.specs.declared.limits.RequestLimits.{RequestLimits}
+use Rattle.ipmi_commands.specs.declared.limits.Tries.{Tries}
 use Rattle.ipmi_commands.proofs.AlongLemmas.{in_all, IsAlong, one_more, StepsAlong, stopped_along}
 use Rattle.ipmi_commands.proofs.AskLemmas.{asks_nothing, then_no_memory}
 use Rattle.ipmi_commands.proofs.CallLemmas.{called_more, called_stopped, calls_ended, HandsNothing, HasCalled}
@@ -26,7 +27,7 @@ use Rattle.ipmi_commands.proofs.TraceLemmas.{cursor_more, handed_joined, next_mo
 
 -- ---- what is found of a row
 
-module _ (names : List (List ℕ)) (tries : ℕ) (row : Row) {view : SdrView} (is : sdr_view_of row.bytes ≡ Ok view)
+module _ (names : List (List ℕ)) (tries : Tries) (row : Row) {view : SdrView} (is : sdr_view_of row.bytes ≡ Ok view)
     {own : Option (List ℕ)} (own_is : own ≡ name_of view) {one : Bool}
     (one_is : one ≡ list_any (λ name. is_name name own) names) where
   whether : has_one_of names (sdr_view_of row.bytes) ≡ one
@@ -75,7 +76,7 @@ reading_kept names row s s' =
     if_keeps (has_one_of names (sdr_view_of row.bytes)) (reading_points row.id (sdr_view_of row.bytes)) s s' (reading_keeps row.id (sdr_view_of row.bytes) s s')
 
 -- its calls are among those of a listing with readings
-found_calls : (names : List (List ℕ)) (row : Row) (tries : ℕ) (a b : Store)
+found_calls : (names : List (List ℕ)) (row : Row) (tries : Tries) (a b : Store)
     → calls_for_points tries a (found_points names row) ≤ calls_for_points tries b (points_because_of with_readings row)
 found_calls names row tries a b = if_found (has_one_of names (sdr_view_of row.bytes))
   where
@@ -117,7 +118,7 @@ found_more names (one ∷ steps) step last =
 -- ---- a search that goes on
 
 -- over an honest controller
-pub record Searched (names : List (List ℕ)) (tries count : ℕ) (begun now : CursorState) (s s' : Seen)
+pub record Searched (names : List (List ℕ)) (tries : Tries) (count : ℕ) (begun now : CursorState) (s s' : Seen)
     (old new : List Found) : Type 0 where
   pub ends : EndsFor tries (IsTrue s.plain × CursorHoldsCurrent begun s) s s' AtEnd
   pub holds : IsTrue s.plain → CursorHoldsCurrent begun s → CursorHoldsCurrent now s'
@@ -127,16 +128,16 @@ pub record Searched (names : List (List ℕ)) (tries count : ℕ) (begun now : C
   pub along : s'.stores_added ≡ s.stores_added → OnEachWalk Sdr begun s.store
       (λ start walk end k. IsAlong with_readings tries None count begun now s s' start walk k)
 
-pub record Searching (names : List (List ℕ)) (tries : ℕ) (begun now : CursorState) (s s' : Seen)
+pub record Searching (names : List (List ℕ)) (tries : Tries) (begun now : CursorState) (s s' : Seen)
     (old new : List Found) : Type 0 where
   pub shelf : now.shelf ≡ Sdr
-  pub tries_are : now.tries ≡ tries
+  pub tries_are : now.tries ≡ tries.count
   pub count : ℕ
   pub called : HasCalled (most_for_one with_readings tries) count begun now s s'
   pub went : IsHonest s → Searched names tries count begun now s s' old new
 
-pub search_begun : (names : List (List ℕ)) (tries : ℕ) (begun : CursorState) (s : Seen) (old : List Found)
-    → begun.shelf ≡ Sdr → begun.tries ≡ tries → set.len begun.ids ≤ 65536
+pub search_begun : (names : List (List ℕ)) (tries : Tries) (begun : CursorState) (s : Seen) (old : List Found)
+    → begun.shelf ≡ Sdr → begun.tries ≡ tries.count → set.len begun.ids ≤ 65536
     → Searching names tries begun begun s s old old
 search_begun names tries begun s old shelf tries_are room = record {
   shelf = shelf;
@@ -157,7 +158,7 @@ search_begun names tries begun s old shelf tries_are room = record {
   };
 }
 
-module _ {names : List (List ℕ)} {tries : ℕ} {begun now : CursorState} {s s' : Seen} {old new : List Found}
+module _ {names : List (List ℕ)} {tries : Tries} {begun now : CursorState} {s s' : Seen} {old new : List Found}
     (kept : Searching names tries begun now s s' old new) where
   module _ {next : CursorState} {s'' : Seen} {result : Result (Option Row) Ended}
       (step : IsStep now next s' s'' result) where
@@ -253,7 +254,7 @@ module _ {names : List (List ℕ)} {tries : ℕ} {begun now : CursorState} {s s'
 
   -- a record was returned
   module _ {next : CursorState} {s'' : Seen} {row : Row} (step : IsStep now next s' s'' (Ok (Some row)))
-      (last : Seen) (asked : last.calls ≤ s''.calls + (tries + 1)) where
+      (last : Seen) (asked : last.calls ≤ s''.calls + (tries.count + 1)) where
     more_called : HasCalled (most_for_one with_readings tries) (kept.count + 1) begun next s last
     more_called = called_more (most_after with_readings tries) refl kept.shelf kept.tries_are kept.called step last refl asked
 
@@ -495,7 +496,7 @@ module _ (names : List (List ℕ)) (begun now : CursorState) (s s' : Seen) (old 
 
 -- ---- a new cursor
 
-pub search_by_cursor : {limits : RequestLimits} {form : Form} {from : Option ℕ} {names : List (List ℕ)} {tries : ℕ}
+pub search_by_cursor : {limits : RequestLimits} {form : Form} {from : Option ℕ} {names : List (List ℕ)} {tries : Tries}
     {begun now : CursorState} {s s' : Seen} {old new : List Found} {ending : Ending}
     → IsFresh limits form from begun → shelf_of form ≡ Sdr → IsHonest s
     → SearchesBy names tries begun now s s' old new ending
@@ -528,7 +529,7 @@ search_by_cursor {form = form} {from = from} {names} {tries} {begun = begun} {no
     calls_on same walk end on = omega (arith, by_cursor.calls same (start_of from) walk end 0 on fresh.some, fresh.falls)
 
 -- without memory for one
-pub search_without_memory : {names : List (List ℕ)} {start : Place} {tries : ℕ} {s : Seen} {old : List Found} → IsHonest s
+pub search_without_memory : {names : List (List ℕ)} {start : Place} {tries : Tries} {s : Seen} {old : List Found} → IsHonest s
     → Searches names start tries s s old old (Err Failure.OutOfMemory)
 search_without_memory {s = s} {old = old} honest = record {
   why = ends_here honest refl tt;

@@ -5,6 +5,7 @@ use Rattle.ipmi_json.specs.Sdr.{bytes_members, fault_members}
 use Rattle.ipmi_json.specs.Laws.{DeviceLineIsUnique, EntryLineIsUnique, InfoLineIsUnique, ObjectLineIsUnique, RecordLineIsUnique}
 use Rattle.ipmi_commands.specs.Prelude.{after_names, bytes_of_rows, NameLookup, OnNamed, PrintsAll, AreOfBytes, Detail, Entries, entries_in, first_rows, FinishedRunsAreOne, Form, IfChosen, info_plan, Printed, IsBlockIn, IsBlockOfName, IsEntryLine, IsInfoIn, IsInventoryIn, IsInventoryText, IsLocatorPiece, IsOfBytes, IsRecordLine, IsRowText, IsTextOver, IsPieceOver, is_faulty, Item, ItemsHaveOneText, Job, last_items, last_plan, last_rows, OnWalk, reading_for, row_items, shelf_of, ReadPoint, points_of_walk, Subject, with_first_points, Wording}
 use Rattle.ipmi_commands.specs.Output.{Output, piece_of}
+use Rattle.ipmi_commands.specs.declared.limits.Tries.{Tries}
 
 -- there is at most one such text
 abbrev IsOne : (List ℕ → Type 0) → Type 0
@@ -138,7 +139,7 @@ module _ (one : ItemsHaveOneText) (exists : WalkExists) (look_row : FoundIsRow) 
 
   -- after reading the names
   one_named : (store : Store) (old a b : Output) (e f : Ending) (wording : Wording) (named : NameLookup)
-      (tries tries' : ℕ) (rows : List Row) (end : WalkEnd) → IsStore store → AllOf store.sdr rows
+      (tries tries' : Tries) (rows : List Row) (end : WalkEnd) → IsStore store → AllOf store.sdr rows
       → OnNamed wording rows end named tries store (λ plan calls. PrintsAll (IsPieceOver store) (after_names rows end plan) old a e)
       → OnNamed wording rows end named tries' store (λ plan calls. PrintsAll (IsPieceOver store) (after_names rows end plan) old b f)
       → (a ≡ b) × (e ≡ f)

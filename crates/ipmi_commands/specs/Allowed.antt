@@ -3,6 +3,7 @@
 -- `seen'`, are the states of the controller that contracts see before and after.
 use Rattle.std.specs.Prelude.{◌≡◌, ℕ, ◌+◌, ◌<◌, ◌≤◌, Result, Ok, Err, List, [], ◌∷◌, ◌++◌, length, ◌⊎◌}
 use Rattle.ipmi_commands.specs.Below.{Ended, FruEnded, ImageFault, inventory_of, Keeps, Seen, StaysHonest, Ending, Failure}
+use Rattle.ipmi_commands.specs.declared.limits.Tries.{Tries}
 use Rattle.ipmi_commands.specs.Output.{and_then, IsCut, no_output, Output}
 use Rattle.ipmi_commands.specs.Texts.{Subject}
 use Rattle.ipmi_commands.specs.Plan.{ReadPoint, AtRecord, AtInventory, Item, Plan, next_points}
@@ -119,17 +120,17 @@ IsAllowed IsText plan old new ending = Leaves IsText plan old new ending (cause_
 
 -- giving up takes more than `tries` troubles since something was last finished; at an inventory that
 -- changed, at least one: a shorter inventory may have been finished in between
-abbrev pub HasFreshTroubles : ℕ → Seen → Seen → ReadPoint → Type 0
-HasFreshTroubles tries s s' (AtRecord n) = tries < s'.fresh_troubles
+abbrev pub HasFreshTroubles : Tries → Seen → Seen → ReadPoint → Type 0
+HasFreshTroubles tries s s' (AtRecord n) = tries.count < s'.fresh_troubles
 HasFreshTroubles tries s s' (AtInventory id) =
-    (0 < s'.fresh_troubles) × (Keeps (inventory_of id) s s' → tries < s'.fresh_troubles)
+    (0 < s'.fresh_troubles) × (Keeps (inventory_of id) s s' → tries.count < s'.fresh_troubles)
 
 -- `GaveUp`: no refusal, and more than `tries` troubles, both in this run and since something was
 -- last finished. `Refused`: one refusal, with this code. `Dishonest`: impossible. Otherwise no
 -- refusal.
-abbrev pub CountsSo : ℕ → Seen → Seen → Cause → Type 0
+abbrev pub CountsSo : Tries → Seen → Seen → Cause → Type 0
 CountsSo tries s s' (GaveUp point) =
-    (s'.refusals ≡ s.refusals) × (s.troubles + tries < s'.troubles)
+    (s'.refusals ≡ s.refusals) × (s.troubles + tries.count < s'.troubles)
     × HasFreshTroubles tries s s' point
 CountsSo tries s s' (Refused point code) = (s'.refusals ≡ s.refusals + 1) × (s'.last_code ≡ code)
 CountsSo tries s s' Dishonest = ⊥
@@ -144,7 +145,7 @@ IsFine _ = Unit {0}
 
 -- why a run over an honest controller ended: the controller stays honest, and its counts agree with
 -- this cause
-pub record EndsFor (tries : ℕ) (IsPlain : Type 0) (s s' : Seen) (cause : Cause) : Type 0 where
+pub record EndsFor (tries : Tries) (IsPlain : Type 0) (s s' : Seen) (cause : Cause) : Type 0 where
   pub stays : StaysHonest s s'
   pub grows : s.troubles ≤ s'.troubles
   pub counts : CountsSo tries s s' cause

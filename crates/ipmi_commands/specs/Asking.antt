@@ -1,7 +1,9 @@
 -- Requests for a reading, an info or an inventory, and their results: for the contracts of private
 -- functions.
-use Rattle.std.specs.Prelude.{◌≡◌, ℕ, ◌+◌, ◌≤◌, ◌==◌, Bool, false, [], IsTrue, MatchBool, Option, None, Some, Result, Ok, Err, List}
-use Rattle.ipmi_commands.specs.Below.{fru_of, FruEnded, KeepsReservations, LastFruCallSays, printed_name, Row, sdr_view_of, SdrFault, SdrView, Store, Shelf, Seen, Failure}
+use Rattle.std.specs.Prelude.{◌≡◌, ℕ, ◌+◌, ◌≤◌, ◌==◌, if◌then◌else◌, Bool, true, false, [], IsTrue, MatchBool, Option, None, Some, Result, Ok, Err, List, Vec}
+use Rattle.std.specs.declared.alloc.Global.{Global}
+use Rattle.ipmi_commands.specs.Below.{fru_of, FruEnded, KeepsReservations, LastFruCallSays, printed_name, ReadsInventory, ReadsRetryingParts, Row, sdr_view_of, SdrFault, SdrView, Store, Shelf, Seen, Failure}
+use Rattle.ipmi_commands.specs.declared.limits.Tries.{Tries}
 use Rattle.ipmi_commands.specs.declared.job.Form.{Form}
 use Rattle.ipmi_commands.specs.declared.job.Wording.{Wording}
 use Rattle.ipmi_commands.specs.declared.piece.Piece.{Piece}
@@ -19,14 +21,14 @@ use Rattle.ipmi_commands.specs.Traced.{IsStopAmong}
 -- ---- found, or not
 
 -- what holds over an honest controller after requests at these points that end with this cause
-pub record AsksAt (points : List ReadPoint) (tries : ℕ) (s s' : Seen) (cause : Cause) : Type 0 where
+pub record AsksAt (points : List ReadPoint) (tries : Tries) (s s' : Seen) (cause : Cause) : Type 0 where
   pub ends : EndsFor tries (IsTrue s.plain) s s' cause
   pub calls : KeepsAt points s s' → s'.calls ≤ s.calls + calls_for_points tries s.store points
   pub keeps : IsTrue s.plain → KeepsReservations s s'
 
 -- the value is found, as the store has it now, and the run continues; if an inventory changed while it
 -- was read, any value
-pub record FindsIt (Is : Store → Type 0) (points : List ReadPoint) (tries : ℕ)
+pub record FindsIt (Is : Store → Type 0) (points : List ReadPoint) (tries : Tries)
     (s s' : Seen) : Type 0 where
   pub asks : AsksAt points tries s s' AtEnd
   pub is : KeepsAt points s s' → Is s'.store
@@ -41,12 +43,12 @@ abbrev pub cause_of_unread : ReadError → Cause
 cause_of_unread unread = cause_of (Err (failure_of unread))
 
 -- the value is not found; the run ends with this cause
-pub record FindsNone (points : List ReadPoint) (tries : ℕ) (s s' : Seen) (cause : Cause) : Type 0 where
+pub record FindsNone (points : List ReadPoint) (tries : Tries) (s s' : Seen) (cause : Cause) : Type 0 where
   pub asks : AsksAt points tries s s' cause
   pub there : IsStopAmong points cause
 
 -- the result of requests at these points: the value is found, or not
-abbrev pub Finds : {T : Type 0} → (Store → T → Type 0) → List ReadPoint → ℕ → Seen → Seen
+abbrev pub Finds : {T : Type 0} → (Store → T → Type 0) → List ReadPoint → Tries → Seen → Seen
     → Result T ReadError → Type 0
 Finds Is points tries s s' (Ok found) = FindsIt (λ store. Is store found) points tries s s'
 Finds Is points tries s s' (Err unread) = FindsNone points tries s s' (cause_of_unread unread)
@@ -72,15 +74,24 @@ pub record IsCountedDevice (wording : Wording) (store : Store) (name : List ℕ)
   pub counted : piece ≡ piece_of piece.bytes (is_faulty_there wording store id)
 
 -- the result for the device of a record with these bytes, whatever its ids
-abbrev pub FindsLocator : Wording → List ℕ → ℕ → Seen → Seen → Result Piece ReadError → Type 0
+abbrev pub FindsLocator : Wording → List ℕ → Tries → Seen → Seen → Result Piece ReadError → Type 0
 FindsLocator wording bytes tries s s' result = (id next : ℕ) → Finds (λ store piece.
     IsPieceOver store (OfRow (Form.Device wording) (record { id = id; next = next; bytes = bytes })) (shown piece))
     (locator_points (sdr_view_of bytes)) tries s s' result
+
+-- reading an inventory, over an honest controller, with so many tries for each part of it or for the whole
+abbrev pub ReadsFor : Bool → (Seen → Type 0) → ℕ → ℕ → Seen → Seen → Result (List ℕ) FruEnded → Type 0
+ReadsFor true IsState id tries s s' result = ReadsRetryingParts IsState id tries s s' result
+ReadsFor false IsState id tries s s' result = ReadsInventory id tries s s' result
 
 -- the controller has no such inventory
 abbrev pub is_absent : FruEnded → Bool
 is_absent (FruEnded.Refused code) = code.0 == 0xCB
 is_absent _ = false
+
+-- the result for an inventory that was not read: there is none, or the run ends
+abbrev pub unread_inventory : ℕ → FruEnded → Result (Option (Vec ℕ Global)) ReadError
+unread_inventory id ended = if is_absent ended then Ok None else Err (ReadError.Inventory id ended)
 
 -- the text of a shelf's info, if the store has one; otherwise none
 abbrev pub IsInfoText : Wording → Shelf → Option (List ℕ) → Option (List ℕ) → Type 0

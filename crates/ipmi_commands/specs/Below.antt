@@ -22,14 +22,14 @@ pub use Rattle.ipmi_events.specs.Laws.{EventInWordsExists, EventInWordsIsUnique}
 pub use Rattle.ipmi_events.specs.SensorBlocks.{IsSensorBlock}
 pub use Rattle.ipmi_events.specs.SensorLaws.{SensorBlockExists, SensorBlockIsUnique, SensorLineExists, SensorLineIsUnique}
 pub use Rattle.ipmi_events.specs.SensorLines.{IsSensorLine}
-pub use Rattle.ipmi_bus.specs.Bounds.{digits, DigitsAreFew, fru_call_bound, step_call_bound}
+pub use Rattle.ipmi_bus.specs.Bounds.{digits, DigitsAreFew, fru_call_bound, retrying_call_bound, step_call_bound}
 pub use Rattle.ipmi_bus.specs.CursorState.{CursorState, start_of}
 pub use Rattle.ipmi_bus.specs.Grown.{BeginsWith, OnlyGrew}
 pub use Rattle.ipmi_bus.specs.Growth.{AllFollowOrStop, AtSomeEnd, FollowsGrowth, FollowsOrStops, IsLog, OnGrowing, WasLog}
 pub use Rattle.ipmi_bus.specs.Held.{Keeps, WasHeld}
 pub use Rattle.ipmi_bus.specs.Lent.{row_of_record}
-pub use Rattle.ipmi_bus.specs.Readers.{EndsUnder, inventory_len, InventoryCounts, IsRefusedInventory, IsRefusedOverChange, KeepsReservations, ReadsInventory, ReadsValue, ValueIs}
-pub use Rattle.ipmi_bus.specs.Seen.{AsksAtMost, current, IsHonest, Seen, stays_refl, stays_trans, StaysHonest}
+pub use Rattle.ipmi_bus.specs.Readers.{as_inventory, EndsUnder, inventory_len, InventoryCounts, InventoryIs, IsLastPart, IsRefusedInventory, IsRefusedOverChange, KeepsReservations, NoneCame, PartsCame, PlainMayAnswer, ReadsInventory, ReadsRetryingParts, ReadsValue, ValueIs}
+pub use Rattle.ipmi_bus.specs.Seen.{AsksAtMost, current, IsHonest, IsStateOf, Seen, stays_refl, stays_trans, StaysHonest}
 pub use Rattle.ipmi_bus.specs.Shelf.{first_row, FoundIsRow, IsRow, IsShelf, largest_len, len_of, look, Row, whole_len}
 pub use Rattle.ipmi_bus.specs.Standing.{MayFail, StandsAt, WalkStep}
 pub use Rattle.ipmi_bus.specs.Step.{asked_at, AsksNothing, CursorHoldsCurrent, FailsAt, HandsOut, IsStep, StepAnswers, StepIsHonest, StepLeaves}

@@ -2,6 +2,7 @@
 use Rattle.std.specs.Prelude.{◌≡◌, ◌⊎◌, ℕ, ◌+◌, ◌-◌, ◌≤◌, IsTrue, None, IfOk, Result, Ok, Err, List, drop, length, map}
 use Rattle.std.specs.FinSet as set
 use Rattle.ipmi_commands.specs.Below.{CursorState, Done, Ending, Failure, handed_out, IsHonest, OnGrowing, Place, Row, Seen, Sel, Store, WalkEnd}
+use Rattle.ipmi_commands.specs.declared.limits.Tries.{Tries}
 use Rattle.ipmi_commands.specs.declared.job.Entries.{Entries}
 use Rattle.ipmi_commands.specs.declared.job.Form.{Form}
 use Rattle.ipmi_commands.specs.declared.kept.KeptEntry.{KeptEntry}
@@ -27,7 +28,7 @@ kept_rows rows = map kept_row rows
 
 -- A walk by a cursor. It is a listing that skips each entry, so it leaves any output as it was. Over an honest controller,
 -- the last n of the entries that it returned were kept.
-pub record KeepsByCursor (n tries : ℕ) (begun now : CursorState) (s s' : Seen) (text : Output)
+pub record KeepsByCursor (n : ℕ) (tries : Tries) (begun now : CursorState) (s s' : Seen) (text : Output)
     (kept : List KeptEntry) (ending : Ending) : Type 0 where
   pub listed : Result ℕ Failure
   pub is : ending ≡ ending_of listed
@@ -54,7 +55,7 @@ pub record KeepsFrom (n : ℕ) (start : Place) (s s' : Seen) (text : Output) (ke
   pub walk : TracesListing Form.Skipped None begun now (change s s' text text) walked
   pub kept_are : IfOk walked (λ count. kept ≡ last_of n (kept_rows (handed_out walk.steps)))
 
-pub record KeepsEntries (n : ℕ) (start : Place) (tries : ℕ) (s s' : Seen) (text : Output)
+pub record KeepsEntries (n : ℕ) (start : Place) (tries : Tries) (s s' : Seen) (text : Output)
     (kept : List KeptEntry) (ending : Ending) : Type 0 where
   pub ends : EndsFor tries (IsTrue s.plain) s s' (cause_of ending)
   pub along : s'.stores_added ≡ s.stores_added

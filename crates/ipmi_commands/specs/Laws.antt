@@ -1,6 +1,7 @@
 -- Laws of plans. They follow from the definitions of plans.
-use Rattle.std.specs.Prelude.{◌≡◌, ℕ, List, [], ◌∷◌}
+use Rattle.std.specs.Prelude.{◌≡◌, List, [], ◌∷◌}
 use Rattle.ipmi_commands.specs.Below.{AreBytes, Store, IsStore, Ending}
+use Rattle.ipmi_commands.specs.declared.limits.Tries.{Tries}
 use Rattle.ipmi_commands.specs.declared.job.Detail.{Detail}
 use Rattle.ipmi_commands.specs.declared.job.Entries.{Entries}
 use Rattle.ipmi_commands.specs.declared.job.Form.{Form}
@@ -59,7 +60,7 @@ ItemsHaveOneText = (store : Store) (items : List Item) (a b : Output) → AreOfB
 -- over a well-formed store, a finished run has only one possible output and one possible end,
 -- whatever its tries
 abbrev pub FinishedRunsAreOne : Type 0
-FinishedRunsAreOne = (job : Job) (tries tries' : ℕ) (store : Store) (old a b : Output) (e f : Ending) → IsStore store
+FinishedRunsAreOne = (job : Job) (tries tries' : Tries) (store : Store) (old a b : Output) (e f : Ending) → IsStore store
     → FollowsPlan job tries store (λ plan calls. PrintsAll (IsPieceOver store) plan old a e)
     → FollowsPlan job tries' store (λ plan calls. PrintsAll (IsPieceOver store) plan old b f)
     → (a ≡ b) × (e ≡ f)

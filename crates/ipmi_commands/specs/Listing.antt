@@ -4,6 +4,7 @@ use Rattle.std.specs.Prelude.{◌≡◌, Bool, false, ℕ, ◌+◌, ◌-◌, ◌
 use Rattle.std.specs.FinSet as set
 use Rattle.std.specs.List.{AllPass, concat}
 use Rattle.ipmi_commands.specs.Below.{step_call_bound, digits, IsLog, OnGrowing, is_whole_record, OnlyGrew, WasLog, End, Place, Row, Shelf, Sel, Store, rows_of, IsWalk, WalkEnd, Done, EndsBy, place_after_rows, Seen, IsHonest, CursorState, StandsAt, CursorHoldsCurrent, Ending, Failure}
+use Rattle.ipmi_commands.specs.declared.limits.Tries.{Tries}
 use Rattle.ipmi_commands.specs.declared.job.Entries.{Entries}
 use Rattle.ipmi_commands.specs.declared.job.Form.{Form}
 use Rattle.ipmi_commands.specs.Allowed.{ending_of, IsAllowed, EndsFor, cause_of, Change}
@@ -85,15 +86,15 @@ OnEachWalk shelf begun store Holds =
     → IsOnWalk (rows_of shelf store) start walk end k begun → Holds start walk end k
 
 -- the calls of a cursor along these rows, and of a step that finds no more rows
-abbrev pub CallsAlong : Form → ℕ → List Row → CursorState → Seen → Seen → Type 0
+abbrev pub CallsAlong : Form → Tries → List Row → CursorState → Seen → Seen → Type 0
 CallsAlong form tries rows begun s s' =
     0 < begun.part
-    → s'.calls + 1 ≤ s.calls + calls_for form s.store tries rows + step_call_bound tries 0
+    → s'.calls + 1 ≤ s.calls + calls_for form s.store tries rows + step_call_bound tries.count 0
     + digits begun.part
 
 -- all rows within the limit were returned, `count` of them, and the cursor is after them; if the
 -- limit was reached, no call was made for later rows
-pub record ListsAll (form : Form) (tries : ℕ) (most : Option ℕ) (begun now : CursorState)
+pub record ListsAll (form : Form) (tries : Tries) (most : Option ℕ) (begun now : CursorState)
     (s s' : Seen) (start : Place) (walk : List Row) (k count : ℕ) : Type 0 where
   pub count_is : count ≡ length (first_rows most (drop k walk))
   pub stands : StandsAt (rows_of (shelf_of form) s.store) start walk (k + count) now
@@ -102,7 +103,7 @@ pub record ListsAll (form : Form) (tries : ℕ) (most : Option ℕ) (begun now :
 
 -- along a walk: the output is possible for a listing of the rest of the walk, the number of calls
 -- is bounded, and after Ok the cursor is after the returned rows
-pub record ListsAlong (form : Form) (tries : ℕ) (most : Option ℕ) (begun now : CursorState)
+pub record ListsAlong (form : Form) (tries : Tries) (most : Option ℕ) (begun now : CursorState)
     (c : Change) (result : Result ℕ Failure) (start : Place) (walk : List Row) (end : WalkEnd)
     (k : ℕ) : Type 0 where
   pub leaves : IsAllowed (IsPieceOver c.seen.store)
@@ -112,7 +113,7 @@ pub record ListsAlong (form : Form) (tries : ℕ) (most : Option ℕ) (begun now
   pub all : IfOk result (λ count. ListsAll form tries most begun now c.seen c.seen' start walk k count)
 
 -- a listing by a cursor, over an honest controller
-pub record ListsHonestly (form : Form) (tries : ℕ) (most : Option ℕ) (begun now : CursorState)
+pub record ListsHonestly (form : Form) (tries : Tries) (most : Option ℕ) (begun now : CursorState)
     (c : Change) (result : Result ℕ Failure) : Type 0 where
   pub ends : EndsFor tries (IsTrue c.seen.plain × CursorHoldsCurrent begun c.seen) c.seen c.seen'
       (cause_of (ending_of result))
@@ -124,7 +125,7 @@ pub record ListsHonestly (form : Form) (tries : ℕ) (most : Option ℕ) (begun 
   pub traces : TracesListing form most begun now c result
 
 -- the contract of a listing by a cursor
-pub record Lists (form : Form) (tries : ℕ) (most : Option ℕ) (begun now : CursorState) (c : Change)
+pub record Lists (form : Form) (tries : Tries) (most : Option ℕ) (begun now : CursorState) (c : Change)
     (result : Result ℕ Failure) : Type 0 where
   pub keeps : KeepsListing begun now
   pub calls : ListingCalls (most_for_one form tries) most begun now c.seen c.seen' result
@@ -142,7 +143,7 @@ Counted IsText start walk end old new (Err failure) =
     (entries : Entries) (n : ℕ)
     → IsAllowed IsText (last_plan entries n start walk end) old new (Err failure)
 
-pub record CountsEntries (start : Place) (tries : ℕ) (c : Change)
+pub record CountsEntries (start : Place) (tries : Tries) (c : Change)
     (result : Result ℕ Failure) : Type 0 where
   pub ends : EndsFor tries (IsTrue c.seen.plain) c.seen c.seen' (cause_of (ending_of result))
   pub along : c.seen'.stores_added ≡ c.seen.stores_added
@@ -154,7 +155,7 @@ pub record CountsEntries (start : Place) (tries : ℕ) (c : Change)
 
 -- `passed` entries were skipped and those after them listed; these are the last entries of a walk
 -- that ends with `Done`
-pub record ListsAfter (entries : Entries) (start : Place) (passed tries : ℕ)
+pub record ListsAfter (entries : Entries) (start : Place) (passed : ℕ) (tries : Tries)
     (c : Change) (ending : Ending) : Type 0 where
   pub ends : EndsFor tries (IsTrue c.seen.plain) c.seen c.seen' (cause_of ending)
   pub along : c.seen'.stores_added ≡ c.seen.stores_added

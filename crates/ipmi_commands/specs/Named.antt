@@ -1,6 +1,7 @@
 -- The walk of the sensor data records that reads names.
 use Rattle.std.specs.Prelude.{◌≡◌, ℕ, ◌+◌, ◌≤◌, IsTrue, None, Result, Ok, Err, List}
 use Rattle.ipmi_commands.specs.Below.{device_name, Ending, Failure, First, IsHonest, Keeps, Place, Row, sdr_view_of, Store, WalkEnd}
+use Rattle.ipmi_commands.specs.declared.limits.Tries.{Tries}
 use Rattle.ipmi_bus.specs.declared.step.Ended.{Ended}
 use Rattle.ipmi_commands.specs.declared.job.Form.{Form}
 use Rattle.ipmi_commands.specs.declared.named.RecordsEnd.{RecordsEnd}
@@ -36,7 +37,7 @@ listed_end (RecordsEnd.Cycle n) = Err (Failure.Ended (Ended.Cycle n))
 listed_end (RecordsEnd.Missing n) = Err (Failure.Ended (Ended.Missing n))
 
 -- the sensor data records were listed into memory: how their walk ended, or why it failed
-pub record ReadsRecords (tries : ℕ) (c : Change) (result : Result RecordsEnd Failure) : Type 0 where
+pub record ReadsRecords (tries : Tries) (c : Change) (result : Result RecordsEnd Failure) : Type 0 where
   pub listed : Result Place Failure
   pub is : result ≡ walk_of listed
   pub whole : WritesWhole Form.Bytes c.old.bytes c.new.bytes (ending_of listed)
@@ -53,7 +54,7 @@ ending_then (Err failure) walked = Err failure
 
 -- The plan was printed, if no inventory changed, each text over a store that the controller held
 -- meanwhile. If no store was added, the number of calls is within the bound.
-pub record PrintsPlan (tries : ℕ) (plan : Plan) (calls : Store → ℕ) (c : Change) (ending : Ending) : Type 0 where
+pub record PrintsPlan (tries : Tries) (plan : Plan) (calls : Store → ℕ) (c : Change) (ending : Ending) : Type 0 where
   pub ends : EndsFor tries (IsTrue c.seen.plain) c.seen c.seen' (cause_of ending)
   pub prints : Keeps (λ store. store.inventories) c.seen c.seen'
       → IsAllowed (IsTextWhile c.seen c.seen') plan c.old c.new ending
@@ -61,13 +62,13 @@ pub record PrintsPlan (tries : ℕ) (plan : Plan) (calls : Store → ℕ) (c : C
       → c.seen'.calls ≤ c.seen.calls + calls c.seen.store
 
 -- the device of a record was printed
-abbrev pub PrintsLocator : Wording → ℕ → List ℕ → Change → Ending → Type 0
+abbrev pub PrintsLocator : Wording → Tries → List ℕ → Change → Ending → Type 0
 PrintsLocator wording tries bytes c ending = (row : Row) → row.bytes ≡ bytes
     → PrintsPlan tries (text_plan (OfRow (Form.Device wording) row) (locator_points (sdr_view_of bytes)))
     (λ store. calls_for_points tries store (locator_points (sdr_view_of bytes))) c ending
 
 -- the devices of these records were printed, and then the run ended as their walk did
-abbrev pub PrintsLocated : Wording → RecordsEnd → ℕ → List (List ℕ) → Change → Ending → Type 0
+abbrev pub PrintsLocated : Wording → RecordsEnd → Tries → List (List ℕ) → Change → Ending → Type 0
 PrintsLocated wording walked tries records c ending = (rows : List Row) (start : Place) (points : List ReadPoint)
     → bytes_of_rows rows ≡ records
     → PrintsPlan tries (record {
@@ -77,7 +78,7 @@ PrintsLocated wording walked tries records c ending = (rows : List Row) (start :
     }) (λ store. calls_for_devices tries store rows) c ending
 
 -- the same after device 0, which has its name from these records
-abbrev pub PrintsDevices : Wording → RecordsEnd → ℕ → List (List ℕ) → Change → Ending → Type 0
+abbrev pub PrintsDevices : Wording → RecordsEnd → Tries → List (List ℕ) → Change → Ending → Type 0
 PrintsDevices wording walked tries records c ending = (rows : List Row) (end : WalkEnd)
     → bytes_of_rows rows ≡ records → listed_end walked ≡ rows_end (Form.Device wording) rows end
     → PrintsPlan tries (inventories_plan wording (device_name 0 records) rows end)

@@ -1,6 +1,7 @@
 -- The contract of a run in pages of a command that lists all records of a shelf.
 use Rattle.std.specs.Prelude.{◌≡◌, ℕ, ◌+◌, ◌*◌, ◌≤◌, IsTrue, Option, None, Some, Result, Ok, Err, List}
 use Rattle.ipmi_commands.specs.Below.{Count, Ending, Failure, First, IsHonest, records_in, Sdr, Seen, start_of}
+use Rattle.ipmi_commands.specs.declared.limits.Tries.{Tries}
 use Rattle.ipmi_commands.specs.declared.job.Form.{Form}
 use Rattle.ipmi_commands.specs.declared.job.Job.{Job}
 use Rattle.ipmi_commands.specs.declared.job.NameLookup.{NameLookup}
@@ -20,7 +21,7 @@ abbrev pub entries_with : Wording → List (List ℕ) → Form
 entries_with wording records = Form.EntryLine (entries_in wording records)
 
 -- after the walk that reads names: the pages, or nothing if that walk failed
-abbrev pub PagesAfter : Result RecordsEnd Failure → Seen → Form → Option ℕ → ℕ → List ℕ → Change → Ending
+abbrev pub PagesAfter : Result RecordsEnd Failure → Seen → Form → Option ℕ → Tries → List ℕ → Change → Ending
     → Type 0
 PagesAfter (Ok walked) now form from tries sizes c ending =
     (listed : Ending) × (ending ≡ ending_then listed walked)
@@ -29,7 +30,7 @@ PagesAfter (Err failure) now form from tries sizes c ending =
     (ending ≡ Err failure) × (c.seen' ≡ now) × (c.new ≡ c.old)
 
 -- the sensor data records are read into memory, and then come the pages with their names
-pub record ReadsThenPages (wording : Wording) (from : Option ℕ) (tries : ℕ) (sizes : List ℕ)
+pub record ReadsThenPages (wording : Wording) (from : Option ℕ) (tries : Tries) (sizes : List ℕ)
     (c : Change) (ending : Ending) : Type 0 where
   pub now : Seen
   pub kept : Output
@@ -39,7 +40,7 @@ pub record ReadsThenPages (wording : Wording) (from : Option ℕ) (tries : ℕ) 
 
 -- Like `RunsInPages`, for all entries of the log, after the walk that reads the names of their
 -- sensors.
-pub record RunsNamedInPages (wording : Wording) (from : Option ℕ) (tries : ℕ) (sizes : List ℕ)
+pub record RunsNamedInPages (wording : Wording) (from : Option ℕ) (tries : Tries) (sizes : List ℕ)
     (c : Change) (ending : Ending) : Type 0 where
   pub calls : c.seen'.calls ≤ c.seen.calls
       + (most_on_walk Form.Bytes tries + pages_made sizes * most_on_walk Form.Skipped tries)
@@ -52,7 +53,7 @@ pub record RunsNamedInPages (wording : Wording) (from : Option ℕ) (tries : ℕ
       (entries_with wording (bytes_of_rows records)) (start_of from) tries sizes c ending)
 
 -- the job of listing all records of a shelf, in pages
-abbrev pub RunsPaged : Job → ℕ → List ℕ → Change → Ending → Type 0
+abbrev pub RunsPaged : Job → Tries → List ℕ → Change → Ending → Type 0
 RunsPaged (Job.Records l) tries sizes c ending =
     (l.most ≡ None) × RunsInPages l.form l.start tries sizes c ending
 RunsPaged (Job.NameLookup wording (NameLookup.Events Count.All from)) tries sizes c ending =
@@ -60,6 +61,6 @@ RunsPaged (Job.NameLookup wording (NameLookup.Events Count.All from)) tries size
 RunsPaged _ tries sizes c ending = ⊥
 
 -- the run in pages of a command with such a job
-abbrev pub RunsPagedCommand : Option Job → ℕ → List ℕ → Change → Ending → Type 0
+abbrev pub RunsPagedCommand : Option Job → Tries → List ℕ → Change → Ending → Type 0
 RunsPagedCommand (Some job) tries sizes c ending = RunsPaged job tries sizes c ending
 RunsPagedCommand None tries sizes c ending = ⊥

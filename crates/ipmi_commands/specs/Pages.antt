@@ -2,6 +2,7 @@
 use Rattle.std.specs.Prelude.{◌≡◌, ℕ, ◌+◌, ◌*◌, ◌<◌, ◌≤◌, ◌==◌, if◌then◌else◌, ◌⊎◌, IsTrue, Option, None, Some, IfOk, Result, Ok, Err, List, [], ◌∷◌}
 use Rattle.std.specs.FinSet as set
 use Rattle.ipmi_commands.specs.Below.{step_call_bound, digits, Place, First, End, Row, first_row, rows_of, WalkEnd, CycleAt, place_after_rows, CursorState, StandsAt, start_of, Seen, Ending, Failure}
+use Rattle.ipmi_commands.specs.declared.limits.Tries.{Tries}
 use Rattle.ipmi_commands.specs.declared.job.Form.{Form}
 use Rattle.ipmi_commands.specs.declared.limits.RequestLimits.{RequestLimits}
 use Rattle.ipmi_commands.specs.Allowed.{IsAllowed, ending_of, EndsFor, cause_of, Change, change}
@@ -19,7 +20,7 @@ listing_cursor limits form from = record {
   shelf = shelf_of form;
   place = start_of from;
   part = limits.part;
-  tries = limits.tries;
+  tries = limits.tries.count;
   ahead = limits.ahead;
   ids = set.empty;
   reservation = None;
@@ -44,7 +45,7 @@ GoesOn rows start used next =
     ⊎ ((next ≡ End) × (start ≡ First) × (first_row rows ≡ None))
 
 -- a page along the walk from its start: its output, its calls, and where the next page begins
-pub record PageAlong (form : Form) (start : Place) (tries : ℕ) (most : Option ℕ) (c : Change)
+pub record PageAlong (form : Form) (start : Place) (tries : Tries) (most : Option ℕ) (c : Change)
     (result : Result Place Failure) (walk : List Row) (end : WalkEnd) : Type 0 where
   pub leaves : IsAllowed (IsPieceOver c.seen.store)
       (listing_plan (listing form start most) walk end) c.old c.new (ending_of result)
@@ -54,7 +55,7 @@ pub record PageAlong (form : Form) (start : Place) (tries : ℕ) (most : Option 
       (first_rows most walk) next)
 
 -- a page of at most `most` records if that is Some, over an honest controller
-pub record IsPage (form : Form) (start : Place) (tries : ℕ) (most : Option ℕ) (c : Change)
+pub record IsPage (form : Form) (start : Place) (tries : Tries) (most : Option ℕ) (c : Change)
     (result : Result Place Failure) : Type 0 where
   pub ends : EndsFor tries (IsTrue c.seen.plain) c.seen c.seen' (cause_of (ending_of result))
   pub none : most ≡ Some 0 → c.seen' ≡ c.seen
@@ -68,7 +69,7 @@ pub record IsPage (form : Form) (start : Place) (tries : ℕ) (most : Option ℕ
 -- ---- pages
 
 -- a page, and then the rest of the listing
-pub record PageThen (form : Form) (start : Place) (tries size : ℕ) (s : Seen) (old : Output)
+pub record PageThen (form : Form) (start : Place) (tries : Tries) (size : ℕ) (s : Seen) (old : Output)
     (Rest : Place → Seen → Output → Type 0) : Type 0 where
   pub next : Place
   pub seen : Seen
@@ -77,7 +78,7 @@ pub record PageThen (form : Form) (start : Place) (tries size : ℕ) (s : Seen) 
   pub rest : Rest next seen text
 
 -- pages of these sizes, then a page without a limit; a page that fails ends the listing
-abbrev pub ArePages : Form → ℕ → Place → List ℕ → Change → Ending → Type 0
+abbrev pub ArePages : Form → Tries → Place → List ℕ → Change → Ending → Type 0
 ArePages form tries start [] c ending =
     (result : Result Place Failure) × (ending ≡ ending_of result)
     × IsPage form start tries None c result
@@ -102,15 +103,15 @@ IsOpen _ = Unit {0}
 -- along a walk that does not end with a cycle, the pages have an output that is possible for one
 -- listing: `after` gives the plan of the whole run; they take no more calls than `before`, for the
 -- rows, and for each page that may make calls
-abbrev pub IsOneListingAfter : (Plan → Plan) → ℕ → Form → Place → ℕ → List ℕ → Change → Ending → Type 0
+abbrev pub IsOneListingAfter : (Plan → Plan) → ℕ → Form → Place → Tries → List ℕ → Change → Ending → Type 0
 IsOneListingAfter after before form start tries sizes c ending =
     OnWalk (shelf_of form) start c.seen.store (λ walk end. IsOpen end
     → IsAllowed (IsPieceOver c.seen.store) (after (listing_plan (listing form start None) walk end))
     c.old c.new ending
     × (c.seen'.calls ≤ c.seen.calls + before + calls_for form c.seen.store tries walk
-    + pages_made sizes * (step_call_bound tries 0 + 7)))
+    + pages_made sizes * (step_call_bound tries.count 0 + 7)))
 
 -- the pages alone
-abbrev pub IsOneListing : Form → Place → ℕ → List ℕ → Change → Ending → Type 0
+abbrev pub IsOneListing : Form → Place → Tries → List ℕ → Change → Ending → Type 0
 IsOneListing form start tries sizes c ending =
     IsOneListingAfter (λ plan. plan) 0 form start tries sizes c ending

@@ -1,7 +1,8 @@
 -- The contract of a run: over any controller, over an honest one, in pages, and over an image.
 use Rattle.std.specs.Prelude.{◌≡◌, ◌⊎◌, ℕ, ◌+◌, ◌*◌, ◌<◌, ◌≤◌, ◌-◌, IsTrue, Option, None, Some, Result, Ok, Err, List, [], length}
-use Rattle.ipmi_commands.specs.Below.{Count, device_name, Ended, fru_call_bound, LastCallSays, LastFailed, LastFruCallSays, NotPresent, RefusesRecord, RefusesValue, Seen, Shelf, start_of, Place, First, Sdr, Sel, Row, Store, Done, OnGrowing, WasLog, info_of, inventory_of, Keeps, WalkEnd, IsHonest, ImageFault, UsageFault, CommandState, Received, ReceivesText, Ending, Failure, failure_of_usage, said_of, status_of}
+use Rattle.ipmi_commands.specs.Below.{Count, device_name, Ended, FruEnded, LastCallSays, LastFailed, LastFruCallSays, NoneCame, NotPresent, RefusesRecord, RefusesValue, Seen, Shelf, start_of, Place, First, Sdr, Sel, Row, Store, Done, OnGrowing, WasLog, info_of, inventory_of, Keeps, WalkEnd, IsHonest, ImageFault, UsageFault, CommandState, Received, ReceivesText, Ending, Failure, failure_of_usage, said_of, status_of}
 use Rattle.ipmi_image.specs.Snapshot.{Saved, saved_text_of}
+use Rattle.ipmi_commands.specs.declared.limits.Tries.{Tries}
 use Rattle.ipmi_commands.specs.declared.job.Entries.{Entries}
 use Rattle.ipmi_commands.specs.declared.job.Form.{Form}
 use Rattle.ipmi_commands.specs.declared.job.Job.{Job}
@@ -10,7 +11,7 @@ use Rattle.ipmi_commands.specs.declared.job.NameLookup.{NameLookup}
 use Rattle.ipmi_commands.specs.declared.job.Wording.{Wording}
 use Rattle.ipmi_commands.specs.declared.read_error.ReadError.{ReadError}
 use Rattle.ipmi_commands.specs.Allowed.{NoMemory, cause_of, ending_of, EndsFor, IsAllowed, IsFine, Change}
-use Rattle.ipmi_commands.specs.Calls.{calls_for_devices, calls_for_point, walk_call_bound, most_on_walk}
+use Rattle.ipmi_commands.specs.Calls.{calls_for_devices, calls_for_point, for_inventory, inventory_call_bound, walk_call_bound, most_on_walk}
 use Rattle.ipmi_commands.specs.Job.{entries_in, shelf_of, job_of, listing}
 use Rattle.ipmi_commands.specs.Meanwhile.{IsTextWhile, OnGrowingListing}
 use Rattle.ipmi_commands.specs.Output.{and_then, IsCut, Output, piece_of}
@@ -23,22 +24,22 @@ use Rattle.ipmi_commands.specs.Traced.{Traces, TracesLast}
 
 -- the largest number of calls for what is listed with names, after the walk that reads them; an
 -- inventory has at most 65,535 bytes, and at most 65,536 records locate a device besides device 0
-abbrev pub most_named : NameLookup → ℕ → ℕ
+abbrev pub most_named : NameLookup → Tries → ℕ
 most_named (NameLookup.Events count from) tries = most_on_walk Form.Skipped tries
-most_named NameLookup.Devices tries = 65537 * fru_call_bound tries 65535
+most_named NameLookup.Devices tries = 65537 * inventory_call_bound tries 65535
 
 -- the largest number of calls of a job
-abbrev pub most_calls : Job → ℕ → ℕ
+abbrev pub most_calls : Job → Tries → ℕ
 most_calls (Job.Records l) tries = most_on_walk l.form tries
 most_calls (Job.Last entries n from) tries =
     most_on_walk Form.Skipped tries + most_on_walk Form.Skipped tries
 most_calls (Job.LastKept entries n from) tries = most_on_walk Form.Skipped tries
 most_calls (Job.NameLookup wording named) tries =
     most_on_walk Form.Bytes tries + most_named named tries
-most_calls (Job.Info wording shelf) tries = tries + 1
-most_calls (Job.Inventory wording id name) tries = fru_call_bound tries 65535
+most_calls (Job.Info wording shelf) tries = tries.count + 1
+most_calls (Job.Inventory wording id name) tries = inventory_call_bound tries 65535
 most_calls (Job.AllInventories wording name) tries =
-    fru_call_bound tries 65535 + most_on_walk (Form.Device wording) tries
+    inventory_call_bound tries 65535 + most_on_walk (Form.Device wording) tries
 
 -- an entry of the log has a fixed length, so only a sensor data record can be malformed
 abbrev pub MayEndOn : Shelf → Ended → Type 0
@@ -134,34 +135,47 @@ MayEnd (Job.AllInventories wording name) c ending = EndsListing (Form.Device wor
 
 -- ---- over an honest controller
 
+-- the last calls up to this state: none of them brought bytes, and more than `tries` of them met a trouble
+pub record TroublesInARow (IsState : Seen → Type 0) (tries : ℕ) (seen : Seen) : Type 0 where
+  pub first : Seen
+  pub calls : ℕ
+  pub none : NoneCame IsState calls first seen
+  pub troubles : first.troubles + tries < seen.troubles
+
+-- where each part of an inventory has tries, it is given up only after more troubles than that, with no bytes between them
+abbrev pub RetriesParts : Tries → (Seen → Type 0) → Seen → Ending → Type 0
+RetriesParts tries IsState seen (Err (Failure.Inventory id FruEnded.GaveUp)) =
+    IsTrue tries.for_each_part → TroublesInARow IsState tries.count seen
+RetriesParts tries IsState seen ending = Unit {0}
+
 -- the last entries are listed on a second walk, if there are any
 abbrev pub second_walk_bound : ℕ → List Row → ℕ
 second_walk_bound bound [] = 0
 second_walk_bound bound _ = bound
 
-abbrev pub last_call_bound : ℕ → Store → ℕ → List Row → WalkEnd → ℕ
+abbrev pub last_call_bound : ℕ → Store → Tries → List Row → WalkEnd → ℕ
 last_call_bound n store tries walk end =
     walk_call_bound Form.Skipped store tries walk
     + second_walk_bound (walk_call_bound Form.Skipped store tries walk) (last_rows n walk end)
 
-abbrev pub OnListing : Listing → ℕ → Store → (Plan → ℕ → Type 0) → Type 0
+abbrev pub OnListing : Listing → Tries → Store → (Plan → ℕ → Type 0) → Type 0
 OnListing l tries store Holds =
     OnWalk (shelf_of l.form) l.start store (λ walk end. Holds (listing_plan l walk end)
     (walk_call_bound l.form store tries (first_rows l.most walk)))
 
-abbrev pub OnLast : Entries → ℕ → Option ℕ → ℕ → Store → (Plan → ℕ → Type 0) → Type 0
+abbrev pub OnLast : Entries → ℕ → Option ℕ → Tries → Store → (Plan → ℕ → Type 0) → Type 0
 OnLast entries n from tries store Holds =
     OnWalk Sel (start_of from) store (λ walk end.
     Holds (last_plan entries n (start_of from) walk end) (last_call_bound n store tries walk end))
 
 -- the same along one walk, which keeps these entries in memory
-abbrev pub OnLastKept : Entries → ℕ → Option ℕ → ℕ → Store → (Plan → ℕ → Type 0) → Type 0
+abbrev pub OnLastKept : Entries → ℕ → Option ℕ → Tries → Store → (Plan → ℕ → Type 0) → Type 0
 OnLastKept entries n from tries store Holds =
     OnWalk Sel (start_of from) store (λ walk end.
     Holds (last_plan entries n (start_of from) walk end) (walk_call_bound Form.Skipped store tries walk))
 
 -- the entries that `count` selects, each as such a line; the last ones are kept in memory
-abbrev pub OnEntries : Entries → Count → Option ℕ → ℕ → Store → (Plan → ℕ → Type 0) → Type 0
+abbrev pub OnEntries : Entries → Count → Option ℕ → Tries → Store → (Plan → ℕ → Type 0) → Type 0
 OnEntries entries Count.All from tries store Holds =
     OnListing (listing (Form.EntryLine entries) (start_of from) None) tries store Holds
 OnEntries entries (Count.First n) from tries store Holds =
@@ -170,7 +184,7 @@ OnEntries entries (Count.Last n) from tries store Holds = OnLastKept entries n f
 
 -- what is listed with the names in the sensor data records on this walk, in this wording; devices are
 -- those that these records locate
-abbrev pub OnNamed : Wording → List Row → WalkEnd → NameLookup → ℕ → Store → (Plan → ℕ → Type 0) → Type 0
+abbrev pub OnNamed : Wording → List Row → WalkEnd → NameLookup → Tries → Store → (Plan → ℕ → Type 0) → Type 0
 OnNamed wording records end (NameLookup.Events count from) tries store Holds =
     OnEntries (entries_in wording (bytes_of_rows records)) count from tries store Holds
 OnNamed wording records end NameLookup.Devices tries store Holds =
@@ -179,7 +193,7 @@ OnNamed wording records end NameLookup.Devices tries store Holds =
 
 -- `Holds` for the job's plan over a store and the largest number of its calls, for each walk from
 -- the start that has an end; `tries` affects only the number of calls
-abbrev pub FollowsPlan : Job → ℕ → Store → (Plan → ℕ → Type 0) → Type 0
+abbrev pub FollowsPlan : Job → Tries → Store → (Plan → ℕ → Type 0) → Type 0
 FollowsPlan (Job.Records l) tries store Holds = OnListing l tries store Holds
 FollowsPlan (Job.Last entries n from) tries store Holds = OnLast entries n from tries store Holds
 FollowsPlan (Job.LastKept entries n from) tries store Holds = OnLastKept entries n from tries store Holds
@@ -188,7 +202,7 @@ FollowsPlan (Job.NameLookup wording named) tries store Holds =
     (λ plan calls. Holds (after_names records end plan)
     (walk_call_bound Form.Bytes store tries records + calls)))
 FollowsPlan (Job.Info wording shelf) tries store Holds =
-    Holds (info_plan wording shelf (info_of shelf store)) (tries + 1)
+    Holds (info_plan wording shelf (info_of shelf store)) (tries.count + 1)
 FollowsPlan (Job.Inventory wording id name) tries store Holds =
     Holds (inventory_plan wording id name) (calls_for_point tries store (AtInventory id))
 FollowsPlan (Job.AllInventories wording name) tries store Holds =
@@ -198,7 +212,7 @@ FollowsPlan (Job.AllInventories wording name) tries store Holds =
 
 -- the output agrees with the plan and with how the run ended, and the number of calls is within the
 -- bound
-abbrev pub Prints : Job → ℕ → Change → Ending → Type 0
+abbrev pub Prints : Job → Tries → Change → Ending → Type 0
 Prints job tries c ending =
     FollowsPlan job tries c.seen.store (λ plan calls.
     IsAllowed (IsPieceOver c.seen.store) plan c.old c.new ending
@@ -268,7 +282,7 @@ TracesJob job c ending = Unit {0}
 -- of calls, if no store was added (`prints`); whatever its store does, the records that a listing's
 -- cursor returned and their texts (`traces`). If the controller is not honest, this says nothing about
 -- the output, except of one inventory (`ends`).
-pub record Runs (job : Job) (tries : ℕ) (c : Change) (ending : Ending) : Type 0 where
+pub record Runs (job : Job) (tries : Tries) (c : Change) (ending : Ending) : Type 0 where
   pub calls : c.seen'.calls ≤ c.seen.calls + most_calls job tries
   pub ends : MayEnd job c ending
   pub why : IsHonest c.seen → EndsFor tries (IsTrue c.seen.plain) c.seen c.seen' (cause_of ending)
@@ -283,7 +297,7 @@ job_of_command command = job_of command.task command.from
 
 -- the run of a command over a controller: `image rewrite`, which has no job, makes no call, prints nothing
 -- and fails
-abbrev pub RunsCommand : Option Job → ℕ → Change → Ending → Type 0
+abbrev pub RunsCommand : Option Job → Tries → Change → Ending → Type 0
 RunsCommand (Some job) tries c ending = Runs job tries c ending
 RunsCommand None tries c ending =
     (ending ≡ Err Failure.Usage) × (c.seen' ≡ c.seen) × (c.new ≡ c.old)
@@ -291,7 +305,7 @@ RunsCommand None tries c ending =
 -- Like `Runs`, for a listing in pages of these sizes. Each page is itself a listing from its place,
 -- with its size as the limit. Along a walk that does not end with a cycle, the pages together print
 -- what one listing may print.
-pub record RunsInPages (form : Form) (start : Place) (tries : ℕ) (sizes : List ℕ) (c : Change)
+pub record RunsInPages (form : Form) (start : Place) (tries : Tries) (sizes : List ℕ) (c : Change)
     (ending : Ending) : Type 0 where
   pub calls : c.seen'.calls ≤ c.seen.calls + pages_made sizes * most_on_walk form tries
   pub ends : EndsListing form c.seen' ending
@@ -323,7 +337,7 @@ IsSaving saved old new ending =
 abbrev pub RunsOver : Option Job → Store → Output → Output → Ending → Type 0
 RunsOver None store old new ending = IsRewriting store old new ending
 RunsOver (Some job) store old new ending =
-    FollowsPlan job 0 store (λ plan calls. IsAllowed (IsPieceOver store) plan old new ending)
+    FollowsPlan job (for_inventory 0) store (λ plan calls. IsAllowed (IsPieceOver store) plan old new ending)
     × IsFine (cause_of ending)
 
 -- a job or `image rewrite` over an image, which has a store or a fault

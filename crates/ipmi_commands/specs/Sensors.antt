@@ -3,6 +3,7 @@ use Rattle.std.specs.Prelude.{◌≡◌, ◌⊎◌, ℕ, ◌+◌, ◌*◌, ◌<�
 use Rattle.std.specs.FinSet as set
 use Rattle.std.specs.List.{Contains, list_any}
 use Rattle.ipmi_commands.specs.Below.{CursorState, CursorHoldsCurrent, CycleAt, digits, Done, End, Ended, Ending, Failure, Kind, LastCallSays, MissingAt, OnGrowing, Place, Reading, RefusesRecord, Row, Sdr, SdrFault, SdrView, sdr_view_of, Seen, Stepped, Store, WalkEnd, WasHeld}
+use Rattle.ipmi_commands.specs.declared.limits.Tries.{Tries}
 use Rattle.ipmi_records.specs.Sdr as sdr
 use Rattle.ipmi_commands.specs.declared.job.Detail.{Detail}
 use Rattle.ipmi_commands.specs.declared.job.Form.{Form}
@@ -171,7 +172,7 @@ FindsWhile names log s s' old new (Err failure) =
 
 -- a search over an honest controller: why it ended; what was found, whatever the store does; along the walk, with
 -- the number of calls, if no store was added; and along the log as it was meanwhile, if records were only appended
-pub record Searches (names : List (List ℕ)) (start : Place) (tries : ℕ) (s s' : Seen)
+pub record Searches (names : List (List ℕ)) (start : Place) (tries : Tries) (s s' : Seen)
     (old new : List Found) (ending : Ending) : Type 0 where
   pub why : EndsFor tries (IsTrue s.plain) s s' (cause_of ending)
   pub traces : HasNoMemory s s' old new ending ⊎ FindsFrom names start s s' old new ending
@@ -183,7 +184,7 @@ pub record Searches (names : List (List ℕ)) (start : Place) (tries : ℕ) (s s
 -- ---- for the contracts of private functions
 
 -- a search by a cursor, over an honest controller
-pub record SearchesBy (names : List (List ℕ)) (tries : ℕ) (begun now : CursorState) (s s' : Seen)
+pub record SearchesBy (names : List (List ℕ)) (tries : Tries) (begun now : CursorState) (s s' : Seen)
     (old new : List Found) (ending : Ending) : Type 0 where
   pub why : EndsFor tries (IsTrue s.plain × CursorHoldsCurrent begun s) s s' (cause_of ending)
   pub finds : FindsBy names begun now s s' old new ending
@@ -191,7 +192,7 @@ pub record SearchesBy (names : List (List ℕ)) (tries : ℕ) (begun now : Curso
       (λ start walk end k. CallsAlong with_readings tries (drop k walk) begun s s')
 
 -- the calls of a search by a cursor, over any controller
-abbrev pub SearchCalls : ℕ → CursorState → Seen → Seen → Type 0
+abbrev pub SearchCalls : Tries → CursorState → Seen → Seen → Type 0
 SearchCalls tries begun s s' = 0 < begun.part
     → s'.calls + 1 + set.len begun.ids * most_for_one with_readings tries
     ≤ s.calls + 65536 * most_for_one with_readings tries + digits begun.part

@@ -1,9 +1,9 @@
 //! Prints the inventories of all devices, once the sensor data records are in memory.
 ghost use Rattle.std.specs.Prelude.{◌≡◌, ◌+◌, ◌*◌, ◌≤◌, length};
-ghost use Rattle.ipmi_commands.specs.Below.{AsksAtMost, fru_call_bound, IsHonest, records_in, write_faults};
+ghost use Rattle.ipmi_commands.specs.Below.{AsksAtMost, IsHonest, IsStateOf, records_in, write_faults};
 ghost use Rattle.ipmi_commands.specs.Named.{PrintsDevices, PrintsLocated, PrintsLocator};
 ghost use Rattle.ipmi_commands.specs.declared.job.NameLookup.{NameLookup};
-ghost use Rattle.ipmi_commands.specs.Prelude.{change, EndsNamed, printed};
+ghost use Rattle.ipmi_commands.specs.Prelude.{change, EndsNamed, inventory_call_bound, printed, RetriesParts};
 
 use crate::inventory::locator_piece;
 use crate::job::Wording;
@@ -30,7 +30,8 @@ fn print_locator<'a, C: Controller, O: Sink>(
     ensures faults { O.faults out.new ≡ O.faults out.old + write_faults result }
     ensures asked { AsksAtMost limits.part (C.seen ctl.old) (C.seen ctl.new) }
     ensures ends { EndsNamed wording.entry NameLookup.Devices (C.seen ctl.new) result }
-    ensures calls { (C.seen ctl.new).calls ≤ (C.seen ctl.old).calls + fru_call_bound limits.tries 65535 }
+    ensures parts { IsHonest (C.seen ctl.old) → RetriesParts limits.tries (IsStateOf C.seen) (C.seen ctl.new) result }
+    ensures calls { (C.seen ctl.new).calls ≤ (C.seen ctl.old).calls + inventory_call_bound limits.tries 65535 }
     ensures honest { IsHonest (C.seen ctl.old) → PrintsLocator wording.entry limits.tries bytes.now
         (change (C.seen ctl.old) (C.seen ctl.new) (printed (O.taken out.old) summary.old) (printed (O.taken out.new) summary.new)) result }
 {
@@ -53,8 +54,9 @@ fn print_located<'a, C: Controller, O: Sink>(
     ensures faults { O.faults out.new ≡ O.faults out.old + write_faults result }
     ensures asked { AsksAtMost limits.part (C.seen ctl.old) (C.seen ctl.new) }
     ensures ends { EndsNamed wording.entry NameLookup.Devices (C.seen ctl.new) result }
+    ensures parts { IsHonest (C.seen ctl.old) → RetriesParts limits.tries (IsStateOf C.seen) (C.seen ctl.new) result }
     ensures calls { (C.seen ctl.new).calls ≤ (C.seen ctl.old).calls
-        + length (records_in records.now) * fru_call_bound limits.tries 65535 }
+        + length (records_in records.now) * inventory_call_bound limits.tries 65535 }
     ensures honest { IsHonest (C.seen ctl.old) → PrintsLocated wording.entry walked limits.tries (records_in records.now)
         (change (C.seen ctl.old) (C.seen ctl.new) (printed (O.taken out.old) summary.old) (printed (O.taken out.new) summary.new)) result }
 {
@@ -83,8 +85,9 @@ pub(crate) fn print_devices<'a, C: Controller, O: Sink>(
     ensures faults { O.faults out.new ≡ O.faults out.old + write_faults result }
     ensures asked { AsksAtMost limits.part (C.seen ctl.old) (C.seen ctl.new) }
     ensures ends { EndsNamed wording.entry NameLookup.Devices (C.seen ctl.new) result }
+    ensures parts { IsHonest (C.seen ctl.old) → RetriesParts limits.tries (IsStateOf C.seen) (C.seen ctl.new) result }
     ensures calls { (C.seen ctl.new).calls ≤ (C.seen ctl.old).calls
-        + (length (records_in records.now) + 1) * fru_call_bound limits.tries 65535 }
+        + (length (records_in records.now) + 1) * inventory_call_bound limits.tries 65535 }
     ensures honest { IsHonest (C.seen ctl.old) → PrintsDevices wording.entry walked limits.tries (records_in records.now)
         (change (C.seen ctl.old) (C.seen ctl.new) (printed (O.taken out.old) summary.old) (printed (O.taken out.new) summary.new)) result }
 {

@@ -5,6 +5,7 @@ ghost use Rattle.ipmi_commands.specs.Prelude.{InfoSays, AtRecord, Finds, info_ob
 ghost use Rattle.ipmi_json.specs.Info.{IsInfoLine};
 
 use crate::job::Wording;
+use crate::limits::Tries;
 use crate::read_error::ReadError;
 use ipmi_bus::{Controller, Shelf, read_info};
 use ipmi_json::{Label, sdr_info_line, sel_info_line};
@@ -47,9 +48,9 @@ pub(crate) fn info_text<C: Controller>(
     ctl: &mut C,
     wording: Wording<'_>,
     shelf: Shelf,
-    tries: u8,
+    tries: Tries,
 ) -> Result<Option<Vec<u8>>, ReadError>
-    ensures calls { (C.seen ctl.new).calls ≤ (C.seen ctl.old).calls + (tries + 1) }
+    ensures calls { (C.seen ctl.new).calls ≤ (C.seen ctl.old).calls + (tries.count + 1) }
     ensures asked { AsksAtMost 0 (C.seen ctl.old) (C.seen ctl.new) }
     ensures says { InfoSays result (C.seen ctl.new) }
     ensures honest { IsHonest (C.seen ctl.old) →
@@ -57,7 +58,7 @@ pub(crate) fn info_text<C: Controller>(
         (option_map (λ text. text.items) found)) (AtRecord 0 ∷ []) tries (C.seen ctl.old)
         (C.seen ctl.new) result }
 {
-    match read_info(ctl, shelf, tries)? {
+    match read_info(ctl, shelf, tries.count)? {
         Some(info) => Ok(Some(text_in(alloc, wording, shelf, &info)?)),
         None => Ok(None),
     }

@@ -1,14 +1,14 @@
 //! Prints the inventories of FRU devices.
-ghost use Rattle.std.specs.Prelude.{◌≡◌, ℕ, ◌+◌, ◌≤◌, ◌∷◌, [], None, Some, Err, IfErr, IfOk, OnOk, option_map, string_bytes, ◌++◌};
-ghost use Rattle.ipmi_commands.specs.Below.{Appends, AsksAtMost, LastFailed, NotPresent, LastFruCallSays, fru_call_bound, ReadsInventory, Seen, IsHonest, inventory_of, fru_of, printed_name, sdr_view_of};
+ghost use Rattle.std.specs.Prelude.{◌≡◌, ◌+◌, ◌≤◌, ◌∷◌, [], None, Some, Err, IfErr, IfOk, OnOk, option_map, string_bytes, ◌++◌};
+ghost use Rattle.ipmi_commands.specs.Below.{Appends, as_inventory, AsksAtMost, LastFailed, NotPresent, LastFruCallSays, Seen, IsHonest, IsStateOf, inventory_of, fru_of, printed_name, sdr_view_of};
 ghost use Rattle.ipmi_commands.specs.declared.job.Form.{Form};
-ghost use Rattle.ipmi_commands.specs.Prelude.{LacksInventory, in_parentheses, is_absent, Finds, FindsLocator, IsCountedDevice, IsElsewhereIn, is_faulty_device, IsInventoryIn, IsInventoryPiece, IsInventoryText, IsPieceOver, AtInventory, device_points, locator_points, NoneIsTrue, OfInventory, OfRow, shown, ShowsDevice, ShowsInventory, ShowsLocator};
+ghost use Rattle.ipmi_commands.specs.Prelude.{LacksInventory, in_parentheses, inventory_call_bound, is_absent, Finds, FindsLocator, IsCountedDevice, IsElsewhereIn, is_faulty_device, IsInventoryIn, IsInventoryPiece, IsInventoryText, IsPieceOver, AtInventory, device_points, locator_points, NoneIsTrue, OfInventory, OfRow, shown, ShowsDevice, ShowsInventory, ShowsLocator, ReadsFor, RetriesParts, failure_of, unread_inventory};
 
 use crate::job::Wording;
 use crate::limits::RequestLimits;
 use crate::piece::Piece;
 use crate::read_error::ReadError;
-use ipmi_bus::{Code, Controller, FruEnded, read_fru};
+use ipmi_bus::{Code, Controller, FruEnded, read_fru, read_fru_retrying_parts};
 use ipmi_fru::{FruView, elsewhere_line, fru_line, has_fault, push_fru};
 use ipmi_json::fru_elsewhere_line;
 use ipmi_records::{SdrView, push_name};
@@ -27,9 +27,7 @@ fn is_absent(ended: FruEnded) -> bool
 /// The result for an inventory that was not read: None if the controller has no such inventory, otherwise Err with
 /// the reason.
 fn unread_inventory(id: u8, ended: FruEnded) -> Result<Option<Vec<u8>>, ReadError>
-    ensures finds { (tries : ℕ) (s s' : Seen) → ReadsInventory id tries s s' (Err ended) →
-        Finds (λ store found. option_map (λ bytes. bytes.items) found ≡ inventory_of id store)
-        (AtInventory id ∷ []) tries s s' result }
+    ensures is { result ≡ unread_inventory id ended }
     ensures says { (seen : Seen) → LastFruCallSays ended seen →
         IfErr result (λ unread. LacksInventory unread seen) }
     ensures none { (seen : Seen) → LastFruCallSays ended seen →
@@ -41,6 +39,26 @@ fn unread_inventory(id: u8, ended: FruEnded) -> Result<Option<Vec<u8>>, ReadErro
     Ok(None)
 }
 
+/// The bytes of a device's inventory, with the retries of these limits for it or for each of its parts.
+fn read_bytes<C: Controller>(
+    alloc: Global,
+    ctl: &mut C,
+    limits: RequestLimits,
+    id: u8,
+) -> Result<Vec<u8>, FruEnded>
+    ensures calls { (C.seen ctl.new).calls ≤ (C.seen ctl.old).calls + inventory_call_bound limits.tries 65535 }
+    ensures asked { AsksAtMost limits.part (C.seen ctl.old) (C.seen ctl.new) }
+    ensures says { IfErr result (λ ended. LastFruCallSays ended (C.seen ctl.new)) }
+    ensures honest { IsHonest (C.seen ctl.old) → ReadsFor limits.tries.for_each_part (IsStateOf C.seen) id
+        limits.tries.count (C.seen ctl.old) (C.seen ctl.new) (as_inventory result) }
+{
+    let (part, tries) = (limits.part(), limits.tries());
+    if tries.for_each_part {
+        return read_fru_retrying_parts(alloc, ctl, id, part, tries.count);
+    }
+    read_fru(alloc, ctl, id, part, tries.count)
+}
+
 /// The bytes of a device's inventory. None if the controller has no such inventory.
 fn read_inventory<C: Controller>(
     alloc: Global,
@@ -48,16 +66,18 @@ fn read_inventory<C: Controller>(
     limits: RequestLimits,
     id: u8,
 ) -> Result<Option<Vec<u8>>, ReadError>
-    ensures calls { (C.seen ctl.new).calls ≤ (C.seen ctl.old).calls + fru_call_bound limits.tries
+    ensures calls { (C.seen ctl.new).calls ≤ (C.seen ctl.old).calls + inventory_call_bound limits.tries
         65535 }
     ensures asked { AsksAtMost limits.part (C.seen ctl.old) (C.seen ctl.new) }
     ensures says { IfErr result (λ unread. LacksInventory unread (C.seen ctl.new)) }
+    ensures parts { IsHonest (C.seen ctl.old) → IfErr result (λ unread.
+        RetriesParts limits.tries (IsStateOf C.seen) (C.seen ctl.new) (Err (failure_of unread))) }
     ensures none { IfOk result (λ found. NoneIsTrue found (C.seen ctl.new)) }
     ensures honest { IsHonest (C.seen ctl.old) →
         Finds (λ store found. option_map (λ bytes. bytes.items) found ≡ inventory_of id store)
         (AtInventory id ∷ []) limits.tries (C.seen ctl.old) (C.seen ctl.new) result }
 {
-    match read_fru(alloc, ctl, id, limits.part(), limits.tries()) {
+    match read_bytes(alloc, ctl, limits, id) {
         Ok(bytes) => Ok(Some(bytes)),
         Err(ended) => unread_inventory(id, ended),
     }
@@ -146,10 +166,12 @@ pub(crate) fn inventory_in<C: Controller>(
     id: u8,
     name: Option<&str>,
 ) -> Result<Piece, ReadError>
-    ensures calls { (C.seen ctl.new).calls ≤ (C.seen ctl.old).calls + fru_call_bound limits.tries
+    ensures calls { (C.seen ctl.new).calls ≤ (C.seen ctl.old).calls + inventory_call_bound limits.tries
         65535 }
     ensures asked { AsksAtMost limits.part (C.seen ctl.old) (C.seen ctl.new) }
     ensures says { IfErr result (λ unread. LacksInventory unread (C.seen ctl.new)) }
+    ensures parts { IsHonest (C.seen ctl.old) → IfErr result (λ unread.
+        RetriesParts limits.tries (IsStateOf C.seen) (C.seen ctl.new) (Err (failure_of unread))) }
     ensures shows { let named = option_map (λ name. name.now) name.entry in
         IfOk result (λ piece. ShowsInventory wording.entry id named (C.seen ctl.new) (shown piece)) }
     ensures honest { let named = option_map (λ name. name.now) name.entry in IsHonest (C.seen ctl.old) →
@@ -194,10 +216,12 @@ fn device_piece<C: Controller>(
     wording: Wording<'_>,
     view: &SdrView<'_>,
 ) -> Result<Piece, ReadError>
-    ensures calls { (C.seen ctl.new).calls ≤ (C.seen ctl.old).calls + fru_call_bound limits.tries
+    ensures calls { (C.seen ctl.new).calls ≤ (C.seen ctl.old).calls + inventory_call_bound limits.tries
         65535 }
     ensures asked { AsksAtMost limits.part (C.seen ctl.old) (C.seen ctl.new) }
     ensures says { IfErr result (λ unread. LacksInventory unread (C.seen ctl.new)) }
+    ensures parts { IsHonest (C.seen ctl.old) → IfErr result (λ unread.
+        RetriesParts limits.tries (IsStateOf C.seen) (C.seen ctl.new) (Err (failure_of unread))) }
     ensures shows { IfOk result (λ piece. ShowsDevice wording.entry (printed_name view.now) (fru_of view.now)
         (C.seen ctl.new) (shown piece)) }
     ensures honest { IsHonest (C.seen ctl.old) →
@@ -222,10 +246,12 @@ pub(crate) fn locator_piece<C: Controller>(
     wording: Wording<'_>,
     bytes: &[u8],
 ) -> Result<Piece, ReadError>
-    ensures calls { (C.seen ctl.new).calls ≤ (C.seen ctl.old).calls + fru_call_bound limits.tries
+    ensures calls { (C.seen ctl.new).calls ≤ (C.seen ctl.old).calls + inventory_call_bound limits.tries
         65535 }
     ensures asked { AsksAtMost limits.part (C.seen ctl.old) (C.seen ctl.new) }
     ensures says { IfErr result (λ unread. LacksInventory unread (C.seen ctl.new)) }
+    ensures parts { IsHonest (C.seen ctl.old) → IfErr result (λ unread.
+        RetriesParts limits.tries (IsStateOf C.seen) (C.seen ctl.new) (Err (failure_of unread))) }
     ensures shows { IfOk result (λ piece. ShowsLocator wording.entry (sdr_view_of bytes.now) (C.seen ctl.new)
         (shown piece)) }
     ensures honest { IsHonest (C.seen ctl.old) →

@@ -6,7 +6,7 @@ ghost use Rattle.ipmi_commands.specs.declared.job.Form.{Form};
 ghost use Rattle.ipmi_commands.specs.declared.job.Job.{Job};
 ghost use Rattle.ipmi_commands.specs.Kept.{kept_row, KeepsByCursor, KeepsEntries, last_of, PrintsKept};
 ghost use Rattle.ipmi_commands.specs.Output.{Output};
-ghost use Rattle.ipmi_commands.specs.Prelude.{change, EndsListing, EndsPrinting, IsFrom, most_on_walk, printed, Runs};
+ghost use Rattle.ipmi_commands.specs.Prelude.{change, EndsListing, EndsPrinting, IsFrom, most_on_walk, printed, Runs, Tries};
 
 use crate::job::{Entries, Form};
 use crate::limits::RequestLimits;
@@ -87,7 +87,8 @@ fn keep_after<'a, C: Controller>(
     ensures faults { write_faults result ≡ 0 }
     ensures asked { AsksAtMost cursor.old.part (C.seen ctl.old) (C.seen ctl.new) }
     ensures ends { EndsListing Form.Skipped (C.seen ctl.new) result }
-    ensures keeps { (text : Output) → KeepsByCursor kept.old.most cursor.old.tries cursor.old cursor.new
+    ensures keeps { (tries : Tries) (text : Output) → cursor.old.tries ≡ tries.count →
+        KeepsByCursor kept.old.most tries cursor.old cursor.new
         (C.seen ctl.old) (C.seen ctl.new) text kept.new.entries.items result }
 {
     'entries: loop {

@@ -20,7 +20,7 @@ mod sensors;
 mod summary;
 
 pub use job::{Job, Wording};
-pub use limits::{LIVE_PART, RequestLimits};
+pub use limits::{LIVE_PART, RequestLimits, Tries};
 pub use perform::{execute, execute_pages};
 pub use runs::{answer, execute_image, report, run, run_pages, write_image, write_snapshot};
 pub use sensors::{FoundSensors, find_sensors, print_sensors};

@@ -1,8 +1,8 @@
 //! Writes the text of each record that a cursor returns.
 ghost use Rattle.std.specs.Prelude.{◌≡◌, ◌≤◌, ◌+◌};
 ghost use Rattle.std.specs.FinSet as set;
-ghost use Rattle.ipmi_commands.specs.Below.{AsksAtMost, write_faults};
-ghost use Rattle.ipmi_commands.specs.Prelude.{change, ending_of, EndsListing, is_reached, Lists, printed, ReachesEnd, shelf_of, WritesWhole};
+ghost use Rattle.ipmi_commands.specs.Below.{AsksAtMost, IsHonest, IsStateOf, write_faults};
+ghost use Rattle.ipmi_commands.specs.Prelude.{change, ending_of, EndsListing, is_reached, Lists, printed, ReachesEnd, RetriesParts, shelf_of, WritesWhole};
 
 use crate::job::Form;
 use crate::limits::RequestLimits;
@@ -33,12 +33,13 @@ pub(crate) fn list_records<'a, C: Controller, O: Sink>(
     summary: &mut Summary,
 ) -> Result<u32, Failure<'a>>
     requires shelf { cursor.old.shelf ≡ shelf_of form.now }
-    requires tries { cursor.old.tries ≡ limits.tries }
+    requires tries { cursor.old.tries ≡ limits.tries.count }
     requires room { set.len cursor.old.ids ≤ 65536 }
     requires part { cursor.old.part ≤ limits.part }
     ensures faults { O.faults out.new ≡ O.faults out.old + write_faults (ending_of result) }
     ensures asked { AsksAtMost limits.part (C.seen ctl.old) (C.seen ctl.new) }
     ensures ends { EndsListing form.now (C.seen ctl.new) (ending_of result) }
+    ensures parts { IsHonest (C.seen ctl.old) → RetriesParts limits.tries (IsStateOf C.seen) (C.seen ctl.new) (ending_of result) }
     ensures whole { WritesWhole form.now (O.taken out.old) (O.taken out.new) (ending_of result) }
     ensures reaches { ReachesEnd most cursor.new result }
     ensures lists { Lists form.now limits.tries most cursor.old cursor.new

@@ -1,9 +1,9 @@
 //! Lists events and FRU devices with names from the sensor data records.
 ghost use Rattle.std.specs.Prelude.{◌≡◌, ◌+◌};
-ghost use Rattle.ipmi_commands.specs.Below.{AsksAtMost, IsCount, records_in, write_faults};
+ghost use Rattle.ipmi_commands.specs.Below.{AsksAtMost, IsCount, IsHonest, IsStateOf, records_in, write_faults};
 ghost use Rattle.ipmi_commands.specs.Named.{end_after, listed_end, ReadsRecords, walk_of};
 ghost use Rattle.ipmi_commands.specs.declared.job.Job.{Job};
-ghost use Rattle.ipmi_commands.specs.Prelude.{change, entries_in, entries_job, IsFrom, keeping_last, IsNamed, printed, Runs, RunsNamedInPages};
+ghost use Rattle.ipmi_commands.specs.Prelude.{change, entries_in, entries_job, IsFrom, keeping_last, IsNamed, printed, RetriesParts, Runs, RunsNamedInPages};
 
 use crate::devices::print_devices;
 use crate::job::{Entries, Form, Listing, NameLookup, Wording};
@@ -128,6 +128,7 @@ pub(crate) fn list_named<'a, C: Controller, O: Sink>(
     requires { IsNamed named }
     ensures faults { O.faults out.new ≡ O.faults out.old + write_faults result }
     ensures asked { AsksAtMost limits.part (C.seen ctl.old) (C.seen ctl.new) }
+    ensures parts { IsHonest (C.seen ctl.old) → RetriesParts limits.tries (IsStateOf C.seen) (C.seen ctl.new) result }
     ensures runs { Runs (Job.NameLookup wording.entry named) limits.tries
         (change (C.seen ctl.old) (C.seen ctl.new) (printed (O.taken out.old) summary.old) (printed (O.taken out.new) summary.new)) result }
 {

@@ -1,7 +1,7 @@
 //! Lists records in pages, each with a cursor of its own.
 ghost use Rattle.std.specs.Prelude.{◌≡◌, ◌≢◌, ◌+◌, ◌*◌, ◌≤◌, None, Some, IfOk};
-ghost use Rattle.ipmi_commands.specs.Below.{AsksAtMost, End, start_of, IsHonest, write_faults};
-ghost use Rattle.ipmi_commands.specs.Prelude.{ArePages, change, ending_of, EndsListing, IsFresh, IsFrom, IsPage, IsPlace, most_on_walk, pages_made, printed, WritesWhole};
+ghost use Rattle.ipmi_commands.specs.Below.{AsksAtMost, End, start_of, IsHonest, IsStateOf, write_faults};
+ghost use Rattle.ipmi_commands.specs.Prelude.{ArePages, change, ending_of, EndsListing, IsFresh, IsFrom, IsPage, IsPlace, most_on_walk, pages_made, printed, RetriesParts, WritesWhole};
 
 use crate::job::Form;
 use crate::limits::RequestLimits;
@@ -23,7 +23,13 @@ pub(crate) fn start_cursor(
     ensures { IfOk result (λ cursor. IsFresh limits form.now from cursor) }
 {
     ipmi_bus::laws::a_part_size_has_few_digits();
-    let mut cursor = Cursor::start(alloc, form.shelf(), from, limits.part(), limits.tries())?;
+    let mut cursor = Cursor::start(
+        alloc,
+        form.shelf(),
+        from,
+        limits.part(),
+        limits.tries().count,
+    )?;
     cursor.read_ahead(limits.reads_ahead());
     Ok(cursor)
 }
@@ -44,6 +50,7 @@ fn list_from<'a, C: Controller, O: Sink>(
     ensures faults { O.faults out.new ≡ O.faults out.old + write_faults (ending_of result) }
     ensures asked { AsksAtMost limits.part (C.seen ctl.old) (C.seen ctl.new) }
     ensures ends { EndsListing form.now (C.seen ctl.new) (ending_of result) }
+    ensures parts { IsHonest (C.seen ctl.old) → RetriesParts limits.tries (IsStateOf C.seen) (C.seen ctl.new) (ending_of result) }
     ensures whole { WritesWhole form.now (O.taken out.old) (O.taken out.new) (ending_of result) }
     ensures place { IfOk result (λ next. IsPlace next) }
     ensures reaches { most ≡ None → IfOk result (λ next. next ≡ End) }
@@ -74,6 +81,7 @@ pub(crate) fn list_page<'a, C: Controller, O: Sink>(
     ensures faults { O.faults out.new ≡ O.faults out.old + write_faults (ending_of result) }
     ensures asked { AsksAtMost limits.part (C.seen ctl.old) (C.seen ctl.new) }
     ensures ends { EndsListing form.now (C.seen ctl.new) (ending_of result) }
+    ensures parts { IsHonest (C.seen ctl.old) → RetriesParts limits.tries (IsStateOf C.seen) (C.seen ctl.new) (ending_of result) }
     ensures whole { WritesWhole form.now (O.taken out.old) (O.taken out.new) (ending_of result) }
     ensures place { IfOk result (λ next. IsPlace next) }
     ensures reaches { most ≡ None → IfOk result (λ next. next ≡ End) }
@@ -110,6 +118,7 @@ pub(crate) fn list_pages<'a, C: Controller, O: Sink>(
     ensures faults { O.faults out.new ≡ O.faults out.old + write_faults result }
     ensures asked { AsksAtMost limits.part (C.seen ctl.old) (C.seen ctl.new) }
     ensures ends { EndsListing form.now (C.seen ctl.new) result }
+    ensures parts { IsHonest (C.seen ctl.old) → RetriesParts limits.tries (IsStateOf C.seen) (C.seen ctl.new) result }
     ensures calls { (C.seen ctl.new).calls ≤ (C.seen ctl.old).calls + pages_made sizes.now *
         most_on_walk form.now limits.tries }
     ensures honest { IsHonest (C.seen ctl.old) →

@@ -1,10 +1,10 @@
 //! Runs commands over any controller.
 ghost use Rattle.std.specs.Prelude.{◌≡◌, ◌+◌, true, option_map};
-ghost use Rattle.ipmi_commands.specs.Below.{AsksAtMost, IsCount, start_of, write_faults};
+ghost use Rattle.ipmi_commands.specs.Below.{AsksAtMost, IsCount, IsHonest, IsStateOf, start_of, write_faults};
 ghost use Rattle.ipmi_commands.specs.declared.job.Form.{Form};
 ghost use Rattle.ipmi_commands.specs.declared.job.Job.{Job};
 ghost use Rattle.ipmi_commands.specs.declared.job.Listing.{Listing};
-ghost use Rattle.ipmi_commands.specs.Prelude.{change, entries_job, IsFrom, IsJob, IsPlace, keeping_last, listing, lists_all, piece_of, printed, Runs, RunsPaged, WritesPiece};
+ghost use Rattle.ipmi_commands.specs.Prelude.{change, entries_job, IsFrom, IsJob, IsPlace, keeping_last, listing, lists_all, piece_of, printed, RetriesParts, Runs, RunsPaged, WritesPiece};
 
 use crate::info::info_text;
 use crate::inventory::inventory_in;
@@ -48,6 +48,7 @@ fn list<'a, C: Controller, O: Sink>(
     requires { IsPlace listing.now.start }
     ensures faults { O.faults out.new ≡ O.faults out.old + write_faults result }
     ensures asked { AsksAtMost limits.part (C.seen ctl.old) (C.seen ctl.new) }
+    ensures parts { IsHonest (C.seen ctl.old) → RetriesParts limits.tries (IsStateOf C.seen) (C.seen ctl.new) result }
     ensures runs { Runs (Job.Records listing.now) limits.tries
         (change (C.seen ctl.old) (C.seen ctl.new) (printed (O.taken out.old) summary.old) (printed (O.taken out.new) summary.new)) result }
 {
@@ -158,6 +159,7 @@ pub(crate) fn print_inventory<'a, C: Controller, O: Sink>(
 ) -> Result<(), Failure<'a>>
     ensures faults { O.faults out.new ≡ O.faults out.old + write_faults result }
     ensures asked { AsksAtMost limits.part (C.seen ctl.old) (C.seen ctl.new) }
+    ensures parts { IsHonest (C.seen ctl.old) → RetriesParts limits.tries (IsStateOf C.seen) (C.seen ctl.new) result }
     ensures runs { let named = option_map (λ name. name.now) name.entry in
         Runs (Job.Inventory wording.entry id named) limits.tries
         (change (C.seen ctl.old) (C.seen ctl.new) (printed (O.taken out.old) summary.old) (printed (O.taken out.new) summary.new)) result }
@@ -178,6 +180,7 @@ fn print_inventories<'a, C: Controller, O: Sink>(
 ) -> Result<(), Failure<'a>>
     ensures faults { O.faults out.new ≡ O.faults out.old + write_faults result }
     ensures asked { AsksAtMost limits.part (C.seen ctl.old) (C.seen ctl.new) }
+    ensures parts { IsHonest (C.seen ctl.old) → RetriesParts limits.tries (IsStateOf C.seen) (C.seen ctl.new) result }
     ensures runs { let named = option_map (λ name. name.now) name.entry in
         Runs (Job.AllInventories wording.entry named) limits.tries
         (change (C.seen ctl.old) (C.seen ctl.new) (printed (O.taken out.old) summary.old) (printed (O.taken out.new) summary.new)) result }
@@ -201,6 +204,7 @@ pub fn execute<'a, C: Controller, O: Sink>(
     requires { IsJob job }
     ensures faults { O.faults out.new ≡ O.faults out.old + write_faults result }
     ensures asked { AsksAtMost limits.part (C.seen ctl.old) (C.seen ctl.new) }
+    ensures parts { IsHonest (C.seen ctl.old) → RetriesParts limits.tries (IsStateOf C.seen) (C.seen ctl.new) result }
     ensures runs { Runs job.entry limits.tries
         (change (C.seen ctl.old) (C.seen ctl.new) (printed (O.taken out.old) summary.old) (printed (O.taken out.new) summary.new)) result }
 {
@@ -250,6 +254,7 @@ pub fn execute_pages<'a, C: Controller, O: Sink>(
     requires listing { lists_all job ≡ true }
     ensures faults { O.faults out.new ≡ O.faults out.old + write_faults result }
     ensures asked { AsksAtMost limits.part (C.seen ctl.old) (C.seen ctl.new) }
+    ensures parts { IsHonest (C.seen ctl.old) → RetriesParts limits.tries (IsStateOf C.seen) (C.seen ctl.new) result }
     ensures runs { RunsPaged job.entry limits.tries pages.now
         (change (C.seen ctl.old) (C.seen ctl.new) (printed (O.taken out.old) summary.old) (printed (O.taken out.new) summary.new)) result }
 {

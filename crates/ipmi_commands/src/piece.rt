@@ -1,14 +1,14 @@
 //! The text that a command prints for a record. If the text needs a reading, it is requested here, while the record
 //! is borrowed.
-ghost use Rattle.std.specs.Prelude.{◌≡◌, ◌+◌, ◌≤◌, false, IfErr, IfOk, length, Ok, option_map, string_bytes};
-ghost use Rattle.ipmi_commands.specs.Below.{AsksAtMost, row_of_record, IsHonest, largest_len, whole_len, sdr_view_of};
+ghost use Rattle.std.specs.Prelude.{◌≡◌, ◌+◌, ◌≤◌, false, Err, IfErr, IfOk, length, Ok, option_map, string_bytes};
+ghost use Rattle.ipmi_commands.specs.Below.{AsksAtMost, row_of_record, IsHonest, IsStateOf, largest_len, whole_len, sdr_view_of};
 ghost use Rattle.ipmi_records.specs.Sdr.{name_of};
 ghost use Rattle.ipmi_commands.specs.declared.job.Form.{Form};
-ghost use Rattle.ipmi_commands.specs.Prelude.{PieceErrorIsTrue, LacksValue, bytes_of, Finds, is_name, is_of_kind, IsBlockIn, IsBlockOfName, IsEntryLine, IsFaultLine, IsLineOf, IsPieceOver, listed_points, most_after, named_points, OfRow, reading_for, reading_points, row_has_fault, row_piece, shelf_of, shown, ShowsRow, points_because_of};
+ghost use Rattle.ipmi_commands.specs.Prelude.{failure_of, RetriesParts, PieceErrorIsTrue, LacksValue, bytes_of, Finds, is_name, is_of_kind, IsBlockIn, IsBlockOfName, IsEntryLine, IsFaultLine, IsLineOf, IsPieceOver, listed_points, most_after, named_points, OfRow, reading_for, reading_points, row_has_fault, row_piece, shelf_of, shown, ShowsRow, points_because_of};
 
 use crate::inventory::locator_piece;
 use crate::job::{Detail, Entries, Form, Wording};
-use crate::limits::RequestLimits;
+use crate::limits::{RequestLimits, Tries};
 use crate::read_error::ReadError;
 use ipmi_bus::{Controller, Record, SEL_ENTRY_LEN, read_reading};
 use ipmi_command_line::Kind;
@@ -51,9 +51,9 @@ pub(crate) fn reading_for<C: Controller>(
     ctl: &mut C,
     id: u16,
     view: &SdrView<'_>,
-    tries: u8,
+    tries: Tries,
 ) -> Result<Option<Reading>, ReadError>
-    ensures calls { (C.seen ctl.new).calls ≤ (C.seen ctl.old).calls + (tries + 1) }
+    ensures calls { (C.seen ctl.new).calls ≤ (C.seen ctl.old).calls + (tries.count + 1) }
     ensures asked { AsksAtMost 0 (C.seen ctl.old) (C.seen ctl.new) }
     ensures says { IfErr result (λ unread. LacksValue unread (C.seen ctl.new)) }
     ensures honest { IsHonest (C.seen ctl.old) →
@@ -62,7 +62,7 @@ pub(crate) fn reading_for<C: Controller>(
 {
     match view.reading_of() {
         None => Ok(None),
-        Some((lun, number)) => Ok(read_reading(ctl, id, lun, number, tries)?),
+        Some((lun, number)) => Ok(read_reading(ctl, id, lun, number, tries.count)?),
     }
 }
 
@@ -110,11 +110,11 @@ fn listed_line<C: Controller>(
     ctl: &mut C,
     detail: Detail<'_>,
     kind: Kind,
-    tries: u8,
+    tries: Tries,
     lent: &Record<'_>,
 ) -> Result<Piece, ReadError>
     requires { 5 ≤ length lent.now.bytes.now }
-    ensures calls { (C.seen ctl.new).calls ≤ (C.seen ctl.old).calls + (tries + 1) }
+    ensures calls { (C.seen ctl.new).calls ≤ (C.seen ctl.old).calls + (tries.count + 1) }
     ensures asked { AsksAtMost 0 (C.seen ctl.old) (C.seen ctl.new) }
     ensures says { IfErr result (λ unread. LacksValue unread (C.seen ctl.new)) }
     ensures honest { let row = row_of_record lent.now in IsHonest (C.seen ctl.old) →
@@ -188,10 +188,10 @@ fn named_block<C: Controller>(
     ctl: &mut C,
     wording: Wording<'_>,
     name: &str,
-    tries: u8,
+    tries: Tries,
     lent: &Record<'_>,
 ) -> Result<Vec<u8>, ReadError>
-    ensures calls { (C.seen ctl.new).calls ≤ (C.seen ctl.old).calls + (tries + 1) }
+    ensures calls { (C.seen ctl.new).calls ≤ (C.seen ctl.old).calls + (tries.count + 1) }
     ensures asked { AsksAtMost 0 (C.seen ctl.old) (C.seen ctl.new) }
     ensures says { IfErr result (λ unread. LacksValue unread (C.seen ctl.new)) }
     ensures honest { let row = row_of_record lent.now in IsHonest (C.seen ctl.old) →
@@ -286,6 +286,8 @@ pub(crate) fn row_text<C: Controller>(
         limits.tries }
     ensures asked { AsksAtMost limits.part (C.seen ctl.old) (C.seen ctl.new) }
     ensures says { IfErr result (λ unread. PieceErrorIsTrue form.now unread (C.seen ctl.new)) }
+    ensures parts { IsHonest (C.seen ctl.old) → IfErr result (λ unread.
+        RetriesParts limits.tries (IsStateOf C.seen) (C.seen ctl.new) (Err (failure_of unread))) }
     ensures shows { IfOk result (λ text. ShowsRow form.now (row_of_record lent.now) (C.seen ctl.new)
         (row_piece line.new.items text)) }
     ensures honest { let row = row_of_record lent.now in IsHonest (C.seen ctl.old) →

@@ -1,7 +1,7 @@
 //! Runs a command over a controller or over a saved image, and reports how it ended.
 ghost use Rattle.std.specs.Prelude.{◌≡◌, ◌+◌, ◌==◌, if◌then◌else◌, Some, true};
 ghost use Rattle.ipmi_commands.specs.Below.{AsksAtMost, is_listing, store_of_image, of_writer, write_faults};
-ghost use Rattle.ipmi_commands.specs.Prelude.{AnswersCommand, AnswersLine, change, IsJob, IsRewriting, IsSaving, job_of_command, OnBytes, printed, RunsCommand, RunsOver, RunsPagedCommand, Says};
+ghost use Rattle.ipmi_commands.specs.Prelude.{AnswersCommand, AnswersLine, change, for_inventory, IsJob, IsRewriting, IsSaving, job_of_command, OnBytes, printed, RunsCommand, RunsOver, RunsPagedCommand, Says};
 
 use crate::job::{Job, Wording};
 use crate::limits::RequestLimits;
@@ -39,7 +39,7 @@ fn execute_command<'a, C: Controller, O: Sink>(
     ensures faults { O.faults out.new ≡ O.faults out.old + write_faults result }
     ensures asked { AsksAtMost cmd.now.part (C.seen ctl.old) (C.seen ctl.new) }
     ensures runs { OnBytes (O.taken out.old) (O.taken out.new) (λ old new.
-        RunsCommand (job_of_command cmd.now) cmd.now.tries (change (C.seen ctl.old) (C.seen ctl.new) old new) result) }
+        RunsCommand (job_of_command cmd.now) (for_inventory cmd.now.tries) (change (C.seen ctl.old) (C.seen ctl.new) old new) result) }
 {
     match Job::of(cmd.task(), cmd.from(), Wording::Plain) {
         Some(job) => execute(
@@ -70,7 +70,7 @@ pub fn run<C: Controller, O: Sink, E: Write>(
     ensures asked { AsksAtMost cmd.now.part (C.seen ctl.old) (C.seen ctl.new) }
     ensures runs { Says (of_writer (E.contents err.old)) (of_writer (E.contents err.new)) result
         (λ ending. OnBytes (O.taken out.old) (O.taken out.new) (λ old new.
-        RunsCommand (job_of_command cmd.now) cmd.now.tries (change (C.seen ctl.old) (C.seen ctl.new) old new) ending)) }
+        RunsCommand (job_of_command cmd.now) (for_inventory cmd.now.tries) (change (C.seen ctl.old) (C.seen ctl.new) old new) ending)) }
 {
     report(execute_command(alloc, ctl, cmd, out), err)
 }
@@ -87,7 +87,7 @@ fn execute_listing<'a, C: Controller, O: Sink>(
     ensures faults { O.faults out.new ≡ O.faults out.old + write_faults result }
     ensures asked { AsksAtMost cmd.now.part (C.seen ctl.old) (C.seen ctl.new) }
     ensures runs { OnBytes (O.taken out.old) (O.taken out.new) (λ old new.
-        RunsPagedCommand (job_of_command cmd.now) cmd.now.tries pages.now
+        RunsPagedCommand (job_of_command cmd.now) (for_inventory cmd.now.tries) pages.now
         (change (C.seen ctl.old) (C.seen ctl.new) old new) result) }
 {
     let job = Job::of(cmd.task(), cmd.from(), Wording::Plain).unwrap();
@@ -109,7 +109,7 @@ pub fn run_pages<C: Controller, O: Sink, E: MessageSink>(
     ensures asked { AsksAtMost cmd.now.part (C.seen ctl.old) (C.seen ctl.new) }
     ensures runs { Says (E.received err.old) (E.received err.new) result
         (λ ending. OnBytes (O.taken out.old) (O.taken out.new) (λ old new.
-        RunsPagedCommand (job_of_command cmd.now) cmd.now.tries pages.now (change (C.seen ctl.old) (C.seen ctl.new) old new) ending)) }
+        RunsPagedCommand (job_of_command cmd.now) (for_inventory cmd.now.tries) pages.now (change (C.seen ctl.old) (C.seen ctl.new) old new) ending)) }
 {
     report(execute_listing(alloc, ctl, cmd, out, pages), err)
 }

@@ -8,7 +8,7 @@ ghost use Rattle.ipmi_commands.specs.Prelude.{Finds, IsFrom, is_name, LacksValue
 ghost use Rattle.ipmi_commands.specs.Sensors.{AddsNamed, EndsSearch, Found, found_of, found_points, IsBlockOfFound, PrintsFound, SearchCalls, Searches, SearchesBy, with_readings};
 
 use crate::job::{Form, Wording};
-use crate::limits::RequestLimits;
+use crate::limits::{RequestLimits, Tries};
 use crate::pages::start_cursor;
 use crate::perform::write_piece;
 use crate::piece::{block_of, is_name, reading_for};
@@ -94,12 +94,12 @@ fn is_one_of(names: &[Word], own: &Option<String>) -> bool
 fn find_in<C: Controller>(
     alloc: Global,
     ctl: &mut C,
-    tries: u8,
+    tries: Tries,
     names: &[Word],
     lent: &Record<'_>,
     found: &mut FoundSensors,
 ) -> Result<(), ReadError>
-    ensures calls { (C.seen ctl.new).calls ≤ (C.seen ctl.old).calls + (tries + 1) }
+    ensures calls { (C.seen ctl.new).calls ≤ (C.seen ctl.old).calls + (tries.count + 1) }
     ensures asked { AsksAtMost 0 (C.seen ctl.old) (C.seen ctl.new) }
     ensures says { IfErr result (λ unread. LacksValue unread (C.seen ctl.new)) }
     ensures kept { OnErr result (found.new ≡ found.old) }
@@ -125,12 +125,12 @@ fn find_after<'a, C: Controller>(
     alloc: Global,
     cursor: &mut Cursor,
     ctl: &mut C,
-    tries: u8,
+    tries: Tries,
     names: &[Word],
     found: &mut FoundSensors,
 ) -> Result<(), Failure<'a>>
     requires shelf { cursor.old.shelf ≡ Sdr }
-    requires tries { cursor.old.tries ≡ tries }
+    requires tries { cursor.old.tries ≡ tries.count }
     requires room { set.len cursor.old.ids ≤ 65536 }
     ensures asked { AsksAtMost cursor.old.part (C.seen ctl.old) (C.seen ctl.new) }
     ensures ends { EndsSearch (C.seen ctl.new) result }

@@ -1,6 +1,8 @@
 -- What is printed of a live controller, and its tools.
 use Rattle.std.specs.Prelude.{◌≡◌, ◌⊎◌, ◌++◌, ℕ, codes, decimal, is_none, List, None, Option, Some, unwrap_or}
 use Rattle.ipmi_command_line.specs.declared.request.LiveTool.{LiveTool}
+use Rattle.ipmi_commands.specs.Calls.{for_each_part}
+use Rattle.ipmi_commands.specs.declared.limits.RequestLimits.{RequestLimits}
 use Rattle.ipmi_output.specs.Received.{Received}
 use Rattle.ipmi_output.specs.declared.failure.Failure.{Failure}
 use Rattle.ipmi_raw.specs.declared.tool.Tool.{Tool}
@@ -25,9 +27,10 @@ pipe_name folder stream lun = folder ++ (codes "/" ++ (stream ++ (codes "." ++ d
 abbrev pub name_of : Option (List ℕ) → List ℕ
 name_of host = unwrap_or host (codes "the controller")
 
--- memory for the labels ran out; or the query runs over the controller, whatever that holds
+-- memory for the labels ran out; or the query runs over the controller, whatever that holds, with tries for each part of an inventory
 abbrev pub PrintsLive : Settings → Option (List ℕ) → Query → State → State → Received → Received → Outcome → Type 0
 PrintsLive settings host query old new said said' result =
     ((new ≡ old) × Tells (name_of host) (is_none host) (Some (RunError.Failed Failure.OutOfMemory)) said said' result)
     ⊎ ((report : Report) × IsReport settings None (name_of host) (is_none host) report
-    × PrintsQuery settings.limits query report old new said said' result)
+    × ((limits : RequestLimits) × (limits.part ≡ settings.limits.part) × (limits.tries ≡ for_each_part settings.limits.tries.count)
+    × PrintsQuery limits query report old new said said' result))

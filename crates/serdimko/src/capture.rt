@@ -297,8 +297,8 @@ pub(crate) fn capture_live<
     out: &mut Output<W>,
     err: &mut E,
 ) -> Result<u8, AllocError>
-    requires { controller.old.silence.tries ≡ limits.tries }
-    ensures captures { IfOk result (Captures (IsStateOf (seen_of {K = K} ⟦<Piped<O> as Peer>⟧.seen)) limits.part limits.tries
+    requires { controller.old.silence.tries ≡ limits.tries.count }
+    ensures captures { IfOk result (Captures (IsStateOf (seen_of {K = K} ⟦<Piped<O> as Peer>⟧.seen)) limits.part limits.tries.count
         (seen_of ⟦<Piped<O> as Peer>⟧.seen controller.old) (seen_of ⟦<Piped<O> as Peer>⟧.seen controller.new)
         (last_words controller.new) (option_map (λ name. name.now) host.entry) (file_in target.entry) target.entry.may_replace
         (out_of out.old) (out_of out.new) (E.received err.old) (E.received err.new)) }
@@ -308,7 +308,7 @@ pub(crate) fn capture_live<
         rt.alloc(),
         controller,
         limits.part(),
-        limits.tries(),
+        limits.tries().count,
         counter,
     )?;
     counter.clear();

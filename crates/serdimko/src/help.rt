@@ -108,7 +108,7 @@ const FRU: &str = "Prints inventories of field replaceable units.
   fru list        a line for each of these devices: id, name, whether it is
                   present, and the product's name, part number and serial
 
-ID is 0 to 254, decimal, or hex after 0x.
+ID is 0 to 254, decimal, or hex after 0x. --tries N counts for each part read.
 With --strict the status is 1 if a fault is printed or a device not present.
 ";
 

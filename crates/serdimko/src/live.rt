@@ -226,7 +226,8 @@ pub(crate) fn print_live<'a, C: Connection, W: Write + Drop, E: MessageSink>(
         return report.tell(&Some(RunError::Failed(Failure::OutOfMemory)), err);
     };
     let report = settings.report(labels.as_slice(), name, is_unknown);
-    let outcome = print_query(alloc, machine, settings.limits, query, &report, out, err);
+    let limits = settings.limits.retrying_parts();
+    let outcome = print_query(alloc, machine, limits, query, &report, out, err);
     machine.asks_only();
     outcome
 }

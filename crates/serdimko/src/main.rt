@@ -270,7 +270,7 @@ fn run_capture<E: MessageSink>(
     };
     let terminal = Some(rt.stderr()).filter(|stderr| !quiet && stderr.is_terminal());
     let mut counter = Counter::new(terminal);
-    let mut controller = controller_of(rt, live, limits.tries());
+    let mut controller = controller_of(rt, live, limits.tries().count);
     let mut out = buffered_output(rt)?;
     let status = capture_live(
         rt,
@@ -311,7 +311,7 @@ fn print_machine<'a, E: MessageSink>(
     requires { IsQuery query.now }
 {
     let alloc = rt.alloc();
-    let mut machine = controller_of(rt, live, settings.limits.tries());
+    let mut machine = controller_of(rt, live, settings.limits.tries().count);
     let Some(file) = records else {
         return Ok(print_live(alloc, settings, host, query, &mut machine, out, err));
     };
@@ -322,7 +322,7 @@ fn print_machine<'a, E: MessageSink>(
         Err(error) => return Ok(fail(alloc, &report, error, out, err)),
     };
     let current = match image {
-        Some(image) => WithRecords::of_current(image, machine, settings.limits.tries()),
+        Some(image) => WithRecords::of_current(image, machine, settings.limits.tries().count),
         None => Err(machine),
     };
     let mut machine = match current {

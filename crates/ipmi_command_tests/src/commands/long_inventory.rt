@@ -86,7 +86,7 @@ fn push_part(rt: &impl Abort, text: &mut String, part: &str) {
 }
 
 /// The text of several parts, which are separated by bars.
-fn text_of_parts(rt: &impl Abort, alloc: Global, parts: &str) -> String {
+pub(super) fn text_of_parts(rt: &impl Abort, alloc: Global, parts: &str) -> String {
     let mut text = String::new(alloc);
     for part in parts.split('|') {
         push_part(rt, &mut text, part);

@@ -15,3 +15,10 @@ returns-in_err-print_inventory-clause-honest g c = λ h.
 pub returns-clause-honest : goal.returns-clause-honest
 returns-clause-honest g c = λ h.
     devices_printed c.args.wording c.args.walked c.args.limits.tries _ _ (search rules) _ _ _ _ _ _ _ h c.in_ok-print_inventory.ensures.runs c.print_located.ensures.honest
+
+pub returns-in_err-print_inventory-clause-parts : goal.returns-in_err-print_inventory-clause-parts
+returns-in_err-print_inventory-clause-parts g c = λ h.
+    rw (passed _ _ c.from_residual-in_err-print_inventory.ensures.1) (c.in_err-print_inventory.ensures.parts h)
+
+pub returns-clause-parts : goal.returns-clause-parts
+returns-clause-parts g c = λ h. c.print_located.ensures.parts (c.in_ok-print_inventory.ensures.runs.why h).stays.honest

@@ -1,49 +1,49 @@
 use Rattle.std.proofs.Common.{rules, Ok, ◌∙◌, ap, arith, refl}
 use Rattle.ipmi_commands.specs.Below.{row_of_record}
 use Rattle.ipmi_commands.specs.Output.{no_output}
-use Rattle.ipmi_commands.specs.Prelude.{Form}
+use Rattle.ipmi_commands.specs.Prelude.{for_inventory, Form}
 use Rattle.ipmi_commands.proofs.AskLemmas.{step_ends_listing}
 use Rattle.ipmi_commands.proofs.CallLemmas.{len-next_ids}
 use Rattle.ipmi_commands.proofs.KeptLemmas.{keeping_begun, keeping_more, keeps_done, keeps_ended, keeps_lost, last_of-few}
 use Rattle.ipmi_commands.proofs.kept.keep_after.Goals as goal
 
 pub entries-init : goal.entries-init
-entries-init g c = (search rules, refl, rw c.requires.none (omega arith), λ text. keeping_begun _ _ _ _ text _ c.requires.none c.requires.shelf refl c.requires.room)
+entries-init g c = (search rules, refl, rw c.requires.none (omega arith), λ tries text are. keeping_begun _ tries _ _ text _ c.requires.none c.requires.shelf are c.requires.room)
 
 pub returns-in-Ok-None-clause-asked : goal.returns-in-Ok-None-clause-asked
 returns-in-Ok-None-clause-asked g c =
     let step = rw (c.in-Ok-None.is ∙ ap Ok c.in-Ok-None.field-0-is) at c.step.follows.holds-at-none in
-    omega (arith, c.entries.invariant.0, (c.entries.invariant.3 no_output).listed.called.keeps.part_falls, step.asked)
+    omega (arith, c.entries.invariant.0, (c.entries.invariant.3 (for_inventory c.args.cursor.now.tries) no_output refl).listed.called.keeps.part_falls, step.asked)
 
 pub returns-in-Ok-None-clause-keeps : goal.returns-in-Ok-None-clause-keeps
-returns-in-Ok-None-clause-keeps g c = λ text.
-    keeps_done (c.entries.invariant.3 text) (rw (c.in-Ok-None.is ∙ ap Ok c.in-Ok-None.field-0-is) at c.step.follows.holds-at-none)
+returns-in-Ok-None-clause-keeps g c = λ tries text are.
+    keeps_done (c.entries.invariant.3 tries text are) (rw (c.in-Ok-None.is ∙ ap Ok c.in-Ok-None.field-0-is) at c.step.follows.holds-at-none)
 
 pub returns-in-Err-clause-asked : goal.returns-in-Err-clause-asked
 returns-in-Err-clause-asked g c =
     let step = rw c.in-Err.is at c.step.follows.holds-at-none in
-    omega (arith, c.entries.invariant.0, (c.entries.invariant.3 no_output).listed.called.keeps.part_falls, step.asked)
+    omega (arith, c.entries.invariant.0, (c.entries.invariant.3 (for_inventory c.args.cursor.now.tries) no_output refl).listed.called.keeps.part_falls, step.asked)
 
 pub returns-in-Err-clause-ends : goal.returns-in-Err-clause-ends
 returns-in-Err-clause-ends g c =
-    step_ends_listing Form.Skipped c.in-Err.ended (c.entries.invariant.3 no_output).listed.shelf (rw c.in-Err.is at c.step.follows.holds-at-none)
+    step_ends_listing Form.Skipped c.in-Err.ended (c.entries.invariant.3 (for_inventory c.args.cursor.now.tries) no_output refl).listed.shelf (rw c.in-Err.is at c.step.follows.holds-at-none)
 
 pub returns-in-Err-clause-keeps : goal.returns-in-Err-clause-keeps
-returns-in-Err-clause-keeps g c = λ text.
-    keeps_ended (c.entries.invariant.3 text) c.in-Err.ended (rw c.in-Err.is at c.step.follows.holds-at-none)
+returns-in-Err-clause-keeps g c = λ tries text are.
+    keeps_ended (c.entries.invariant.3 tries text are) c.in-Err.ended (rw c.in-Err.is at c.step.follows.holds-at-none)
 
 pub push-requires-clause-whole : goal.push-requires-clause-whole
-push-requires-clause-whole g c = rw c.in-Ok-Some.field-0-is at (rw (c.entries.invariant.3 no_output).listed.shelf at c.in-Ok-Some.ensures.whole)
+push-requires-clause-whole g c = rw c.in-Ok-Some.field-0-is at (rw (c.entries.invariant.3 (for_inventory c.args.cursor.now.tries) no_output refl).listed.shelf at c.in-Ok-Some.ensures.whole)
 
 pub returns-in-Err-push-clause-asked : goal.returns-in-Err-push-clause-asked
 returns-in-Err-push-clause-asked g c =
     let step = rw (c.in-Ok-Some.is ∙ ap Ok c.in-Ok-Some.field-0-is) at c.step.follows.holds-at-none in
-    omega (arith, c.entries.invariant.0, (c.entries.invariant.3 no_output).listed.called.keeps.part_falls, step.asked)
+    omega (arith, c.entries.invariant.0, (c.entries.invariant.3 (for_inventory c.args.cursor.now.tries) no_output refl).listed.called.keeps.part_falls, step.asked)
 
 pub returns-in-Err-push-clause-keeps : goal.returns-in-Err-push-clause-keeps
-returns-in-Err-push-clause-keeps g c = λ text.
+returns-in-Err-push-clause-keeps g c = λ tries text are.
     let step = rw (c.in-Ok-Some.is ∙ ap Ok c.in-Ok-Some.field-0-is) at c.step.follows.holds-at-none in
-    keeps_lost (c.entries.invariant.3 text) step _
+    keeps_lost (c.entries.invariant.3 tries text are) step _
 
 pub entries-smaller : goal.entries-smaller
 entries-smaller g c =
@@ -55,8 +55,8 @@ entries-preserved g c =
     let step = rw (c.in-Ok-Some.is ∙ ap Ok c.in-Ok-Some.field-0-is) at c.step.follows.holds-at-none in
     let most = c.entries.invariant.1 in
     let pushed = rw most at c.in-Ok.ensures.ok in (
-      omega (arith, c.entries.invariant.0, (c.entries.invariant.3 no_output).listed.called.keeps.part_falls, step.asked),
+      omega (arith, c.entries.invariant.0, (c.entries.invariant.3 (for_inventory c.args.cursor.now.tries) no_output refl).listed.called.keeps.part_falls, step.asked),
       c.push.ensures.most ∙ most,
       rw pushed (last_of-few _ _),
-      λ text. keeping_more (c.entries.invariant.3 text) step _ pushed,
+      λ tries text are. keeping_more (c.entries.invariant.3 tries text are) step _ pushed,
     )

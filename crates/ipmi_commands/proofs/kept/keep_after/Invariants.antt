@@ -2,6 +2,7 @@ use Rattle.std.proofs.Common.{◌≡◌, ◌-◌, ◌≤◌, length}
 use Rattle.std.specs.FinSet as set
 use Rattle.ipmi_commands.specs.Below.{AsksAtMost}
 use Rattle.ipmi_commands.specs.Output.{Output}
+use Rattle.ipmi_commands.specs.Prelude.{Tries}
 use Rattle.ipmi_commands.proofs.KeptLemmas.{Keeping}
 use Rattle.ipmi_commands.proofs.kept.keep_after.Given as goal
 
@@ -10,7 +11,7 @@ invariant-entries g l =
     AsksAtMost l.fn.cursor.part (g.C.Controller.seen l.fn.ctl) (g.C.Controller.seen l.ctl)
     × (l.kept.most ≡ l.fn.kept.most)
     × (length l.kept.entries.items ≤ l.fn.kept.most)
-    × ((text : Output) → Keeping l.fn.kept.most l.fn.cursor.tries l.fn.cursor l.cursor (g.C.Controller.seen l.fn.ctl) (g.C.Controller.seen l.ctl) text l.kept.entries.items)
+    × ((tries : Tries) (text : Output) → l.fn.cursor.tries ≡ tries.count → Keeping l.fn.kept.most tries l.fn.cursor l.cursor (g.C.Controller.seen l.fn.ctl) (g.C.Controller.seen l.ctl) text l.kept.entries.items)
 
 -- The number of ids that the cursor can still return.
 abbrev pub decreases-entries : goal.decreases-entries

@@ -1,6 +1,6 @@
 use Rattle.ipmi_commands.specs.Output.{no_output}
 use Rattle.ipmi_commands.proofs.AskLemmas.{passed}
-use Rattle.ipmi_commands.proofs.KeptLemmas.{keeps_calls, keeps_entries, keeps_without_memory}
+use Rattle.ipmi_commands.proofs.KeptLemmas.{keeps_calls, keeps_entries, keeps_without_memory, tries_are}
 use Rattle.ipmi_commands.proofs.ListingLemmas.{fresh_room}
 use Rattle.ipmi_commands.proofs.kept.keep_entries.Goals as goal
 
@@ -11,7 +11,7 @@ pub returns-in_err-cursor-clause-honest : goal.returns-in_err-cursor-clause-hone
 returns-in_err-cursor-clause-honest g c = λ h text. rw (passed _ _ c.from_residual.ensures.1) (keeps_without_memory _ _ _ _ text _ h)
 
 pub returns-clause-calls : goal.returns-clause-calls
-returns-clause-calls g c = keeps_calls c.in_ok-cursor.ensures (c.keep_after.ensures.keeps no_output)
+returns-clause-calls g c = keeps_calls c.in_ok-cursor.ensures (c.keep_after.ensures.keeps c.args.limits.tries no_output (tries_are c.in_ok-cursor.ensures))
 
 pub returns-clause-honest : goal.returns-clause-honest
-returns-clause-honest g c = λ h text. keeps_entries c.in_ok-cursor.ensures _ _ c.keep_after.result h (c.keep_after.ensures.keeps text)
+returns-clause-honest g c = λ h text. keeps_entries c.in_ok-cursor.ensures _ _ c.keep_after.result h (c.keep_after.ensures.keeps c.args.limits.tries text (tries_are c.in_ok-cursor.ensures))

@@ -1,5 +1,5 @@
 use Rattle.std.proofs.Common.{inl, inr, refl, rules, ◌++◌, List, ℕ, Err, Ok, ◌∙◌, ap, sym, arith}
-use Rattle.ipmi_commands.specs.Below.{Failure, row_of_record}
+use Rattle.ipmi_commands.specs.Below.{Failure, row_of_record, IsStateOf}
 use Rattle.ipmi_commands.specs.Prelude.{printed}
 use Rattle.ipmi_commands.proofs.AskLemmas.{end_ends, reaches_end, step_ends_listing, unread_ends, unread_reaches}
 use Rattle.ipmi_commands.proofs.CallLemmas.{at_limit, len-next_ids}
@@ -7,6 +7,7 @@ use Rattle.ipmi_commands.proofs.ListingLemmas.{listing_cut, listing_done, listin
 use Rattle.ipmi_commands.proofs.OutputLemmas.{counted_more}
 use Rattle.ipmi_commands.proofs.TraceLemmas.{traced_none}
 use Rattle.ipmi_commands.proofs.WholeLemmas.{writes_more, writes_none, writes_whole}
+use Rattle.ipmi_commands.proofs.PartLemmas.{end_spares}
 use Rattle.ipmi_commands.proofs.listing.list_records.Goals as goal
 
 pub returns-then-is_reached-clause-lists : goal.returns-then-is_reached-clause-lists
@@ -112,3 +113,15 @@ returns-in-Err-clause-whole g c = writes_whole c.args.form.now c.records.count _
 
 pub returns-in-Err-row_text-clause-whole : goal.returns-in-Err-row_text-clause-whole
 returns-in-Err-row_text-clause-whole g c = writes_whole c.args.form.now c.records.count _ _ (Err c.from.result) c.records.invariant.2.called c.records.invariant.3
+
+pub returns-then-is_reached-clause-parts : goal.returns-then-is_reached-clause-parts
+returns-then-is_reached-clause-parts g c = λ h. rw c.end.ensures (end_spares c.args.limits.tries (IsStateOf g.C.Controller.seen) _ c.args.form.now c.records.wrote c.records.count)
+
+pub returns-in-Ok-None-clause-parts : goal.returns-in-Ok-None-clause-parts
+returns-in-Ok-None-clause-parts g c = λ h. rw c.end-in-Ok-None.ensures (end_spares c.args.limits.tries (IsStateOf g.C.Controller.seen) _ c.args.form.now c.records.wrote c.records.count)
+
+pub returns-in-Err-row_text-clause-parts : goal.returns-in-Err-row_text-clause-parts
+returns-in-Err-row_text-clause-parts g c = λ h.
+    let step = rw (c.in-Ok-Some.is ∙ ap Ok c.in-Ok-Some.field-0-is) at c.step.follows.holds-at-none in
+    let before = (c.records.invariant.2.went h).ends.stays.honest in
+    rw c.from.ensures (c.in-Err-row_text.ensures.parts (step.honest before).stays.honest)

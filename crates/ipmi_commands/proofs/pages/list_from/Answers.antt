@@ -21,3 +21,6 @@ returns-clause-honest g c = λ some h. rw c.resume_at.ensures (page_by_cursor (O
 
 pub returns-in_err-cursor-clause-whole : goal.returns-in_err-cursor-clause-whole
 returns-in_err-cursor-clause-whole g c = whole_none c.args.form.now _ (ending_of c.from_residual.result)
+
+pub returns-in_err-list_records-clause-parts : goal.returns-in_err-list_records-clause-parts
+returns-in_err-list_records-clause-parts g c = λ h. rw (passed _ _ c.from_residual-in_err-list_records.ensures.1) (c.in_err-list_records.ensures.parts h)

@@ -1,6 +1,8 @@
-use Rattle.std.proofs.Common.{◌≡◌, sym, ◌∙◌, arith}
+use Rattle.std.proofs.Common.{◌≡◌, false, sym, ◌∙◌, arith}
 use Rattle.ipmi_commands.proofs.CallLemmas.{at_limit}
 use Rattle.ipmi_commands.proofs.PageLemmas.{page_at_end, page_of_cycle, page_of_none}
+use Rattle.ipmi_commands.proofs.PartLemmas.{end_spares}
+use Rattle.ipmi_commands.specs.Below.{IsStateOf}
 use Rattle.ipmi_commands.proofs.pages.list_page.Goals as goal
 
 pub returns-then-is_reached-clause-honest : goal.returns-then-is_reached-clause-honest
@@ -14,3 +16,9 @@ returns-in-Id-eq0-clause-honest g c = λ h.
 
 pub returns-in-End-clause-honest : goal.returns-in-End-clause-honest
 returns-in-End-clause-honest g c = λ h. rw (c.in-End.is, c.end-in-End.ensures, c.in-End.is) (page_at_end _ _ _ _ _ h)
+
+pub returns-then-is_reached-clause-parts : goal.returns-then-is_reached-clause-parts
+returns-then-is_reached-clause-parts g c = λ h. rw c.end.ensures (end_spares c.args.limits.tries (IsStateOf g.C.Controller.seen) _ c.args.form.now false c.args.place)
+
+pub returns-in-End-clause-parts : goal.returns-in-End-clause-parts
+returns-in-End-clause-parts g c = λ h. rw c.end-in-End.ensures (end_spares c.args.limits.tries (IsStateOf g.C.Controller.seen) _ c.args.form.now false c.args.place)

@@ -1,6 +1,7 @@
 use Rattle.std.proofs.Common.{arith}
 use Rattle.ipmi_commands.specs.Prelude.{most_on_walk}
 use Rattle.ipmi_commands.proofs.PageLemmas.{page_leads, last_leads, calls_after_page}
+use Rattle.ipmi_commands.proofs.AskLemmas.{passed}
 use Rattle.ipmi_commands.proofs.pages.list_pages.Goals as goal
 
 pub returns-in-Err-clause-calls : goal.returns-in-Err-clause-calls
@@ -30,3 +31,9 @@ pages-preserved g c =
             page_leads c.args.form.now c.args.limits.tries c.args.sizes.now c.pages.size-index c.args.start c.pages.place _ _ _ _ _ _ c.pages-test.true (kept.4 h).1 c.in-Ok.next done,
           ),
     )
+
+pub returns-in-Err-clause-parts : goal.returns-in-Err-clause-parts
+returns-in-Err-clause-parts g c = λ h. rw c.in-Err.is at c.list_page.ensures.parts (c.pages.invariant.4 h).0
+
+pub returns-in_err-list_page-clause-parts : goal.returns-in_err-list_page-clause-parts
+returns-in_err-list_page-clause-parts g c = λ h. rw (passed _ _ c.from_residual.ensures.1) (c.in_err-list_page.ensures.parts (c.pages.invariant.4 h).0)

@@ -17,5 +17,5 @@ returns-clause-prints g c =
         name_is = c.report-report-2.ensures.name ∙ c.name_of-is_unknown.ensures.name;
         input = c.report-report-2.ensures.input ∙ c.name_of-is_unknown.ensures.unknown;
       },
-      c.print_query-outcome.ensures,
+      (c.retrying_parts-limits.result, c.retrying_parts-limits.ensures.part, c.retrying_parts-limits.ensures.tries, c.print_query-outcome.ensures),
     )
