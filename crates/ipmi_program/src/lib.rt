@@ -1,10 +1,12 @@
-//! The frame of a program around a command: it reads the words and the image, flushes the output, and says why a run failed.
+//! The frame of a program around a command: it reads the words and the image, flushes the output, and says why a run failed or an image is faulty.
 #![tactic(auto)]
 
 mod answer;
+mod causes;
 mod input;
 mod printing;
 
 pub use answer::answer_buffered;
+pub use causes::cause_words;
 pub use input::{InputFault, MOST_BYTES, input_name, read_image, read_input, read_words, words_of};
 pub use printing::flush;

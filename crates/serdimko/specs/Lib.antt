@@ -1,5 +1,4 @@
 pub mod Captured
-pub mod Causes
 pub mod Images
 pub mod Labels
 pub mod Live

@@ -11,7 +11,7 @@ use Rattle.ipmi_output.specs.declared.failure.Failure.{Failure}
 use Rattle.ipmi_program.specs.Input.{input_fault_words}
 use Rattle.ipmi_image.specs.declared.cause.FaultCause.{FaultCause}
 use Rattle.ipmi_program.specs.declared.input.InputFault.{InputFault}
-use Rattle.serdimko.specs.Causes.{cause_words}
+use Rattle.ipmi_program.specs.Causes.{cause_words}
 use Rattle.serdimko.specs.declared.outcome.Outcome.{Outcome}
 use Rattle.serdimko.specs.declared.run_error.RunError.{RunError}
 

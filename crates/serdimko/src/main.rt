@@ -8,7 +8,6 @@ ghost use Rattle.serdimko.specs.Images.{IsImageQuery};
 ghost use Rattle.serdimko.specs.Settings.{IsQuery};
 
 mod capture;
-mod causes;
 mod closable;
 mod driver;
 mod ending;

@@ -3,12 +3,11 @@ ghost use Rattle.std.specs.Prelude.{◌≡◌, Some, true};
 ghost use Rattle.ipmi_output.specs.Failure.{joined_parts, part_text};
 ghost use Rattle.serdimko.specs.RunError.{is_recoverable, is_output_open, lost_error, named_text, no_image, error_of, error_text, refusal_or_lost, status_of_error, unread};
 
-use crate::causes::cause_words;
 use ipmi_bus::{Ended, FruEnded};
 use ipmi_image::{FaultCause, ImageFault};
 use ipmi_output::Part::{self, Escaped, Number, Text};
 use ipmi_output::{Failure, fault_line, fault_words};
-use ipmi_program::InputFault;
+use ipmi_program::{InputFault, cause_words};
 use std::alloc::AllocError;
 
 /// The exit status if an image can't be read.

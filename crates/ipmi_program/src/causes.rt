@@ -1,6 +1,6 @@
-//! Why an image is faulty, in words.
+//! Why an image is faulty, in the words of `serdimko`.
 ghost use Rattle.std.specs.Prelude.{◌≡◌};
-ghost use Rattle.serdimko.specs.Causes.{beginning_words, cause_words, line_words, rule_words};
+ghost use Rattle.ipmi_program.specs.Causes.{beginning_words, cause_words, line_words, rule_words};
 
 use ipmi_image::{Beginning, FaultCause, LineCause, RuleCause};
 
@@ -84,8 +84,8 @@ fn rule_words(cause: RuleCause) -> &'static str
     }
 }
 
-/// The cause in brackets, after a space; nothing if it is not known.
-pub(crate) fn cause_words(cause: Option<FaultCause>) -> &'static str
+/// The cause in brackets, after a space, as `serdimko` says it; nothing if it is not known.
+pub fn cause_words(cause: Option<FaultCause>) -> &'static str
     ensures { result.now ≡ cause_words cause }
 {
     match cause {
