@@ -37,5 +37,6 @@ mod refused_memory;
 pub(crate) mod saved;
 mod short_outputs;
 mod summaries;
+mod tail_entries;
 mod whole_pieces;
 mod written_answers;

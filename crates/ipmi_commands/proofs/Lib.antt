@@ -20,6 +20,7 @@ mod PagesLaw
 mod PerformLemmas
 mod RunLemmas
 mod SensorLemmas
+pub mod TailLemmas
 mod PointLemmas
 mod TraceLemmas
 mod UniqueLemmas

@@ -1,5 +1,5 @@
 //! Lists the last entries of the event log along one walk: they are kept in memory, and printed when the walk is over.
-ghost use Rattle.std.specs.Prelude.{◌≡◌, [], ◌∷◌, ◌+◌, ◌-◌, ◌++◌, ◌≤◌, drop, length, OnOk};
+ghost use Rattle.std.specs.Prelude.{◌≡◌, ◌==◌, [], ◌∷◌, ◌+◌, ◌-◌, ◌++◌, ◌≤◌, drop, length, OnOk};
 ghost use Rattle.std.specs.FinSet as set;
 ghost use Rattle.ipmi_commands.specs.Below.{AsksAtMost, IsHonest, row_of_record, Sel, start_of, write_faults};
 ghost use Rattle.ipmi_commands.specs.declared.job.Form.{Form};
@@ -22,21 +22,21 @@ use std::collections::VecDeque;
 
 /// An entry of the event log.
 #[derive(Clone, Copy)]
-struct KeptEntry {
+pub(crate) struct KeptEntry {
     id: u16,
     bytes: [u8; SEL_ENTRY_LEN],
 }
 
 /// The last entries of a walk so far, at most `most` of them.
 #[derive(Drop)]
-struct LastEntries {
+pub(crate) struct LastEntries {
     most: u16,
     entries: VecDeque<KeptEntry>,
 }
 
 impl LastEntries {
     /// Those of a walk that returned no entry.
-    fn new(alloc: Global, most: u16) -> LastEntries
+    pub(crate) fn new(alloc: Global, most: u16) -> LastEntries
         ensures most { result.most ≡ most }
         ensures none { result.entries.items ≡ [] }
     {
@@ -46,6 +46,13 @@ impl LastEntries {
         }
     }
 
+    /// Whether there is no room for another entry.
+    pub(crate) fn is_full(&self) -> bool
+        ensures { result ≡ (length self.now.entries.items == self.now.most) }
+    {
+        self.entries.len() == usize::from(self.most)
+    }
+
     /// Forgets the first entry if there is no room for another one.
     fn make_room(&mut self)
         requires { length self.old.entries.items ≤ self.old.most }
@@ -53,7 +60,7 @@ impl LastEntries {
         ensures rest { self.new.entries.items
             ≡ drop (length self.old.entries.items + 1 - self.old.most) self.old.entries.items }
     {
-        if self.entries.len() == usize::from(self.most) {
+        if self.is_full() {
             self.entries.pop_front();
         }
     }
@@ -104,7 +111,7 @@ fn keep_after<'a, C: Controller>(
 }
 
 /// Keeps the last entries of a walk that starts at the id `from`, or at the first entry.
-fn keep_entries<'a, C: Controller>(
+pub(crate) fn keep_entries<'a, C: Controller>(
     alloc: Global,
     ctl: &mut C,
     limits: RequestLimits,
@@ -144,7 +151,7 @@ fn print_entry<'a, O: Sink>(
 }
 
 /// Prints the lines of the entries, and forgets them.
-fn print_entries<'a, O: Sink>(
+pub(crate) fn print_entries<'a, O: Sink>(
     alloc: Global,
     kept: &mut LastEntries,
     entries: &Entries<'_>,
