@@ -1,5 +1,5 @@
 -- A command prints the same over a capture as over the controller's store.
-use Rattle.std.proofs.Common.{◌≡◌, ℕ, ◌-◌, Bool, true, false, cond, nat_eq, ◌⊎◌, get_or, Option, None, Some, Result, Ok, Err, List, [], ◌∷◌, length, take, inl, inr, refl, sym, ap, subst, ◌∙◌, arith, All, filter_map}
+use Rattle.std.proofs.Common.{◌≡◌, ℕ, ◌+◌, ◌-◌, Bool, true, false, cond, nat_eq, ◌⊎◌, get_or, Option, None, Some, Result, Ok, Err, List, [], ◌∷◌, length, take, inl, inr, refl, sym, ap, subst, ◌∙◌, arith, All, filter_map}
 use Rattle.std.specs.List.{Any, cons_option, filter}
 use Rattle.std.proofs.lemmas.Bool.{true≢false}
 use Rattle.std.proofs.lemmas.List.Elements.{All-cons, All-contains, All-contains_itself, All-head, All-nil, All-tail}
@@ -9,7 +9,9 @@ use Rattle.ipmi_capture.specs.Capture.{device_named, devices_of, HasWalk, Invent
 use Rattle.ipmi_capture.specs.Laws.{AreOfCapture, CapturesPrintTheSame, CapturesPrintWhatTheyHave, devices_asked, is_info_asked, is_walked, IsKnownPlace, IsOfCapture, IsUnneeded, PrintsTheSame, SameText, sensors_asked}
 use Rattle.ipmi_capture.specs.Left.{EndIsNoted, LacksInfo, LacksInventory, LacksReading, LacksRecords, SameOrLeft}
 use Rattle.ipmi_capture.specs.declared.left.Left.{Left}
-use Rattle.ipmi_commands.specs.Prelude.{after_names, after_points, AtInventory, AtRecord, bytes_of_rows, entries_in, has_last, IfChosen, info_plan, inventories_plan, inventory_plan, is_name, IsBlockIn, IsBlockOfName, IsDevicePiece, IsInventoryIn, IsLocatorPiece, IsRowText, Item, last_plan, last_rows, listing, listing_plan, OfInventory, OnEntries, OnTail, OnTailFrom, OnTried, OnWalk, OnWhole, Plan, points_of_walk, reading_by, reading_for, row_is_of_kind, row_items, ReadPoint, tail_from, points_before, view_has_name, with_first_points}
+use Rattle.ipmi_commands.specs.Prelude.{after_names, after_points, AtInventory, AtRecord, bytes_of_rows, entries_in, has_last, IfChosen, info_plan, inventories_plan, inventory_plan, is_name, IsBlockIn, IsBlockOfName, IsDevicePiece, IsInventoryIn, IsLocatorPiece, IsRowText, Item, last_plan, last_rows, listing, listing_plan, OfInventory, OnEntries, OnTail, OnTailFrom, OnTried, OnWalk, OnWhole, Plan, points_of_walk, reading_by, reading_for, row_is_of_kind, row_items, ReadPoint, tail_from, walk_call_bound, points_before, view_has_name, with_first_points}
+use Rattle.ipmi_commands.specs.declared.job.Entries.{Entries}
+use Rattle.ipmi_commands.specs.declared.job.Form.{Form}
 use Rattle.ipmi_commands.specs.declared.job.Wording.{Wording}
 use Rattle.ipmi_command_line.specs.declared.task.Count.{Count}
 use Rattle.ipmi_command_line.specs.declared.task.Kind.{Kind}
@@ -399,7 +401,7 @@ module _ (exists : WalkExists) (unique : WalkIsUnique) (found : FoundIsRow) (ima
       (rw (one.0, one.1) refl, rows_same image store _ (Id id) (take 1 walk) (λ row among. itself _))
 
   -- the last entries of a walk from the first one, with lines of this form
-  module _ (entries : _) (n : ℕ) (walks : SameWalk Sel image store) (tries tries' : ℕ) where
+  module _ (entries : Entries) (n : ℕ) (walks : SameWalk Sel image store) (tries tries' : ℕ) where
     abbrev Agree : Plan → Plan → Type 0
     Agree plan plan' = (plan' ≡ plan) × All (SameText image store) plan.items
 
@@ -417,18 +419,29 @@ module _ (exists : WalkExists) (unique : WalkIsUnique) (found : FoundIsRow) (ima
     -- or of one from a known id
     module _ (id : ℕ) (known : IsKnownPlace Sel image (Id id)) (tail : List Row) (end : WalkEnd)
         (is : IsWalk (rows_of Sel store) (Id id) tail) (ends : EndsBy (rows_of Sel store) (Id id) tail end) where
+      moved : (P : Plan → ℕ → Type 0) (tail' : List Row) (end' : WalkEnd) → tail' ≡ tail → end' ≡ end → (has : Bool) → has_last n tail end ≡ has
+          → OnTried has id tail end entries n tries' image P → OnTried (has_last n tail' end') id tail' end' entries n tries' image P
+      moved P tail' end' a b has all on =
+          subst (λ (e : WalkEnd). OnTried (has_last n tail' e) id tail' e entries n tries' image P) (sym b)
+          (subst (λ (l : List Row). OnTried (has_last n l end) id l end entries n tries' image P) (sym a)
+          (subst (λ (h : Bool). OnTried h id tail end entries n tries' image P) (sym all) on))
+
       tried_same : (has : Bool) → has_last n tail end ≡ has → OnTried has id tail end entries n tries store (λ plan c.
           OnTailFrom (Some id) entries n tries' image (λ plan' c'. Agree plan plan'))
       tried_same true all = λ tail' end' is' ends'.
           let one = one_walk Sel (Id id) walks known tail tail' end end' is ends is' ends' in
-          rw (one.0, one.1, all) (refl, last_agree (AtRecord 0 ∷ []) (Id id) tail end)
+          let plan = after_points (AtRecord 0 ∷ []) (last_plan entries n (Id id) tail end) in
+          moved (λ plan' c'. Agree plan plan') tail' end' one.0 one.1 true all (refl, last_agree (AtRecord 0 ∷ []) (Id id) tail end)
       tried_same false all = λ walk at w e tail' end' is' ends'.
           let one = one_walk Sel (Id id) walks known tail tail' end end' is ends is' ends' in
-          rw (one.0, one.1, all) (whole_same (AtRecord 0 ∷ points_of_walk (Id id) tail end) _ _ walk at w e)
+          let points = AtRecord 0 ∷ points_of_walk (Id id) tail end in
+          let plan = after_points points (last_plan entries n First walk at) in
+          moved (λ plan' c'. Agree plan plan') tail' end' one.0 one.1 false all
+          (whole_same points (tries + 1 + walk_call_bound Form.Skipped store tries tail) (tries' + 1 + walk_call_bound Form.Skipped image tries' tail) walk at w e)
 
     tail_same : (start : Option ℕ) → IsKnownPlace Sel image (start_of start) → OnTailFrom start entries n tries store (λ plan c.
         OnTailFrom start entries n tries' image (λ plan' c'. Agree plan plan'))
-    tail_same None known = whole_same (AtRecord 0 ∷ []) _ _
+    tail_same None known = whole_same (AtRecord 0 ∷ []) (tries + 1) (tries' + 1)
     tail_same (Some id) known = λ tail end is ends. tried_same id known tail end is ends (has_last n tail end) refl
 
   -- the info is the same, if it says where the entries begin
@@ -491,12 +504,17 @@ module _ (exists : WalkExists) (unique : WalkIsUnique) (found : FoundIsRow) (ima
       let same = lines_same (entries_in wording (bytes_of_rows sensors)) (Count.Last n) from entries start known tries tries' walk e w we walk' e' w' we' in
       (rw (one.0, one.1) (ap (after_names sensors end) same.0), first_texts image store _ _ same.1)
   events_same wording (Count.Tail n) from records entries start known = λ tries tries' sensors end is ends.
-      tail_map (entries_in wording (bytes_of_rows sensors)) n tries tries store _ _
+      let lines = entries_in wording (bytes_of_rows sensors) in
+      let named : Plan → Plan → Type 0 = λ plan plan'. (plan' ≡ after_names sensors end plan) × All (SameText image store) (after_names sensors end plan).items in
+      tail_map lines n tries tries store (λ plan c. OnTail lines n tries' image (λ plan' c'. (plan' ≡ plan) × All (SameText image store) plan.items))
+      (λ plan c. OnWalk Sdr First image (λ sensors' end'. OnTail (entries_in wording (bytes_of_rows sensors')) n tries' image (λ plan' c'. named plan (after_names sensors' end' plan'))))
       (λ plan calls on sensors' end' is' ends'.
       let one = one_walk Sdr First records tt sensors sensors' end end' is ends is' ends' in
-      rw (one.0, one.1) (tail_map (entries_in wording (bytes_of_rows sensors)) n tries' tries' image _ _
-      (λ plan' calls' same. (ap (after_names sensors end) same.0, first_texts image store _ _ same.1)) on))
-      (lines_same (entries_in wording (bytes_of_rows sensors)) (Count.Tail n) from entries start known tries tries')
+      subst (λ (e : WalkEnd). OnTail (entries_in wording (bytes_of_rows sensors')) n tries' image (λ plan' c'. named plan (after_names sensors' e plan'))) (sym one.1)
+      (subst (λ (l : List Row). OnTail (entries_in wording (bytes_of_rows l)) n tries' image (λ plan' c'. named plan (after_names l end plan'))) (sym one.0)
+      (tail_map lines n tries' tries' image (λ plan' c'. (plan' ≡ plan) × All (SameText image store) plan.items) (λ plan' c'. named plan (after_names sensors end plan'))
+      (λ plan' calls' same. (ap (after_names sensors end) same.0, first_texts image store _ _ same.1)) on)))
+      (lines_same lines (Count.Tail n) from entries start known tries tries')
 
   -- all inventories, with the same name of device 0
   inventories_same : (wording : Wording) (name : Option (List ℕ)) → SameWalk Sdr image store

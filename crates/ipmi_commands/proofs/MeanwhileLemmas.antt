@@ -94,13 +94,13 @@ module _ (a b c : Seen) (first : StaysHonest a b) (then_ : StaysHonest b c) wher
         (λ log. keep (last_plan entries n (start_of from) log Done)) on
 
     tail_second : (entries : Entries) (n : ℕ) → OnGrowingTail entries n b c Holds → OnGrowingTail entries n a c More
-    tail_second entries n (m, start, before, after, begins, on) = (
-      m,
-      start,
-      stays_trans a b m first before,
-      after,
-      begins,
-      λ rows log grew. let g = on rows log grew in (g.0, g.1, keep (last_plan entries n start g.0 Done) g.2),
+    tail_second entries n on = (
+      on.0,
+      on.1,
+      stays_trans a b on.0 first on.2,
+      on.3,
+      on.4,
+      λ rows log grew. let g = on.5 rows log grew in (g.0, g.1, keep (last_plan entries n on.1 g.0 Done) g.2),
     )
 
     pub entries_second : (entries : Entries) (count : Count) (from : Option ℕ)

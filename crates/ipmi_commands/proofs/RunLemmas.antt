@@ -1,7 +1,7 @@
 -- A run over an image, and rewriting an image.
 use Rattle.std.proofs.Common.{◌≡◌, ◌⊎◌, inl, inr, ℕ, ◌+◌, arith, false, IsTrue, Option, None, Some, Result, Ok, Err, List, [], refl, subst, sym, ap₂, ◌∙◌}
 use Rattle.ipmi_commands.specs.Below.{CommandState, Count, Failure, failure_of_image, ImageFault, Row, Store, Seen, WalkEnd, IsHonest, image_text_of, Ending, Task}
-use Rattle.ipmi_commands.specs.Prelude.{after_names, AnswersJob, change, Form, IsAllowed, IsRewriting, IsPieceOver, Job, job_in, job_of, job_of_command, NameLookup, no_output, OnBytes, OfImage, OnNamed, FollowsPlan, pieces_of, faults_of, Plan, printed, rewrite_plan, Runs, RunsCommand, RunsOver, walk_call_bound, Wording, WritesPiece}
+use Rattle.ipmi_commands.specs.Prelude.{after_names, AnswersJob, bytes_of_rows, change, entries_in, Form, IsAllowed, IsRewriting, IsPieceOver, Job, job_in, job_of, job_of_command, NameLookup, no_output, OnBytes, OfImage, OnNamed, FollowsPlan, pieces_of, faults_of, Plan, printed, rewrite_plan, Runs, RunsCommand, RunsOver, walk_call_bound, Wording, WritesPiece}
 use Rattle.ipmi_commands.specs.Output.{Output, piece_of}
 use Rattle.ipmi_commands.specs.declared.summary.Summary.{Summary}
 use Rattle.ipmi_commands.proofs.NamedLemmas.{named_all}

@@ -1,16 +1,16 @@
 -- The last entries of the log on a walk that begins where its info suggests.
-use Rattle.std.proofs.Common.{◌≡◌, inl, inr, ℕ, ◌+◌, ◌-◌, ◌==◌, ◌≤◌, Bool, true, false, nat_le, IsTrue, Option, None, Some, Result, Ok, Err, List, [], ◌∷◌, ◌++◌, length, refl, sym, ap, subst, ◌∙◌, arith, length-append, length-drop, drop, drop-length}
-use Rattle.std.proofs.Math.Seq.{drop-append-add}
+use Rattle.std.proofs.Common.{◌≡◌, ◌≢◌, ◌||◌, inl, inr, ℕ, ◌+◌, ◌-◌, ◌==◌, ◌≤◌, Bool, true, false, IsTrue, Option, None, Some, Result, Ok, Err, List, [], ◌∷◌, ◌++◌, length, refl, sym, ap, subst, ◌∙◌, arith, length-append, length-drop, drop, take}
+use Rattle.std.proofs.Math.Seq.{drop-append-add, drop-length}
 use Rattle.std.proofs.lemmas.List.{length-map}
-use Rattle.ipmi_commands.specs.Below.{Done, CycleAt, EndsBy, has_id, IsWalk, MissingAt, RestIsWalk, rows_of, WalkIsUnique, Ended, Ending, Failure, First, Id, info_of, IsHonest, Place, Row, Seen, Sel, start_of, stays_refl, Store, WalkEnd}
+use Rattle.ipmi_commands.specs.Below.{Done, CycleAt, EndsBy, has_id, IsWalk, MissingAt, RestIsWalk, rows_of, WalkIsUnique, Ended, Ending, Failure, First, Id, info_of, IsHonest, Place, place_after_rows, Row, Seen, Sel, start_of, stays_refl, Store, WalkEnd}
 use Rattle.ipmi_commands.specs.declared.kept.KeptEntry.{KeptEntry}
-use Rattle.ipmi_commands.specs.Kept.{kept_row, kept_rows, Keeps, KeepsEntries, last_of}
+use Rattle.ipmi_commands.specs.Kept.{kept_row, kept_rows, Keeps, KeepsEntries, last_of, PrintsKept}
 use Rattle.ipmi_commands.specs.Output.{Output}
-use Rattle.ipmi_commands.specs.Prelude.{after_points, AtEnd, AtRecord, Cause, cause_of, change, Dishonest, EndsFor, EndsListing, end_points_of_last, Entries, failure_of, Finds, Form, GaveUp, has_last, IsAllowed, IsAmong, IsPieceOver, IsStopAmong, is_tail, IsTailStart, IsTextWhile, Item, Job, LacksValue, last_items, last_plan, Leaves, most_calls, most_on_tail, most_on_walk, next_points, NoMemory, NoOutput, OnTail, OnTailFrom, OnTried, OnWhole, Plan, points_at_walk_end, points_of_walk, Prints, ReadError, ReadPoint, Refused, rows_end, Runs, Subject, tail_from, TailsAreOfTheLog, walk_call_bound, with_first_points}
+use Rattle.ipmi_commands.specs.Prelude.{after_points, AtEnd, AtRecord, Cause, cause_of, change, Dishonest, EndsFor, EndsListing, EndsPrinting, end_points_of_last, Entries, failure_of, Finds, Form, GaveUp, has_last, IsAllowed, IsAmong, IsPieceOver, IsStopAmong, is_tail, IsTailStart, IsTextWhile, Item, Job, LacksValue, last_items, last_plan, last_rows, Leaves, most_calls, most_on_tail, most_on_walk, next_points, NoMemory, NoOutput, OnTail, OnTailFrom, OnTried, OnWhole, Plan, points_at_walk_end, points_of_walk, Prints, ReadError, ReadPoint, Refused, row_items, rows_end, Runs, Subject, tail_from, TailsAreOfTheLog, walk_call_bound, with_first_points}
 use Rattle.ipmi_commands.proofs.AskLemmas.{refuses_record}
 use Rattle.ipmi_commands.proofs.CountLemmas.{between, ends_since}
 use Rattle.ipmi_commands.proofs.ItemLemmas.{leaves_map, no_items}
-use Rattle.ipmi_commands.proofs.KeptLemmas.{kept_failed}
+use Rattle.ipmi_commands.proofs.KeptLemmas.{kept_failed, kept_run}
 use Rattle.ipmi_commands.proofs.LastLemmas.{leaves_wide, next_points-first}
 use Rattle.ipmi_commands.proofs.MeanwhileLemmas.{log_now, while_second}
 use Rattle.ipmi_commands.proofs.PerformLemmas.{none_leaves}
@@ -42,11 +42,12 @@ module _ (entries : Entries) (n tries tries' : ℕ) (store : Store) (Holds More 
 module _ (entries : Entries) (n tries : ℕ) (store : Store) (Holds : Plan → ℕ → Type 0)
     (holds : (points : List ReadPoint) (plan : Plan) (calls : ℕ) → tries + 1 ≤ calls → Holds (after_points (AtRecord 0 ∷ points) plan) calls) where
   tried_all : (has : Bool) (id : ℕ) (walk : List Row) (end : WalkEnd) → OnTried has id walk end entries n tries store Holds
-  tried_all true id walk end = holds [] _ _ (omega arith)
-  tried_all false id walk end = λ all at w ends. holds (points_of_walk (Id id) walk end) _ _ (omega arith)
+  tried_all true id walk end = holds [] (last_plan entries n (Id id) walk end) (tries + 1 + walk_call_bound Form.Skipped store tries walk) (omega arith)
+  tried_all false id walk end = λ all at w ends. holds (points_of_walk (Id id) walk end) (last_plan entries n First all at)
+      (tries + 1 + walk_call_bound Form.Skipped store tries walk + walk_call_bound Form.Skipped store tries all) (omega arith)
 
   from_all : (start : Option ℕ) → OnTailFrom start entries n tries store Holds
-  from_all None = λ walk end w ends. holds [] _ _ (omega arith)
+  from_all None = λ walk end w ends. holds [] (last_plan entries n First walk end) (tries + 1 + walk_call_bound Form.Skipped store tries walk) (omega arith)
   from_all (Some id) = λ walk end w ends. tried_all (has_last n walk end) id walk end
 
   pub tail_all : OnTail entries n tries store Holds
@@ -68,7 +69,7 @@ one_among points point among = elim among [ inl at ↦ inl at | inr none ↦ abs
 first_among : (walk : List Row) (end : WalkEnd) (point : ReadPoint) → end ≡ Done → IsAmong (AtRecord 0 ∷ []) point
     → IsAmong (points_of_walk First walk end) point
 first_among [] Done point is among = among
-first_among (row ∷ walk) end point is among = one_among _ point among
+first_among (row ∷ walk) end point is among = elim among [ inl at ↦ inl at | inr none ↦ absurd none ]
 first_among [] _ point is among = cc is
 
 -- a plan that may also stop at other points before its first item
@@ -86,7 +87,10 @@ none_left [] rest is = sym is
 none_left (d ∷ done) rest is = cc is
 
 no_last : (entries : Entries) (start : Place) (walk : List Row) (end : WalkEnd) → last_items entries 0 start walk end ≡ []
-no_last entries start walk Done = grind (arith, drop-length walk)
+no_last entries start walk Done =
+    let all : length walk - 0 ≡ length walk = omega arith in
+    ap (λ (rows : List Row). row_items (Form.EntryLine entries) (place_after_rows start (take (length walk - 0) walk)) rows)
+    (ap (λ (k : ℕ). drop k walk) all ∙ drop-length walk)
 no_last entries start walk (CycleAt id) = refl
 no_last entries start walk (MissingAt id) = refl
 
@@ -94,8 +98,12 @@ no_last entries start walk (MissingAt id) = refl
 no_end : (entries : Entries) (n kept : ℕ) (walk : List Row) (end : WalkEnd) (failure : Failure) → is_tail n kept (Err failure) ≡ Err failure
     → Err failure ≡ rows_end (Form.EntryLine entries) walk end → ⊥
 no_end entries n kept walk Done failure is at = cc at
-no_end entries n kept walk (CycleAt id) failure is at = grind arith
-no_end entries n kept walk (MissingAt id) failure is at = grind arith
+no_end entries n kept walk (CycleAt id) failure is at =
+    let of : failure ≡ Failure.Ended (Ended.Cycle id) = cc at in
+    cc (subst (λ (f : Failure). is_tail n kept (Err f) ≡ Err f) of is)
+no_end entries n kept walk (MissingAt id) failure is at =
+    let of : failure ≡ Failure.Ended (Ended.Missing id) = cc at in
+    cc (subst (λ (f : Failure). is_tail n kept (Err f) ≡ Err f) of is)
 
 module _ (IsText : Subject → Output → Type 0) (entries : Entries) (n kept : ℕ) (start : Place) (walk : List Row) (end : WalkEnd)
     (plan : Plan) (text : Output) (failure : Failure) (is : is_tail n kept (Err failure) ≡ Err failure) where
@@ -153,11 +161,14 @@ module _ (entries : Entries) (n : ℕ) (IsText : Subject → Output → Type 0) 
       ended Done at = cc at
       ended (CycleAt id) at = refl
       ended (MissingAt id) at = refl
-  has_not (Err failure) keeps is = grind arith
+  has_not (Err failure) keeps is = cc is
 
 -- the walk after which the run goes on was neither given up nor refused
 went_on : (n kept : ℕ) (has : Bool) (walked : Ending) → is_tail n kept walked ≡ Ok has → cause_of walked ≡ AtEnd
-went_on n kept has walked is = grind arith
+went_on n kept has (Ok done) is = refl
+went_on n kept has (Err (Failure.Ended (Ended.Cycle id))) is = refl
+went_on n kept has (Err (Failure.Ended (Ended.Missing id))) is = refl
+went_on n kept has (Err failure) is = cc is
 
 -- ---- the last entries of a part of the log
 
@@ -169,30 +180,56 @@ record Split (log : List Row) (id : ℕ) : Type 0 where
   are : log ≡ before ++ row ∷ after
   is : row.id ≡ id
 
+split_next : (row : Row) (log : List Row) (id : ℕ) (same : Bool) → (id == row.id) ≡ same → (has_id log id ≡ true → Split log id)
+    → ((id == row.id) || has_id log id) ≡ true → Split (row ∷ log) id
+split_next row log id true same rest there =
+    record { before = []; row = row; after = log; are = refl; is = grind arith }
+split_next row log id false same rest there =
+    let later = rest (rw same at there) in
+    record { before = row ∷ later.before; row = later.row; after = later.after; are = ap (λ (l : List Row). row ∷ l) later.are; is = later.is }
+
 split_at : (log : List Row) (id : ℕ) → has_id log id ≡ true → Split log id
-split_at [] id has = cc has
-split_at (row ∷ log) id has = by (id == row.id) refl
-  where
-    by : (same : Bool) → (id == row.id) ≡ same → Split (row ∷ log) id
-    by true same = record { before = []; row = row; after = log; are = refl; is = grind arith }
-    by false same =
-        let rest = split_at log id (grind arith) in
-        record { before = row ∷ rest.before; row = rest.row; after = rest.after; are = ap (λ (l : List Row). row ∷ l) rest.are; is = rest.is }
+split_at [] id there = cc there
+split_at (row ∷ log) id there = split_next row log id (id == row.id) refl (λ later. split_at log id later) there
 
 last_joined : (n : ℕ) (before rest : List Row) → n ≤ length rest → drop (length (before ++ rest) - n) (before ++ rest) ≡ drop (length rest - n) rest
 last_joined n before rest few =
     let size : length (before ++ rest) - n ≡ length before + (length rest - n) = omega (arith, few, length-append before rest) in
     ap (λ (k : ℕ). drop k (before ++ rest)) size ∙ drop-append-add before rest (length rest - n)
 
+few : (n : ℕ) (rows : List Row) → has_last n rows Done ≡ true → n ≤ length rows
+few n rows enough = grind arith
+
 pub tails_of_log : WalkIsUnique → RestIsWalk → TailsAreOfTheLog
-tails_of_log unique rest_is store n id log walk end ok is_log there some w ends has =
+tails_of_log unique rest_is store n id log walk end ok is_log there some w ends enough =
+    let rows = rows_of Sel store in
     let split = split_at log id there in
-    let rest = rest_is Sel (rows_of Sel store) First split.before split.row split.after ok.sel (rw split.are at is_log.walks) (rw split.are at is_log.ends) (rw split.is some) in
-    let one = unique Sel (rows_of Sel store) (Id id) walk (split.row ∷ split.after) end Done ok.sel w ends (rw split.is at rest.0) (rw split.is at rest.1) in
-    rw (one.0, one.1, split.are) (sym (last_joined n split.before (split.row ∷ split.after) (few (split.row ∷ split.after) (rw (one.0, one.1) at has))))
-  where
-    few : (rows : List Row) → has_last n rows Done ≡ true → n ≤ length rows
-    few rows enough = grind arith
+    let tail = split.row ∷ split.after in
+    let rest = rest_is Sel rows First split.before split.row split.after ok.sel
+    (subst (λ (l : List Row). IsWalk rows First l) split.are is_log.walks)
+    (subst (λ (l : List Row). EndsBy rows First l Done) split.are is_log.ends) (subst (λ (k : ℕ). k ≢ 0) (sym split.is) some) in
+    let one = unique Sel rows (Id id) walk tail end Done ok.sel w ends
+    (subst (λ (k : ℕ). IsWalk rows (Id k) tail) split.is rest.0)
+    (subst (λ (k : ℕ). EndsBy rows (Id k) tail Done) split.is rest.1) in
+    let most = few n tail
+    (subst (λ (e : WalkEnd). has_last n tail e ≡ true) one.1 (subst (λ (l : List Row). has_last n l end ≡ true) one.0 enough)) in
+    ap (λ (l : List Row). last_rows n l end) one.0 ∙ ap (last_rows n tail) one.1 ∙ sym (last_joined n split.before tail most)
+    ∙ ap (λ (l : List Row). last_rows n l Done) (sym split.are)
+
+-- by the result of the test
+tail_ok : (n kept : ℕ) (walked : Ending) → is_tail n kept walked ≡ Ok true → (walked ≡ Ok tt) × (is_tail n kept (Ok tt) ≡ Ok true)
+tail_ok n kept (Ok done) is = (refl, is)
+tail_ok n kept (Err (Failure.Ended (Ended.Cycle id))) is = cc is
+tail_ok n kept (Err (Failure.Ended (Ended.Missing id))) is = cc is
+tail_ok n kept (Err failure) is = cc is
+
+tail_err : (n kept : ℕ) (walked : Ending) (failure : Failure) → is_tail n kept walked ≡ Err failure
+    → (walked ≡ Err failure) × (is_tail n kept (Err failure) ≡ Err failure)
+tail_err n kept (Ok done) failure is = cc is
+tail_err n kept (Err (Failure.Ended (Ended.Cycle id))) failure is = cc is
+tail_err n kept (Err (Failure.Ended (Ended.Missing id))) failure is = cc is
+tail_err n kept (Err other) failure is =
+    let same : other ≡ failure = cc is in (is, subst (λ (f : Failure). is_tail n kept (Err f) ≡ Err f) same refl)
 
 -- ---- the runs
 
@@ -211,13 +248,15 @@ module _ (entries : Entries) (n tries : ℕ) (s m : Seen) (asked : m.calls ≤ s
     calls = omega (arith, asked);
     ends = unread_ends entries unread m lacks;
     why = λ h. (found h).asks.ends;
-    prints = λ h same. tail_all entries n tries s.store _ (λ points plan calls some. (
-      let all = points ++ next_points plan.items plan.end_points in
+    prints = λ h same. tail_all entries n tries s.store
+        (λ plan calls. IsAllowed (IsPieceOver s.store) plan text text (Err (failure_of unread)) × (m.calls ≤ s.calls + calls))
+        (λ points plan calls some.
+        let all = points ++ next_points plan.items plan.end_points in (
           none_leaves (IsPieceOver s.store) (after_points (AtRecord 0 ∷ points) plan) text (Err (failure_of unread))
-          (rw (next_points-first (AtRecord 0 ∷ all) plan.items plan.end_points)
-          (stop_wide (AtRecord 0 ∷ []) (AtRecord 0 ∷ all) (cause_of (Err (failure_of unread))) (one_among all) (found h).there)),
-      omega (arith, asked, some),
-    ));
+              (rw (next_points-first (AtRecord 0 ∷ all) plan.items plan.end_points)
+              (stop_wide (AtRecord 0 ∷ []) (AtRecord 0 ∷ all) (cause_of (Err (failure_of unread))) (one_among all) (found h).there)),
+          omega (arith, asked, some),
+        ));
     grows = λ h. (
       s,
       First,
@@ -353,3 +392,16 @@ module _ (entries : Entries) (n tries : ℕ) (s m : Seen) (asked : m.calls ≤ s
             (after_allowed (IsPieceOver s.store) (AtRecord 0 ∷ []) (last_plan entries n (Id id) walk end) text text (Err failure) (stop entries n), omega (arith, asked, walk_calls))
         by walk end stop walk_calls false = λ rows at w ends.
             (stopped_allowed (IsPieceOver s.store) entries n (length kept) (Id id) walk end (last_plan entries n First rows at) text failure is (stop entries 0), omega (arith, asked, walk_calls))
+
+    pub tail_found : is_tail n (length kept) walked ≡ Ok true → (old new : Output) (ending : Ending) → PrintsKept entries kept old new ending
+        → EndsPrinting ending → Runs (Job.Tail entries n) tries (change s b old new) ending
+    tail_found is old new ending prints may =
+        let of = tail_ok n (length kept) walked is in
+        tail_there of.0 of.1 old new ending
+        (kept_run entries n (Some id) tries m b kept calls old new ending prints may (λ h. subst (KeepsEntries n (Id id) tries m b old kept) of.0 (keeps h old)))
+
+    pub tail_stopped : (failure : Failure) → is_tail n (length kept) walked ≡ Err failure → EndsListing Form.Skipped b walked → (text : Output)
+        → Runs (Job.Tail entries n) tries (change s b text text) (Err failure)
+    tail_stopped failure is may text =
+        let of = tail_err n (length kept) walked failure is in
+        tail_failed failure of.0 of.1 text (subst (EndsListing Form.Skipped b) of.0 may)

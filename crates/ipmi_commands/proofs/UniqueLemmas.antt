@@ -1,9 +1,9 @@
 -- Items have at most one text, and a finished run has at most one output.
-use Rattle.std.proofs.Common.{◌≡◌, ℕ, zero, suc, ◌-◌, Bool, true, false, Option, None, Some, Result, Ok, Err, List, [], ◌∷◌, length, take, drop, sym, ap, ◌∙◌, arith}
+use Rattle.std.proofs.Common.{◌≡◌, ℕ, ◌+◌, zero, suc, ◌-◌, Bool, true, false, Option, None, Some, Result, Ok, Err, List, [], ◌∷◌, length, take, drop, sym, ap, ◌∙◌, arith}
 use Rattle.ipmi_commands.specs.Below.{Count, IsStore, WalkEnd, Shelf, Sdr, Sel, Place, First, Id, start_of, Row, IsShelf, FoundIsRow, AreBytes, Reading, Store, info_of, rows_of, store_shelf, AllOf, WalkExists, place_after, place_after_rows, IsFruLine, IsFruText, SdrFault, SdrView, IsInfoBlock, IsSdrBlock, entry_bytes, sdr_view_of, SelView, sel_view_of, SdrLineIsUnique, ExtendedLineIsUnique, SelLineIsUnique, SelBlockIsUnique, EventInWordsIsUnique, SensorBlockIsUnique, SensorLineIsUnique, Ending}
 use Rattle.ipmi_json.specs.Sdr.{bytes_members, fault_members}
 use Rattle.ipmi_json.specs.Laws.{DeviceLineIsUnique, EntryLineIsUnique, InfoLineIsUnique, ObjectLineIsUnique, RecordLineIsUnique}
-use Rattle.ipmi_commands.specs.Prelude.{after_names, after_points, AtRecord, bytes_of_rows, has_last, OnTail, OnTailFrom, OnTried, OnWhole, Plan, tail_from, NameLookup, OnNamed, PrintsAll, AreOfBytes, Detail, Entries, entries_in, first_rows, FinishedRunsAreOne, Form, IfChosen, info_plan, Printed, IsBlockIn, IsBlockOfName, IsEntryLine, IsInfoIn, IsInventoryIn, IsInventoryText, IsLocatorPiece, IsOfBytes, IsRecordLine, IsRowText, IsTextOver, IsPieceOver, is_faulty, Item, ItemsHaveOneText, Job, last_items, last_plan, last_rows, OnWalk, reading_for, row_items, shelf_of, ReadPoint, points_of_walk, Subject, with_first_points, Wording}
+use Rattle.ipmi_commands.specs.Prelude.{after_names, after_points, AtRecord, bytes_of_rows, has_last, OnTail, OnTailFrom, OnTried, OnWhole, Plan, tail_from, NameLookup, OnNamed, PrintsAll, AreOfBytes, Detail, Entries, entries_in, first_rows, FinishedRunsAreOne, Form, IfChosen, info_plan, Printed, IsBlockIn, IsBlockOfName, IsEntryLine, IsInfoIn, IsInventoryIn, IsInventoryText, IsLocatorPiece, IsOfBytes, IsRecordLine, IsRowText, IsTextOver, IsPieceOver, is_faulty, Item, ItemsHaveOneText, Job, last_items, last_plan, last_rows, OnWalk, reading_for, row_items, shelf_of, ReadPoint, points_of_walk, Subject, walk_call_bound, with_first_points, Wording}
 use Rattle.ipmi_commands.specs.Output.{Output, piece_of}
 
 -- there is at most one such text
@@ -153,11 +153,12 @@ module _ (one : ItemsHaveOneText) (exists : WalkExists) (look_row : FoundIsRow) 
     tried_meets : (has : Bool) (id : ℕ) (walk : List Row) (end : WalkEnd) → AllOf store.sel walk
         → OnTried has id walk end entries n tries store (λ plan c. A plan) → OnTried has id walk end entries n tries' store (λ plan c. B plan) → R
     tried_meets true id walk end all x y = both _ (tail_bytes (Id id) (AtRecord 0 ∷ []) walk end all) x y
-    tried_meets false id walk end all x y = whole_meets (AtRecord 0 ∷ points_of_walk (Id id) walk end) _ _ x y
+    tried_meets false id walk end all x y = whole_meets (AtRecord 0 ∷ points_of_walk (Id id) walk end)
+        (tries + 1 + walk_call_bound Form.Skipped store tries walk) (tries' + 1 + walk_call_bound Form.Skipped store tries' walk) x y
 
     from_meets : (start : Option ℕ) → OnTailFrom start entries n tries store (λ plan c. A plan)
         → OnTailFrom start entries n tries' store (λ plan c. B plan) → R
-    from_meets None x y = whole_meets (AtRecord 0 ∷ []) _ _ x y
+    from_meets None x y = whole_meets (AtRecord 0 ∷ []) (tries + 1) (tries' + 1) x y
     from_meets (Some id) x y =
         let there = exists Sel store.sel (Id id) ok.sel in
         tried_meets (has_last n there.0 there.1) id there.0 there.1 there.2.of_shelf (x there.0 there.1 there.2 there.3) (y there.0 there.1 there.2 there.3)

@@ -1,5 +1,5 @@
 //! Lists the last entries of the event log along one walk: they are kept in memory, and printed when the walk is over.
-ghost use Rattle.std.specs.Prelude.{◌≡◌, ◌==◌, [], ◌∷◌, ◌+◌, ◌-◌, ◌++◌, ◌≤◌, drop, length, OnOk};
+ghost use Rattle.std.specs.Prelude.{◌≡◌, [], ◌∷◌, ◌+◌, ◌-◌, ◌++◌, ◌≤◌, drop, length, OnOk};
 ghost use Rattle.std.specs.FinSet as set;
 ghost use Rattle.ipmi_commands.specs.Below.{AsksAtMost, IsHonest, row_of_record, Sel, start_of, write_faults};
 ghost use Rattle.ipmi_commands.specs.declared.job.Form.{Form};
@@ -46,11 +46,11 @@ impl LastEntries {
         }
     }
 
-    /// Whether there is no room for another entry.
-    pub(crate) fn is_full(&self) -> bool
-        ensures { result ≡ (length self.now.entries.items == self.now.most) }
+    /// The number of these entries.
+    pub(crate) fn count(&self) -> usize
+        ensures { result ≡ length self.now.entries.items }
     {
-        self.entries.len() == usize::from(self.most)
+        self.entries.len()
     }
 
     /// Forgets the first entry if there is no room for another one.
@@ -60,7 +60,7 @@ impl LastEntries {
         ensures rest { self.new.entries.items
             ≡ drop (length self.old.entries.items + 1 - self.old.most) self.old.entries.items }
     {
-        if self.is_full() {
+        if self.entries.len() == usize::from(self.most) {
             self.entries.pop_front();
         }
     }

@@ -45,13 +45,17 @@ fn tail_from<C: Controller>(ctl: &mut C, wanted: u16, tries: u8) -> Result<Optio
     }
 }
 
-/// Whether a walk that ended so kept the last entries that are wanted. A cycle or a missing id shows that it did not; any
+/// Whether these are the last `wanted` entries, after a walk that ended so. A cycle or a missing id shows that they are not; any
 /// other failure is returned.
-fn is_tail<'a>(kept: &LastEntries, walked: Result<(), Failure<'a>>) -> Result<bool, Failure<'a>>
-    ensures { result ≡ is_tail kept.now.most (length kept.now.entries.items) walked.entry }
+fn is_tail<'a>(
+    wanted: u16,
+    kept: &LastEntries,
+    walked: Result<(), Failure<'a>>,
+) -> Result<bool, Failure<'a>>
+    ensures { result ≡ is_tail wanted (length kept.now.entries.items) walked.entry }
 {
     match walked {
-        Ok(()) => Ok(kept.is_full()),
+        Ok(()) => Ok(kept.count() == usize::from(wanted)),
         Err(Failure::Ended(Ended::Cycle(_) | Ended::Missing(_))) => Ok(false),
         Err(failure) => Err(failure),
     }
@@ -79,7 +83,7 @@ pub(crate) fn list_tail<'a, C: Controller, O: Sink>(
     };
     let mut kept = LastEntries::new(alloc, wanted);
     let walked = keep_entries(alloc, ctl, limits, Some(id), &mut kept);
-    if is_tail(&kept, walked)? {
+    if is_tail(wanted, &kept, walked)? {
         return print_entries(alloc, &mut kept, &entries, out, summary);
     }
     list_kept(alloc, ctl, limits, entries, wanted, None, out, summary)
