@@ -229,7 +229,7 @@ tail_err n kept (Ok done) failure is = cc is
 tail_err n kept (Err (Failure.Ended (Ended.Cycle id))) failure is = cc is
 tail_err n kept (Err (Failure.Ended (Ended.Missing id))) failure is = cc is
 tail_err n kept (Err other) failure is =
-    let same : other ≡ failure = cc is in (is, subst (λ (f : Failure). is_tail n kept (Err f) ≡ Err f) same refl)
+    let same : other ≡ failure = cc is in (cc same, subst (λ (f : Failure). is_tail n kept (Err f) ≡ Err f) same refl)
 
 -- ---- the runs
 
