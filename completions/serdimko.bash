@@ -43,7 +43,7 @@ _serdimko() {
     'sdr list') next='all full compact event generic mclocator fru' ;;
     'sdr elist') next='all full compact event generic mclocator fru' ;;
     'sensor') next='list get' ;;
-    'sel') next='info list elist get' ;;
+    'sel') next='info list elist tail get' ;;
     'sel list') next='first last' ;;
     'sel elist') next='first last' ;;
     'image') next='rewrite' ;;

@@ -110,7 +110,7 @@ def objects(text, what, more=()):
 
 commands = [
     ('sdr', 'list', 'all'), ('sdr', 'elist', 'full'), ('sensor',), ('sdr', 'hex'), ('sdr', 'info'), ('sel', 'info'), ('sel', 'list'),
-    ('sel', 'list', 'first', '2'), ('sel', 'elist', 'last', '3'), ('fru', 'list'), ('sel', 'get', '1'), ('sdr', 'get', 'CPU1 Temp')]
+    ('sel', 'list', 'first', '2'), ('sel', 'elist', 'last', '3'), ('sel', 'tail', '3'), ('fru', 'list'), ('sel', 'get', '1'), ('sdr', 'get', 'CPU1 Temp')]
 for image in images:
     for command in commands:
         what = f'{image} {" ".join(command)}:'

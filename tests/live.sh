@@ -313,6 +313,17 @@ for command in list elist; do
   if [ "$status" -ne 0 ] || [ "$asked" -ne "$requests" ]; then fault "sel $command last 5: status $status, $asked requests, and $requests of all events"; fi
 done
 
+# The newest events need no walk of the log: a request for its info, one for a reservation, and one for each of them. With the records of
+# an image, the names take one more, for the info of these.
+for count in 1 5; do
+  : > "$TOOL_LOG"
+  live --freeipmi -- --records "$TOOL_IMAGE" sel tail $count
+  asked=$(wc -l < "$TOOL_LOG")
+  "$SERDIMKO" --image "$TOOL_IMAGE" sel elist last $count > "$work/other"
+  if [ "$status" -ne 0 ] || [ "$asked" -ne $((count + 3)) ]; then fault "sel tail $count: status $status, $asked requests"; fi
+  cmp -s "$work/out" "$work/other" || fault "sel tail $count: the events differ from those of the image"
+done
+
 # A wrong command line starts no session, and is reported.
 says 2 "unknown command 'srd': did you mean 'sdr'?" -- srd
 says 2 '--image does not go with a live controller' -- --image x sdr

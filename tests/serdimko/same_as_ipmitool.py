@@ -113,7 +113,7 @@ def is_own(words):
     """Whether the line uses an option or a word that only serdimko has."""
     names = [word.split("=")[0] for word in words]
     has = lambda command, word: word in names[names.index(command) :] if command in names else False
-    return not OWN.isdisjoint(names) or names.count("--image") > 1 or has("sel", "elist") or has("fru", "list")
+    return not OWN.isdisjoint(names) or names.count("--image") > 1 or has("sel", "elist") or has("sel", "tail") or has("fru", "list")
 
 
 def image_of(words):

@@ -1,15 +1,17 @@
 -- A command prints the same over a capture as over the controller's store.
-use Rattle.std.proofs.Common.{◌≡◌, ℕ, ◌-◌, Bool, true, false, cond, nat_eq, ◌⊎◌, get_or, Option, None, Some, Result, Ok, Err, List, [], ◌∷◌, length, take, inl, inr, refl, sym, ap, subst, ◌∙◌, arith, All, filter_map}
+use Rattle.std.proofs.Common.{◌≡◌, ℕ, ◌+◌, ◌-◌, Bool, true, false, cond, nat_eq, ◌⊎◌, get_or, Option, None, Some, Result, Ok, Err, List, [], ◌∷◌, length, take, inl, inr, refl, sym, ap, subst, ◌∙◌, arith, All, filter_map}
 use Rattle.std.specs.List.{Any, cons_option, filter}
 use Rattle.std.proofs.lemmas.Bool.{true≢false}
 use Rattle.std.proofs.lemmas.List.Elements.{All-cons, All-contains, All-contains_itself, All-head, All-nil, All-tail}
 use Rattle.std.proofs.lemmas.Option.{none-some}
 use Rattle.ipmi_capture.specs.Below.{End, EndsBy, First, first_row, FoundIsRow, Id, info_of, inventory_of, IsStore, IsWalk, look, Place, place_after, place_after_rows, Reading, reading_of, Row, row_with_id, rows_of, Sdr, SdrFault, SdrView, sdr_view_of, Sel, Shelf, start_of, Store, store_shelf, WalkEnd, WalkExists, WalkIsUnique}
 use Rattle.ipmi_capture.specs.Capture.{device_named, devices_of, HasWalk, InventoryOrLeft, IsCaptureBut, IsCaptureOf, ReadingOrLeft, SameInventory, SameReading, SameWalk, sensor_named, sensors_of, WalkOrLeft}
-use Rattle.ipmi_capture.specs.Laws.{CapturesPrintTheSame, CapturesPrintWhatTheyHave, devices_asked, is_walked, IsKnownPlace, IsOfCapture, IsUnneeded, PrintsTheSame, SameText, sensors_asked}
+use Rattle.ipmi_capture.specs.Laws.{AreOfCapture, CapturesPrintTheSame, CapturesPrintWhatTheyHave, devices_asked, is_info_asked, is_walked, IsKnownPlace, IsOfCapture, IsUnneeded, PrintsTheSame, SameText, sensors_asked}
 use Rattle.ipmi_capture.specs.Left.{EndIsNoted, LacksInfo, LacksInventory, LacksReading, LacksRecords, SameOrLeft}
 use Rattle.ipmi_capture.specs.declared.left.Left.{Left}
-use Rattle.ipmi_commands.specs.Prelude.{after_names, AtInventory, bytes_of_rows, entries_in, IfChosen, info_plan, inventories_plan, inventory_plan, is_name, IsBlockIn, IsBlockOfName, IsDevicePiece, IsInventoryIn, IsLocatorPiece, IsRowText, Item, last_rows, listing, listing_plan, OfInventory, OnEntries, OnWalk, reading_by, reading_for, row_is_of_kind, row_items, ReadPoint, points_before, view_has_name, with_first_points}
+use Rattle.ipmi_commands.specs.Prelude.{after_names, after_points, AtInventory, AtRecord, bytes_of_rows, entries_in, has_last, IfChosen, info_plan, inventories_plan, inventory_plan, is_name, IsBlockIn, IsBlockOfName, IsDevicePiece, IsInventoryIn, IsLocatorPiece, IsRowText, Item, last_plan, last_rows, listing, listing_plan, OfInventory, OnEntries, OnTail, OnTailFrom, OnTried, OnWalk, OnWhole, Plan, points_of_walk, reading_by, reading_for, row_is_of_kind, row_items, ReadPoint, tail_from, walk_call_bound, points_before, view_has_name, with_first_points}
+use Rattle.ipmi_commands.specs.declared.job.Entries.{Entries}
+use Rattle.ipmi_commands.specs.declared.job.Form.{Form}
 use Rattle.ipmi_commands.specs.declared.job.Wording.{Wording}
 use Rattle.ipmi_commands.specs.declared.limits.Tries.{Tries}
 use Rattle.ipmi_command_line.specs.declared.task.Count.{Count}
@@ -21,6 +23,7 @@ use Rattle.ipmi_json.specs.Object.{IsLineOf}
 use Rattle.ipmi_json.specs.Sdr as json
 use Rattle.ipmi_records.specs.SdrText.{fault_line, IsExtendedLine, IsSdrLine, printed_name}
 use Rattle.ipmi_records.specs.Sdr as sdr
+use Rattle.ipmi_commands.proofs.TailLemmas.{tail_map}
 use Rattle.ipmi_capture.proofs.FromLemmas.{Among, from_end, from_id, look_at}
 
 -- ---- texts
@@ -190,7 +193,7 @@ of_some {X = X} h P test (row ∷ rows) all =
 -- everything that the command requests is the same in both stores
 record HasAsked (image store : Store) (task : Task) (wording : Wording) : Type 0 where
   walk : (shelf : Shelf) → is_walked shelf task wording ≡ true → SameWalk shelf image store
-  info : (shelf : Shelf) → task ≡ Task.Info shelf → info_of shelf image ≡ info_of shelf store
+  info : (shelf : Shelf) → is_info_asked shelf task ≡ true → info_of shelf image ≡ info_of shelf store
   readings : All (SameReading image store) (sensors_asked task image.sdr)
   inventories : All (SameInventory image store) (devices_asked task image.sdr)
 
@@ -287,9 +290,9 @@ module _ (left : List Left) (image store : Store) (wording : Wording) (task : Ta
       walk Sdr walked = walk_of Sdr walked capture.sdr
       walk Sel walked = walk_of Sel walked capture.sel
 
-      info : (shelf : Shelf) → task ≡ Task.Info shelf → info_of shelf image ≡ info_of shelf store
-      info Sdr asked = same_of (LacksInfo Sdr) _ _ (λ l none lacks. none.info Sdr lacks asked) capture.sdr_info
-      info Sel asked = same_of (LacksInfo Sel) _ _ (λ l none lacks. none.info Sel lacks asked) capture.sel_info
+      info : (shelf : Shelf) → is_info_asked shelf task ≡ true → info_of shelf image ≡ info_of shelf store
+      info Sdr asked = same_of (LacksInfo Sdr) _ _ (λ l none lacks. true≢false (sym asked ∙ none.info Sdr lacks)) capture.sdr_info
+      info Sel asked = same_of (LacksInfo Sel) _ _ (λ l none lacks. true≢false (sym asked ∙ none.info Sel lacks)) capture.sel_info
 
 -- ---- plans
 
@@ -398,50 +401,121 @@ module _ (exists : WalkExists) (unique : WalkIsUnique) (found : FoundIsRow) (ima
       let one = one_walk Sel (Id id) walks known walk walk' end end' is ends is' ends' in
       (rw (one.0, one.1) refl, rows_same image store _ (Id id) (take 1 walk) (λ row among. itself _))
 
+  -- the last entries of a walk from the first one, with lines of this form
+  module _ (entries : Entries) (n : ℕ) (walks : SameWalk Sel image store) (tries tries' : Tries) where
+    abbrev Agree : Plan → Plan → Type 0
+    Agree plan plan' = (plan' ≡ plan) × All (SameText image store) plan.items
+
+    last_agree : (points : List ReadPoint) (start : Place) (walk : List Row) (end : WalkEnd)
+        → All (SameText image store) (after_points points (last_plan entries n start walk end)).items
+    last_agree points start walk end =
+        first_texts image store _ _ (first_texts image store _ _ (rows_same image store _ (place_after_rows start (take (length walk - n) walk)) (last_rows n walk end) (λ row among. itself _)))
+
+    whole_same : (points : List ReadPoint) (calls calls' : ℕ) → OnWhole points calls entries n tries store (λ plan c.
+        OnWhole points calls' entries n tries' image (λ plan' c'. Agree plan plan'))
+    whole_same points calls calls' = λ walk end is ends walk' end' is' ends'.
+        let one = one_walk Sel First walks tt walk walk' end end' is ends is' ends' in
+        (rw (one.0, one.1) refl, last_agree points First walk end)
+
+    -- or of one from a known id
+    module _ (id : ℕ) (known : IsKnownPlace Sel image (Id id)) (tail : List Row) (end : WalkEnd)
+        (is : IsWalk (rows_of Sel store) (Id id) tail) (ends : EndsBy (rows_of Sel store) (Id id) tail end) where
+      moved : (P : Plan → ℕ → Type 0) (tail' : List Row) (end' : WalkEnd) → tail' ≡ tail → end' ≡ end → (has : Bool) → has_last n tail end ≡ has
+          → OnTried has id tail end entries n tries' image P → OnTried (has_last n tail' end') id tail' end' entries n tries' image P
+      moved P tail' end' a b has all on =
+          subst (λ (e : WalkEnd). OnTried (has_last n tail' e) id tail' e entries n tries' image P) (sym b)
+          (subst (λ (l : List Row). OnTried (has_last n l end) id l end entries n tries' image P) (sym a)
+          (subst (λ (h : Bool). OnTried h id tail end entries n tries' image P) (sym all) on))
+
+      tried_same : (has : Bool) → has_last n tail end ≡ has → OnTried has id tail end entries n tries store (λ plan c.
+          OnTailFrom (Some id) entries n tries' image (λ plan' c'. Agree plan plan'))
+      tried_same true all = λ tail' end' is' ends'.
+          let one = one_walk Sel (Id id) walks known tail tail' end end' is ends is' ends' in
+          let plan = after_points (AtRecord 0 ∷ []) (last_plan entries n (Id id) tail end) in
+          moved (λ plan' c'. Agree plan plan') tail' end' one.0 one.1 true all (refl, last_agree (AtRecord 0 ∷ []) (Id id) tail end)
+      tried_same false all = λ walk at w e tail' end' is' ends'.
+          let one = one_walk Sel (Id id) walks known tail tail' end end' is ends is' ends' in
+          let points = AtRecord 0 ∷ points_of_walk (Id id) tail end in
+          let plan = after_points points (last_plan entries n First walk at) in
+          moved (λ plan' c'. Agree plan plan') tail' end' one.0 one.1 false all
+          (whole_same points (tries.count + 1 + walk_call_bound Form.Skipped store tries tail) (tries'.count + 1 + walk_call_bound Form.Skipped image tries' tail) walk at w e)
+
+    tail_same : (start : Option ℕ) → IsKnownPlace Sel image (start_of start) → OnTailFrom start entries n tries store (λ plan c.
+        OnTailFrom start entries n tries' image (λ plan' c'. Agree plan plan'))
+    tail_same None known = whole_same (AtRecord 0 ∷ []) (tries.count + 1) (tries'.count + 1)
+    tail_same (Some id) known = λ tail end is ends. tried_same id known tail end is ends (has_last n tail end) refl
+
+  -- the info is the same, if it says where the entries begin
+  abbrev SameStart : Count → Type 0
+  SameStart (Count.Tail n) = info_of Sel image ≡ info_of Sel store
+  SameStart count = Unit {0}
+
+  same_start : (count : Count) → (is_info_asked Sel (Task.SelList count) ≡ true → info_of Sel image ≡ info_of Sel store) → SameStart count
+  same_start (Count.Tail n) same = same refl
+  same_start Count.All same = tt
+  same_start (Count.First n) same = tt
+  same_start (Count.Last n) same = tt
+
   -- a listing of entries with lines of this form
   lines_same : (entries : _) (count : Count) (from : Option ℕ)
-      → SameWalk Sel image store → IsKnownPlace Sel image (start_of from) → (tries tries' : Tries)
+      → SameWalk Sel image store → SameStart count → AreOfCapture image count from → (tries tries' : Tries)
       → OnEntries entries count from tries store (λ plan calls.
       OnEntries entries count from tries' image (λ plan' calls'.
       (plan' ≡ plan) × All (SameText image store) plan.items))
-  lines_same entries Count.All from walks known = λ tries tries' walk end is ends walk' end' is' ends'.
+  lines_same entries Count.All from walks start known = λ tries tries' walk end is ends walk' end' is' ends'.
       let one = one_walk Sel (start_of from) walks known walk walk' end end' is ends is' ends' in
       (rw (one.0, one.1) refl, rows_same image store _ (start_of from) walk (λ row among. itself _))
-  lines_same entries (Count.First n) from walks known = λ tries tries' walk end is ends walk' end' is' ends'.
+  lines_same entries (Count.First n) from walks start known = λ tries tries' walk end is ends walk' end' is' ends'.
       let one = one_walk Sel (start_of from) walks known walk walk' end end' is ends is' ends' in
       (rw (one.0, one.1) refl, rows_same image store _ (start_of from) (take n walk) (λ row among. itself _))
-  lines_same entries (Count.Last n) from walks known = λ tries tries' walk end is ends walk' end' is' ends'.
-      let start = start_of from in
-      let one = one_walk Sel start walks known walk walk' end end' is ends is' ends' in
-      let at = place_after_rows start (take (length walk - n) walk) in (
+  lines_same entries (Count.Last n) from walks start known = λ tries tries' walk end is ends walk' end' is' ends'.
+      let place = start_of from in
+      let one = one_walk Sel place walks known walk walk' end end' is ends is' ends' in
+      let at = place_after_rows place (take (length walk - n) walk) in (
         rw (one.0, one.1) refl,
         first_texts image store _ _ (rows_same image store _ at (last_rows n walk end) (λ row among. itself _)),
       )
+  lines_same entries (Count.Tail n) from walks start known = λ tries tries'.
+      subst (λ (o : Option ℕ). OnTailFrom o entries n tries store (λ plan c. OnTail entries n tries' image (λ plan' c'. Agree entries n walks tries tries' plan plan')))
+      (ap (tail_from n) start) (tail_same entries n walks tries tries' (tail_from n (info_of Sel image)) known)
 
-  entries_same : (count : Count) (from : Option ℕ) → SameWalk Sel image store
-      → IsKnownPlace Sel image (start_of from) → PrintsTheSame image store Wording.Plain (Task.SelList count) from
-  entries_same Count.All from walks known = lines_same _ Count.All from walks known
-  entries_same (Count.First n) from walks known = lines_same _ (Count.First n) from walks known
-  entries_same (Count.Last n) from walks known = lines_same _ (Count.Last n) from walks known
+  entries_same : (count : Count) (from : Option ℕ) → SameWalk Sel image store → SameStart count
+      → AreOfCapture image count from → PrintsTheSame image store Wording.Plain (Task.SelList count) from
+  entries_same Count.All from walks start known = lines_same _ Count.All from walks start known
+  entries_same (Count.First n) from walks start known = lines_same _ (Count.First n) from walks start known
+  entries_same (Count.Last n) from walks start known = lines_same _ (Count.Last n) from walks start known
+  entries_same (Count.Tail n) from walks start known = lines_same _ (Count.Tail n) from walks start known
 
   -- events with the names of their sensors: the sensor data records are walked first
   events_same : (wording : Wording) (count : Count) (from : Option ℕ) → SameWalk Sdr image store → SameWalk Sel image store
-      → IsKnownPlace Sel image (start_of from) → (tries tries' : Tries)
+      → SameStart count → AreOfCapture image count from → (tries tries' : Tries)
       → OnWalk Sdr First store (λ sensors end. OnEntries (entries_in wording (bytes_of_rows sensors)) count from tries store (λ plan calls.
       OnWalk Sdr First image (λ sensors' end'. OnEntries (entries_in wording (bytes_of_rows sensors')) count from tries' image (λ plan' calls'.
       (after_names sensors' end' plan' ≡ after_names sensors end plan) × All (SameText image store) (after_names sensors end plan).items))))
-  events_same wording Count.All from records entries known = λ tries tries' sensors end is ends walk e w we sensors' end' is' ends' walk' e' w' we'.
+  events_same wording Count.All from records entries start known = λ tries tries' sensors end is ends walk e w we sensors' end' is' ends' walk' e' w' we'.
       let one = one_walk Sdr First records tt sensors sensors' end end' is ends is' ends' in
-      let same = lines_same (entries_in wording (bytes_of_rows sensors)) Count.All from entries known tries tries' walk e w we walk' e' w' we' in
+      let same = lines_same (entries_in wording (bytes_of_rows sensors)) Count.All from entries start known tries tries' walk e w we walk' e' w' we' in
       (rw (one.0, one.1) (ap (after_names sensors end) same.0), first_texts image store _ _ same.1)
-  events_same wording (Count.First n) from records entries known = λ tries tries' sensors end is ends walk e w we sensors' end' is' ends' walk' e' w' we'.
+  events_same wording (Count.First n) from records entries start known = λ tries tries' sensors end is ends walk e w we sensors' end' is' ends' walk' e' w' we'.
       let one = one_walk Sdr First records tt sensors sensors' end end' is ends is' ends' in
-      let same = lines_same (entries_in wording (bytes_of_rows sensors)) (Count.First n) from entries known tries tries' walk e w we walk' e' w' we' in
+      let same = lines_same (entries_in wording (bytes_of_rows sensors)) (Count.First n) from entries start known tries tries' walk e w we walk' e' w' we' in
       (rw (one.0, one.1) (ap (after_names sensors end) same.0), first_texts image store _ _ same.1)
-  events_same wording (Count.Last n) from records entries known = λ tries tries' sensors end is ends walk e w we sensors' end' is' ends' walk' e' w' we'.
+  events_same wording (Count.Last n) from records entries start known = λ tries tries' sensors end is ends walk e w we sensors' end' is' ends' walk' e' w' we'.
       let one = one_walk Sdr First records tt sensors sensors' end end' is ends is' ends' in
-      let same = lines_same (entries_in wording (bytes_of_rows sensors)) (Count.Last n) from entries known tries tries' walk e w we walk' e' w' we' in
+      let same = lines_same (entries_in wording (bytes_of_rows sensors)) (Count.Last n) from entries start known tries tries' walk e w we walk' e' w' we' in
       (rw (one.0, one.1) (ap (after_names sensors end) same.0), first_texts image store _ _ same.1)
+  events_same wording (Count.Tail n) from records entries start known = λ tries tries' sensors end is ends.
+      let lines = entries_in wording (bytes_of_rows sensors) in
+      let named : Plan → Plan → Type 0 = λ plan plan'. (plan' ≡ after_names sensors end plan) × All (SameText image store) (after_names sensors end plan).items in
+      tail_map lines n tries tries store (λ plan c. OnTail lines n tries' image (λ plan' c'. (plan' ≡ plan) × All (SameText image store) plan.items))
+      (λ plan c. OnWalk Sdr First image (λ sensors' end'. OnTail (entries_in wording (bytes_of_rows sensors')) n tries' image (λ plan' c'. named plan (after_names sensors' end' plan'))))
+      (λ plan calls on sensors' end' is' ends'.
+      let one = one_walk Sdr First records tt sensors sensors' end end' is ends is' ends' in
+      subst (λ (e : WalkEnd). OnTail (entries_in wording (bytes_of_rows sensors')) n tries' image (λ plan' c'. named plan (after_names sensors' e plan'))) (sym one.1)
+      (subst (λ (l : List Row). OnTail (entries_in wording (bytes_of_rows l)) n tries' image (λ plan' c'. named plan (after_names l end plan'))) (sym one.0)
+      (tail_map lines n tries' tries' image (λ plan' c'. (plan' ≡ plan) × All (SameText image store) plan.items) (λ plan' c'. named plan (after_names sensors end plan'))
+      (λ plan' calls' same. (ap (after_names sensors end) same.0, first_texts image store _ _ same.1)) on)))
+      (lines_same lines (Count.Tail n) from entries start known tries tries')
 
   -- all inventories, with the same name of device 0
   inventories_same : (wording : Wording) (name : Option (List ℕ)) → SameWalk Sdr image store
@@ -484,15 +558,19 @@ module _ (exists : WalkExists) (unique : WalkIsUnique) (found : FoundIsRow) (ima
   info_agrees wording shelf same =
       (ap (info_plan wording shelf) same, info_same image store wording shelf (info_of shelf store))
 
+  info_asked : (shelf : Shelf) → is_info_asked shelf (Task.Info shelf) ≡ true
+  info_asked Sdr = refl
+  info_asked Sel = refl
+
   prints_the_same : (wording : Wording) (task : Task) (from : Option ℕ) → HasAsked image store task wording
       → IsOfCapture image task from → PrintsTheSame image store wording task from
   prints_the_same Wording.Plain Task.Hex from asked known = λ tries tries'. listing_same _ from (asked.walk Sdr refl) known (λ row among. itself _)
   prints_the_same Wording.Plain (Task.List kind) from asked known = λ tries tries'. listing_same _ from (asked.walk Sdr refl) known (λ row among. line_same kind asked.readings row among IsSdrLine (fault_is row.id))
   prints_the_same Wording.Plain (Task.Elist kind) from asked known = λ tries tries'. listing_same _ from (asked.walk Sdr refl) known (λ row among. line_same kind asked.readings row among IsExtendedLine (fault_is row.id))
   prints_the_same Wording.Plain (Task.Get name) from asked known = λ tries tries'. listing_same _ from (asked.walk Sdr refl) known (block_same Wording.Plain name asked.readings)
-  prints_the_same Wording.Plain (Task.SelList count) from asked known = entries_same count from (asked.walk Sel refl) known
+  prints_the_same Wording.Plain (Task.SelList count) from asked known = entries_same count from (asked.walk Sel refl) (same_start count (asked.info Sel)) known
   prints_the_same Wording.Plain (Task.SelGet id) from asked known = entry_same id from (asked.walk Sel refl) known
-  prints_the_same Wording.Plain (Task.Info shelf) from asked known = λ tries tries'. info_agrees Wording.Plain shelf (asked.info shelf refl)
+  prints_the_same Wording.Plain (Task.Info shelf) from asked known = λ tries tries'. info_agrees Wording.Plain shelf (asked.info shelf (info_asked shelf))
   prints_the_same Wording.Plain (Task.Fru None) from asked known = λ tries tries'. inventories_same Wording.Plain None (asked.walk Sdr refl) asked.inventories
   prints_the_same Wording.Plain (Task.Fru (Some id)) from asked known = λ tries tries'. inventory_agrees Wording.Plain id (All-head (SameInventory image store) id [] asked.inventories)
   prints_the_same Wording.Plain Task.Rewrite from asked known = absurd known
@@ -500,9 +578,9 @@ module _ (exists : WalkExists) (unique : WalkIsUnique) (found : FoundIsRow) (ima
   prints_the_same Wording.Descriptive (Task.List kind) from asked known = λ tries tries'. listing_same _ from (asked.walk Sdr refl) known (λ row among. line_same kind asked.readings row among IsSensorLine (fault_is row.id))
   prints_the_same Wording.Descriptive (Task.Elist kind) from asked known = λ tries tries'. listing_same _ from (asked.walk Sdr refl) known (λ row among. line_same kind asked.readings row among IsExtendedLine (fault_is row.id))
   prints_the_same Wording.Descriptive (Task.Get name) from asked known = λ tries tries'. listing_same _ from (asked.walk Sdr refl) known (block_same Wording.Descriptive name asked.readings)
-  prints_the_same Wording.Descriptive (Task.SelList count) from asked known = events_same Wording.Descriptive count from (asked.walk Sdr refl) (asked.walk Sel refl) known
+  prints_the_same Wording.Descriptive (Task.SelList count) from asked known = events_same Wording.Descriptive count from (asked.walk Sdr refl) (asked.walk Sel refl) (same_start count (asked.info Sel)) known
   prints_the_same Wording.Descriptive (Task.SelGet id) from asked known = entry_same id from (asked.walk Sel refl) known
-  prints_the_same Wording.Descriptive (Task.Info shelf) from asked known = λ tries tries'. info_agrees Wording.Plain shelf (asked.info shelf refl)
+  prints_the_same Wording.Descriptive (Task.Info shelf) from asked known = λ tries tries'. info_agrees Wording.Plain shelf (asked.info shelf (info_asked shelf))
   prints_the_same Wording.Descriptive (Task.Fru None) from asked known = devices_same Wording.Descriptive (asked.walk Sdr refl) asked.inventories
   prints_the_same Wording.Descriptive (Task.Fru (Some id)) from asked known = λ tries tries'. inventory_agrees Wording.Plain id (All-head (SameInventory image store) id [] asked.inventories)
   prints_the_same Wording.Descriptive Task.Rewrite from asked known = absurd known
@@ -510,9 +588,9 @@ module _ (exists : WalkExists) (unique : WalkIsUnique) (found : FoundIsRow) (ima
   prints_the_same (Wording.Json labels) (Task.List kind) from asked known = objects_same labels kind from (asked.walk Sdr refl) asked.readings known
   prints_the_same (Wording.Json labels) (Task.Elist kind) from asked known = objects_same labels kind from (asked.walk Sdr refl) asked.readings known
   prints_the_same (Wording.Json labels) (Task.Get name) from asked known = λ tries tries'. listing_same _ from (asked.walk Sdr refl) known (block_same (Wording.Json labels) name asked.readings)
-  prints_the_same (Wording.Json labels) (Task.SelList count) from asked known = events_same (Wording.Json labels) count from (asked.walk Sdr refl) (asked.walk Sel refl) known
-  prints_the_same (Wording.Json labels) (Task.SelGet id) from asked known = events_same (Wording.Json labels) (Count.First 1) (Some id) (asked.walk Sdr refl) (asked.walk Sel refl) known
-  prints_the_same (Wording.Json labels) (Task.Info shelf) from asked known = λ tries tries'. info_agrees (Wording.Json labels) shelf (asked.info shelf refl)
+  prints_the_same (Wording.Json labels) (Task.SelList count) from asked known = events_same (Wording.Json labels) count from (asked.walk Sdr refl) (asked.walk Sel refl) (same_start count (asked.info Sel)) known
+  prints_the_same (Wording.Json labels) (Task.SelGet id) from asked known = events_same (Wording.Json labels) (Count.First 1) (Some id) (asked.walk Sdr refl) (asked.walk Sel refl) tt known
+  prints_the_same (Wording.Json labels) (Task.Info shelf) from asked known = λ tries tries'. info_agrees (Wording.Json labels) shelf (asked.info shelf (info_asked shelf))
   prints_the_same (Wording.Json labels) (Task.Fru None) from asked known = devices_same (Wording.Json labels) (asked.walk Sdr refl) asked.inventories
   prints_the_same (Wording.Json labels) (Task.Fru (Some id)) from asked known = λ tries tries'. inventory_agrees (Wording.Json labels) id (All-head (SameInventory image store) id [] asked.inventories)
   prints_the_same (Wording.Json labels) Task.Rewrite from asked known = absurd known

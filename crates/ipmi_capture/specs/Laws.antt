@@ -1,7 +1,7 @@
 -- A command prints the same over a capture as over the controller's store.
-use Rattle.std.specs.Prelude.{◌≡◌, ◌≢◌, ℕ, Bool, true, false, IsTrue, Option, None, Some, List, [], ◌∷◌, All}
+use Rattle.std.specs.Prelude.{◌≡◌, ℕ, Bool, true, false, IsTrue, Option, None, Some, List, [], ◌∷◌, All}
 use Rattle.std.specs.List.{Contains, filter}
-use Rattle.ipmi_capture.specs.Below.{EndsBy, First, has_id, Id, IsStore, IsWalk, Place, Row, rows_of, Sdr, sdr_view_of, Sel, Shelf, start_of, Store, WalkEnd}
+use Rattle.ipmi_capture.specs.Below.{EndsBy, First, has_id, Id, info_of, IsStore, IsWalk, Place, Row, rows_of, Sdr, sdr_view_of, Sel, Shelf, start_of, Store, WalkEnd}
 use Rattle.ipmi_capture.specs.Capture.{devices_of, IsCaptureBut, IsCaptureOf, sensors_of}
 use Rattle.ipmi_capture.specs.Left.{LacksInfo, LacksInventory, LacksReading, LacksRecords}
 use Rattle.ipmi_capture.specs.declared.left.Left.{Left}
@@ -11,7 +11,9 @@ use Rattle.ipmi_commands.specs.declared.job.Wording.{Wording}
 use Rattle.ipmi_commands.specs.declared.limits.Tries.{Tries}
 use Rattle.ipmi_commands.specs.Plan.{Item, view_has_name}
 use Rattle.ipmi_commands.specs.Run.{FollowsPlan}
+use Rattle.ipmi_commands.specs.Tail.{tail_from}
 use Rattle.ipmi_commands.specs.Texts.{IsTextOver, row_is_of_kind}
+use Rattle.ipmi_command_line.specs.declared.task.Count.{Count}
 use Rattle.ipmi_command_line.specs.declared.task.Task.{Task}
 
 -- the id of a row on the walk of the shelf from its first record
@@ -25,10 +27,15 @@ abbrev pub IsKnownPlace : Shelf → Store → Place → Type 0
 IsKnownPlace shelf store (Id id) = IsOnWalk shelf store id
 IsKnownPlace shelf store _ = Unit {0}
 
+-- such a place is where the entries begin that are listed: `sel tail` begins where the image's info suggests
+abbrev pub AreOfCapture : Store → Count → Option ℕ → Type 0
+AreOfCapture image (Count.Tail n) from = IsKnownPlace Sel image (start_of (tail_from n (info_of Sel image)))
+AreOfCapture image count from = IsKnownPlace Sel image (start_of from)
+
 -- the command asks only for ids on the image's walks, for device 0, and for devices that its records name; `image rewrite` is
 -- left out, as it is no job
 abbrev pub IsOfCapture : Store → Task → Option ℕ → Type 0
-IsOfCapture image (Task.SelList count) from = IsKnownPlace Sel image (start_of from)
+IsOfCapture image (Task.SelList count) from = AreOfCapture image count from
 IsOfCapture image (Task.SelGet id) from = IsKnownPlace Sel image (Id id)
 IsOfCapture image (Task.Fru (Some id)) from = Contains (0 ∷ devices_of image.sdr) id
 IsOfCapture image (Task.Fru None) from = Unit {0}
@@ -75,6 +82,13 @@ is_walked Sdr (Task.Info shelf) wording = false
 is_walked Sdr (Task.Fru (Some id)) wording = false
 is_walked Sdr task wording = true
 
+-- whether a command asks for the info of the shelf
+abbrev pub is_info_asked : Shelf → Task → Bool
+is_info_asked Sdr (Task.Info Sdr) = true
+is_info_asked Sel (Task.Info Sel) = true
+is_info_asked Sel (Task.SelList (Count.Tail n)) = true
+is_info_asked shelf task = false
+
 -- the sensors whose readings the command requests: those named by records of its kind, or with its name
 abbrev pub sensors_asked : Task → List Row → List (ℕ × ℕ)
 sensors_asked (Task.List kind) rows = sensors_of (filter (row_is_of_kind kind) rows)
@@ -92,7 +106,7 @@ devices_asked task rows = []
 -- a command does not need the item left out
 pub record IsUnneeded (image : Store) (wording : Wording) (task : Task) (left : Left) : Type 0 where
   pub records : (shelf : Shelf) → LacksRecords shelf left → is_walked shelf task wording ≡ false
-  pub info : (shelf : Shelf) → LacksInfo shelf left → task ≢ Task.Info shelf
+  pub info : (shelf : Shelf) → LacksInfo shelf left → is_info_asked shelf task ≡ false
   pub reading : (lun number : ℕ) → LacksReading lun number left
       → ¬ Contains (sensors_asked task image.sdr) (lun, number)
   pub inventory : (id : ℕ) → LacksInventory id left → ¬ Contains (devices_asked task image.sdr) id

@@ -3,7 +3,8 @@ use Rattle.std.proofs.Common.{◌≡◌, ◌≤◌, ◌<◌, ◌∙◌, ap, arit
 use Rattle.std.specs.List.{find, list_any, starts_with}
 use Rattle.clap.proofs.WalkLemmas.{find-map}
 use Rattle.clap.specs.Words.{Text}
-use Rattle.ipmi_command_line.specs.Request.{events_of, has_option, help_of, topic_named, topic_of}
+use Rattle.ipmi_command_line.specs.Request.{events_of, has_option, help_of, tail_of, topic_named, topic_of}
+use Rattle.ipmi_command_line.specs.Number.{number_of, within}
 use Rattle.ipmi_command_line.specs.Table.{entries_of, oldest, task_of_four}
 use Rattle.ipmi_command_line.specs.declared.request.Topic.{Topic}
 use Rattle.ipmi_command_line.specs.declared.task.Count.{Count}
@@ -65,6 +66,25 @@ many_words_of_events (a ∷ b ∷ c ∷ d ∷ e ∷ words) h = refl
 many_words_of_events _ h = absurd (omega arith)
 
 pub ruleset events = (no_word_of_events, two_words_of_events, three_words_of_events, four_words_of_events, many_words_of_events)
+
+-- ---- the words of `sel tail`
+
+pub few_words_of_tail : (words : List (Bor Text)) → length words < 3 → None ≡ tail_of (texts words)
+few_words_of_tail [] h = refl
+few_words_of_tail (a ∷ []) h = refl
+few_words_of_tail (a ∷ b ∷ []) h = refl
+few_words_of_tail _ h = absurd (omega arith)
+
+pub three_words_of_tail : (words : List (Bor Text)) (e : Bor Text) → 3 ≤ length words → length words < 4
+    → option_map (λ n. Task.SelList (Count.Tail n)) (within 1 65535 (number_of (get_or words 2 e).now)) ≡ tail_of (texts words)
+three_words_of_tail (a ∷ b ∷ c ∷ []) e h l = refl
+three_words_of_tail _ e h l = absurd (omega arith)
+
+pub many_words_of_tail : (words : List (Bor Text)) → 4 ≤ length words → None ≡ tail_of (texts words)
+many_words_of_tail (a ∷ b ∷ c ∷ d ∷ words) h = refl
+many_words_of_tail _ h = absurd (omega arith)
+
+pub ruleset tails = (few_words_of_tail, three_words_of_tail, many_words_of_tail)
 
 -- ---- the words beside `--help`
 

@@ -23,6 +23,7 @@ abbrev pub IsCount : Count → Type 0
 IsCount Count.All = ⊤
 IsCount (Count.First n) = 1 ≤ n
 IsCount (Count.Last n) = 1 ≤ n
+IsCount (Count.Tail n) = 1 ≤ n
 
 abbrev pub IsTask : Task → Type 0
 IsTask (Task.Fru id) = IfSome id (λ n. n ≤ 254)

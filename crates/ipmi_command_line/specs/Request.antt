@@ -6,7 +6,7 @@ use Rattle.clap.specs.Words.{Row, Text, first_of}
 use Rattle.ipmi_command_line.specs.Arguments.{free_words, has_value, is_given, is_taken, rows_of_words, values_of}
 use Rattle.ipmi_command_line.specs.Command.{IsTask, number_or, start_of_text}
 use Rattle.ipmi_command_line.specs.Commands.{RowState, row_of}
-use Rattle.ipmi_command_line.specs.Number.{decimal_of, hex_of, within}
+use Rattle.ipmi_command_line.specs.Number.{decimal_of, hex_of, number_of, within}
 use Rattle.ipmi_command_line.specs.Table.{entries_of, oldest, task_of, task_of_four}
 use Rattle.ipmi_command_line.specs.Task.{takes_from}
 use Rattle.ipmi_command_line.specs.declared.commands.Verb.{Verb}
@@ -142,11 +142,17 @@ events_of (a ∷ b ∷ c ∷ []) = entries_of oldest c
 events_of (a ∷ b ∷ c ∷ d ∷ []) = task_of_four (codes "sel") (codes "list") c d
 events_of _ = None
 
+-- `sel tail` takes a number of entries, at least 1
+abbrev pub tail_of : List Text → Option Task
+tail_of (a ∷ b ∷ c ∷ []) = option_map (λ n. Task.SelList (Count.Tail n)) (within 1 65535 (number_of c))
+tail_of _ = None
+
 -- a command that prints records; `whole`: nothing follows its own words
 abbrev pub task_of_verb : Verb → Bool → List Text → Option Text → Option Task
 task_of_verb Verb.Task whole words id = task_of words
 task_of_verb Verb.GetEntry whole words id = entry_of words id
 task_of_verb Verb.DescribeEvents whole words id = events_of words
+task_of_verb Verb.TailEvents whole words id = tail_of words
 task_of_verb Verb.DescribeSensors whole words id = if whole then Some (Task.List Kind.Sensors) else None
 task_of_verb Verb.ListDevices whole words id = if whole then Some (Task.Fru None) else None
 task_of_verb _ whole words id = None
@@ -208,6 +214,7 @@ misplaced options rows = or_else (among_values (map (λ name. name.now) VALUED) 
 
 abbrev pub text_format : Verb → Format
 text_format Verb.DescribeEvents = Format.Descriptive
+text_format Verb.TailEvents = Format.Descriptive
 text_format Verb.DescribeSensors = Format.Descriptive
 text_format Verb.GetSensors = Format.Descriptive
 text_format Verb.ListDevices = Format.Descriptive

@@ -9,6 +9,7 @@ takes_from Task.Hex = true
 takes_from (Task.List kind) = true
 takes_from (Task.Elist kind) = true
 takes_from (Task.Get name) = true
+takes_from (Task.SelList (Count.Tail n)) = false
 takes_from (Task.SelList entries) = true
 takes_from _ = false
 

@@ -11,6 +11,8 @@ pub enum Verb {
     GetEntry,
     /// Entries in descriptive words.
     DescribeEvents,
+    /// The newest entries in descriptive words, without a walk of the whole log.
+    TailEvents,
     /// Sensors in descriptive words.
     DescribeSensors,
     /// The blocks of the sensors with these names, in descriptive words.
@@ -38,6 +40,8 @@ pub enum Operand {
     Names,
     /// A number of entries, after `first`, `last` or nothing; or nothing.
     Count,
+    /// A number of entries, at least 1.
+    EntryCount,
     /// The id of an entry.
     EntryId,
     /// The id of a device, or nothing.
@@ -73,7 +77,7 @@ const REWRITING: &[&str] = &["image", "strict"];
 const NONE: &[&str] = &[];
 
 /// The commands. A command comes before one whose words begin it.
-pub const COMMANDS: [CommandRow; 20] = [
+pub const COMMANDS: [CommandRow; 21] = [
     (
         &["sdr", "list"],
         Verb::Task,
@@ -151,6 +155,13 @@ pub const COMMANDS: [CommandRow; 20] = [
         Operand::Count,
         PRINTING,
         "  sel elist ..            the same as sel list .., with names and in words\n",
+    ),
+    (
+        &["sel", "tail"],
+        Verb::TailEvents,
+        Operand::EntryCount,
+        PRINTING,
+        "  sel tail N              the N newest in words, not reading the whole log\n",
     ),
     (
         &["sel", "get"],

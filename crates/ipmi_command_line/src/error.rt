@@ -162,6 +162,7 @@ impl fmt::Display for Operand {
             Operand::Nothing => "nothing",
             Operand::Name | Operand::Names => "a NAME",
             Operand::Count => "a number from 0 to 65535",
+            Operand::EntryCount => "a number from 1 to 65535",
             Operand::EntryId => "an ID from 1 to 65534",
             Operand::DeviceId => "an ID from 0 to 254",
             Operand::Topic => "a command",

@@ -271,7 +271,7 @@ fn count_error<'a>(
     }
 }
 
-/// What is wrong with the id of an entry or of a device.
+/// What is wrong with the id of an entry or of a device, or with the number of `sel tail`.
 fn id_error<'a>(row: &CommandRow, words: &[&'a str], id: Option<&'a str>) -> UsageError<'a> {
     match (words, id) {
         ([], Some(_)) => value_error("id", id),
@@ -306,7 +306,9 @@ pub(crate) fn word_error<'a>(
     }
     match (operand, after) {
         (Operand::Count, _) => count_error(alloc, row, after),
-        (Operand::EntryId | Operand::DeviceId, _) => Ok(id_error(row, after, id)),
+        (Operand::EntryCount | Operand::EntryId | Operand::DeviceId, _) => {
+            Ok(id_error(row, after, id))
+        }
         (_, []) => Ok(UsageError::Missing(own, operand)),
         (Operand::Kind, [word]) => unknown_kind(alloc, word),
         (Operand::Name | Operand::Names, [_, word, ..]) => {

@@ -4,7 +4,7 @@ ghost use Rattle.clap.specs.Words.{first_of, found_of, rows_of};
 ghost use Rattle.ipmi_command_line.specs.Arguments.{values_of};
 ghost use Rattle.ipmi_command_line.specs.Command.{IsTask, number_or, start_of_text};
 ghost use Rattle.ipmi_command_line.specs.Commands.{row_of, row_state, texts};
-ghost use Rattle.ipmi_command_line.specs.Request.{action_of, among_flags, among_values, capture_of, entry_of, events_of, format_of, hex_id_of, help_of, IsRequest, IsAction, has_option, limits_of, live_at, live_of, misplaced, named_of, part_of_text, printed_of, records_of, request_of, request_of_command, request_of_help, request_of_row, request_of_rows, request_of_words, rewrite_of, short_request, source_of, standard_inputs, start_of, task_of_row, tool_of, topic_named, topic_of};
+ghost use Rattle.ipmi_command_line.specs.Request.{action_of, among_flags, among_values, capture_of, entry_of, events_of, format_of, hex_id_of, help_of, IsRequest, IsAction, has_option, limits_of, live_at, live_of, misplaced, named_of, part_of_text, printed_of, records_of, request_of, request_of_command, request_of_help, request_of_row, request_of_rows, request_of_words, rewrite_of, short_request, source_of, standard_inputs, start_of, tail_of, task_of_row, tool_of, topic_named, topic_of};
 ghost use Rattle.ipmi_command_line.specs.declared.error.UsageError.{UsageError};
 
 use crate::arguments::{arguments, has_value, is_given, value, value_count};
@@ -365,6 +365,19 @@ fn events_of(words: &[&str]) -> Option<Task>
     }
 }
 
+/// `sel tail` and how many entries.
+#[tactic(auto, using(crate::proofs::CommandLemmas::tails))]
+fn tail_of(words: &[&str]) -> Option<Task>
+    ensures value { result ≡ tail_of (texts words.now) }
+    ensures range { IfSome result IsTask }
+{
+    match words {
+        [] | [_] | [_, _] => None,
+        [_, _, count] => number(count, 1, u16::MAX).map(|n| Task::SelList(Count::Tail(n))),
+        _ => None,
+    }
+}
+
 /// The task of a command that prints records.
 fn task_of_row(
     alloc: Global,
@@ -382,6 +395,7 @@ fn task_of_row(
         Verb::Task => task_of(alloc, words),
         Verb::GetEntry => entry_of(alloc, words, id),
         Verb::DescribeEvents => Ok(events_of(words)),
+        Verb::TailEvents => Ok(tail_of(words)),
         Verb::DescribeSensors if is_whole => Ok(Some(Task::List(Kind::Sensors))),
         Verb::ListDevices if is_whole => Ok(Some(Task::Fru(None))),
         _ => Ok(None),
@@ -575,9 +589,11 @@ fn format_of<'a>(
         return Err(UsageError::LabelWithoutJson);
     }
     Ok(match verb {
-        Verb::DescribeEvents | Verb::DescribeSensors | Verb::GetSensors | Verb::ListDevices => {
-            Format::Descriptive
-        }
+        Verb::DescribeEvents
+        | Verb::TailEvents
+        | Verb::DescribeSensors
+        | Verb::GetSensors
+        | Verb::ListDevices => Format::Descriptive,
         _ => Format::Plain,
     })
 }

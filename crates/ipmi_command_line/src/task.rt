@@ -35,6 +35,8 @@ pub enum Count {
     First(u16),
     /// This many of the newest.
     Last(u16),
+    /// This many of the newest, on a walk that begins where the log's info suggests.
+    Tail(u16),
 }
 
 /// The task of a command.
@@ -67,7 +69,11 @@ impl Task {
     {
         matches!(
             self,
-            Task::Hex | Task::List(_) | Task::Elist(_) | Task::Get(_) | Task::SelList(_)
+            Task::Hex
+                | Task::List(_)
+                | Task::Elist(_)
+                | Task::Get(_)
+                | Task::SelList(Count::All | Count::First(_) | Count::Last(_))
         )
     }
 }

@@ -38,5 +38,6 @@ mod retried_parts;
 pub(crate) mod saved;
 mod short_outputs;
 mod summaries;
+mod tail_entries;
 mod whole_pieces;
 mod written_answers;

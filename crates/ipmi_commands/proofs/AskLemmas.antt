@@ -32,7 +32,7 @@ then_no_memory asks = record { asks = asks_as asks asks.ends.counts tt; there = 
 
 -- ---- over any controller
 
-refuses_record : (asked : ℕ) (class : CodeClass) → RefusesValue asked class
+pub refuses_record : (asked : ℕ) (class : CodeClass) → RefusesValue asked class
     → RefusesRecord asked class
 refuses_record asked class refuses = grind arith
 

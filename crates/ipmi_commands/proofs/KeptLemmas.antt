@@ -167,7 +167,7 @@ module _ {limits : RequestLimits} {from : Option ℕ} {begun now : CursorState} 
   keeps_along n tries kept h (Err failure) lists kept_are same = λ walk end w ends.
       let along = fresh_along fresh lists same walk end w ends in
       let counted = counts fresh (Err failure) walk end along.0 in
-      ((λ entries. counted entries n), along.1)
+      (counted, along.1)
 
   keeps_grown : (n : ℕ) (tries : Tries) (kept : List KeptEntry) → IsHonest s → (result : Result ℕ Failure) (lists : ListsHonestly Form.Skipped tries None begun now (change s s' text text) result)
       → IfOk result (λ count. kept ≡ last_of n (kept_rows (handed_out lists.traces.steps)))
@@ -179,7 +179,7 @@ module _ {limits : RequestLimits} {from : Option ℕ} {begun now : CursorState} 
   keeps_grown n tries kept h (Err failure) lists kept_are = λ first log grew.
       let g = fresh_grown fresh lists.traces h first log grew tt in
       let counted = counts_grown from (Err failure) lists.traces first g lists.traces.ends in
-      (g.log, g.was, λ entries. counted entries n)
+      (g.log, g.was, counted)
 
   pub keeps_entries : (n : ℕ) (kept : List KeptEntry) (ending : Ending) → IsHonest s → KeepsByCursor n limits.tries begun now s s' text kept ending
       → KeepsEntries n (start_of from) limits.tries s s' text kept ending
@@ -207,9 +207,9 @@ pub keeps_without_memory : (n : ℕ) (tries : Tries) (start : Place) (s : Seen) 
     → KeepsEntries n start tries s s text kept (Err Failure.OutOfMemory)
 keeps_without_memory n tries start s text kept h = record {
   ends = ends_here h refl tt;
-  along = λ same walk end w ends. (λ entries. no_items (IsPieceOver s.store) (last_plan entries n start walk end) text text refl, omega arith);
+  along = λ same walk end w ends. (λ entries most. no_items (IsPieceOver s.store) (last_plan entries most start walk end) text text refl, omega arith);
   grows = λ first log grew.
-      (first, log_now s s (stays_refl s h).store h first log, λ entries. no_items (IsTextWhile s s) (last_plan entries n start first Done) text text refl);
+      (first, log_now s s (stays_refl s h).store h first log, λ entries most. no_items (IsTextWhile s s) (last_plan entries most start first Done) text text refl);
   traces = inl (refl, refl);
 }
 
@@ -316,8 +316,8 @@ module _ (entries : Entries) (n : ℕ) (from : Option ℕ) (tries : Tries) (s s'
     calls = calls;
     ends = passed_ends entries s' (Err failure) may;
     why = λ h. (keeps h).ends;
-    prints = λ h same walk end w ends. let along = (keeps h).along same walk end w ends in (along.0 entries, along.1);
-    grows = λ h first log grew. let g = (keeps h).grows first log grew in (g.0, g.1, g.2 entries);
+    prints = λ h same walk end w ends. let along = (keeps h).along same walk end w ends in (along.0 entries n, along.1);
+    grows = λ h first log grew. let g = (keeps h).grows first log grew in (g.0, g.1, g.2 entries n);
     traces = λ h. elim (keeps h).traces [
       | inl none ↦ inl (none.0, none.1, refl)
       | inr from_ ↦ inr (record {

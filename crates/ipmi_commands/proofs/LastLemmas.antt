@@ -34,6 +34,12 @@ first_there entries start (row ∷ rows) ends point among = grind arith
 
 -- ---- plans whose first item has other points
 
+-- these are the points of the first item, or of the end
+pub next_points-first : (points : List ReadPoint) (items : List Item) (at_end : List ReadPoint)
+    → next_points (with_first_points points items) (end_points_of_last points items at_end) ≡ points
+next_points-first points [] at_end = refl
+next_points-first points (item ∷ items) at_end = refl
+
 module _ (IsText : Subject → Output → Type 0) (points : List ReadPoint) (p : Plan) (at_end : List ReadPoint)
     (end : Ending) (ends_are : p.end_points ≡ at_end)
     (wide : (point : ReadPoint) → IsAmong (next_points p.items p.end_points) point → IsAmong points point) where

@@ -22,6 +22,7 @@ mod PerformLemmas
 mod ReadLemmas
 mod RunLemmas
 mod SensorLemmas
+pub mod TailLemmas
 mod PointLemmas
 mod TraceLemmas
 mod UniqueLemmas

@@ -3,11 +3,11 @@ use Rattle.std.proofs.Common.{◌≡◌, inl, inr, ℕ, ◌-◌, arith, Bool, tr
 use Rattle.ipmi_bus.proofs.HeldLemmas.{begins_refl, begins_trans, grew_first, grew_second, grew_since, grows_over, held_at_first, held_at_last, held_in_first, held_in_second, keeps_first, keeps_same, keeps_second, keeps_through}
 use Rattle.ipmi_bus.proofs.GrowthLaws.{steps_stay}
 use Rattle.ipmi_bus.specs.Seen.{KeepsStore}
-use Rattle.ipmi_commands.specs.Below.{AreSteps, BeginsWith, Count, CursorState, Done, Ended, handed_out, IsHonest, IsLog, Keeps, OnGrowing, OnlyGrew, WasLog, inventory_in, inventory_of, Inventory, Place, place_after, Row, SdrFault, SdrView, sdr_view_of, Seen, seen_after, Sel, Shelf, start_of, StaysHonest, Stepped, stays_refl, stays_trans, Store, with_handed}
+use Rattle.ipmi_commands.specs.Below.{AreSteps, BeginsWith, Count, CursorState, Done, Ended, First, handed_out, IsHonest, IsLog, Keeps, OnGrowing, OnlyGrew, WasLog, inventory_in, inventory_of, Inventory, Place, place_after, Row, SdrFault, SdrView, sdr_view_of, Seen, seen_after, Sel, Shelf, start_of, StaysHonest, Stepped, stays_refl, stays_trans, Store, with_handed}
 use Rattle.ipmi_records.specs.Sdr as sdr
 use Rattle.ipmi_commands.specs.Meanwhile.{IsTextWhile, KeepsAt, KeepsFor, OnGrowingListing}
 use Rattle.ipmi_commands.specs.Traced.{AreTextsOfSteps, IsTextAfter, IsTextOfResult, PrintsSteps, seen_next}
-use Rattle.ipmi_commands.specs.Prelude.{AreTexts, AtInventory, AtRecord, device_points, Entries, Form, IsPieceOver, entries_in, entries_job, keeping_last, bytes_of_rows, last_plan, Listing, listing, listing_plan, locator_points, NameLookup, named_points, OfRow, OnGrowingEntries, OnGrowingLastKept, OnGrowingNamed, OnGrowingPlan, Plan, Printed, reading_points, row_items, shelf_of, points_because_of, ReadPoint, Subject, Wording}
+use Rattle.ipmi_commands.specs.Prelude.{AreTexts, AtInventory, AtRecord, device_points, Entries, Form, IsPieceOver, entries_in, entries_job, keeping_last, bytes_of_rows, last_plan, Listing, listing, listing_plan, locator_points, NameLookup, named_points, OfRow, OnGrowingEntries, OnGrowingLastKept, OnGrowingNamed, OnGrowingPlan, OnGrowingTail, Plan, Printed, reading_points, row_items, shelf_of, points_because_of, ReadPoint, Subject, Wording}
 use Rattle.ipmi_commands.specs.Output.{and_then, Output}
 use Rattle.ipmi_commands.proofs.OutputLemmas.{nothing_then}
 
@@ -93,23 +93,37 @@ module _ (a b c : Seen) (first : StaysHonest a b) (then_ : StaysHonest b c) wher
     last_second entries n from on = growing_second Sel (start_of from) _ _
         (λ log. keep (last_plan entries n (start_of from) log Done)) on
 
+    tail_second : (entries : Entries) (n : ℕ) → OnGrowingTail entries n b c Holds → OnGrowingTail entries n a c More
+    tail_second entries n on = (
+      on.0,
+      on.1,
+      stays_trans a b on.0 first on.2,
+      on.3,
+      on.4,
+      λ rows log grew. let g = on.5 rows log grew in (g.0, g.1, keep (last_plan entries n on.1 g.0 Done) g.2),
+    )
+
     pub entries_second : (entries : Entries) (count : Count) (from : Option ℕ)
         → OnGrowingPlan (keeping_last (entries_job entries count from)) b c Holds → OnGrowingEntries entries count from a c More
     entries_second entries Count.All from on = listing_second (listing (Form.EntryLine entries) (start_of from) None) on
     entries_second entries (Count.First n) from on = listing_second (listing (Form.EntryLine entries) (start_of from) (Some n)) on
     entries_second entries (Count.Last n) from on = last_second entries n from on
+    entries_second entries (Count.Tail n) from on = tail_second entries n on
 
 -- a fact about every plan
-module _ (s s' : Seen) (honest : IsHonest s) (stays : KeepsStore s s') (Holds : Plan → Type 0) (holds : (plan : Plan) → Holds plan) where
+module _ (s s' : Seen) (honest : IsHonest s) (stays : StaysHonest s s') (Holds : Plan → Type 0) (holds : (plan : Plan) → Holds plan) where
   pub entries_growing : (entries : Entries) (count : Count) (from : Option ℕ) → OnGrowingPlan (keeping_last (entries_job entries count from)) s s' Holds
-  entries_growing entries Count.All from = λ keeps first log grew. (first, log_now s s' stays honest first log, holds _)
-  entries_growing entries (Count.First n) from = λ keeps first log grew. (first, log_now s s' stays honest first log, holds _)
-  entries_growing entries (Count.Last n) from = λ first log grew. (first, log_now s s' stays honest first log, holds _)
+  entries_growing entries Count.All from = λ keeps first log grew. (first, log_now s s' stays.store honest first log, holds _)
+  entries_growing entries (Count.First n) from = λ keeps first log grew. (first, log_now s s' stays.store honest first log, holds _)
+  entries_growing entries (Count.Last n) from = λ first log grew. (first, log_now s s' stays.store honest first log, holds _)
+  entries_growing entries (Count.Tail n) from =
+      (s, First, stays_refl s honest, stays, tt, λ first log grew. (first, log_now s s' stays.store honest first log, holds _))
 
   pub named_growing : (wording : Wording) (records : List Row) (named : NameLookup) → OnGrowingNamed wording records named s s' Holds
   named_growing wording records (NameLookup.Events Count.All from) = entries_growing (entries_in wording (bytes_of_rows records)) Count.All from
   named_growing wording records (NameLookup.Events (Count.First n) from) = entries_growing (entries_in wording (bytes_of_rows records)) (Count.First n) from
   named_growing wording records (NameLookup.Events (Count.Last n) from) = entries_growing (entries_in wording (bytes_of_rows records)) (Count.Last n) from
+  named_growing wording records (NameLookup.Events (Count.Tail n) from) = entries_growing (entries_in wording (bytes_of_rows records)) (Count.Tail n) from
   named_growing wording records NameLookup.Devices = λ keeps. holds _
 
 -- ---- inventories that did not change

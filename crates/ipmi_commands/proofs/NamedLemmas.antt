@@ -14,8 +14,9 @@ use Rattle.ipmi_commands.proofs.DeviceLemmas.{row_with}
 use Rattle.ipmi_bus.proofs.HeldLemmas.{grew_first, keeps_same, keeps_second}
 use Rattle.ipmi_commands.proofs.ItemLemmas.{leaves_map, no_items}
 use Rattle.ipmi_commands.proofs.MeanwhileLemmas.{entries_growing, entries_second, log_first, named_growing, while_same, while_second}
-use Rattle.ipmi_commands.proofs.LastLemmas.{leaves_wide}
-use Rattle.ipmi_commands.proofs.PointLemmas.{among_after, quiet_there}
+use Rattle.ipmi_commands.proofs.LastLemmas.{leaves_wide, next_points-first}
+use Rattle.ipmi_commands.proofs.PointLemmas.{among_after, among_before, quiet_there}
+use Rattle.ipmi_commands.proofs.TailLemmas.{tail_all, tail_map}
 use Rattle.ipmi_commands.proofs.WholeLemmas.{whole_record}
 
 -- ---- the bytes of the records
@@ -54,19 +55,6 @@ read_records look_row split IsText bytes store walk text ok all printed =
 pub some_is : (a b : List ℕ) → Some a ≡ Some b → a ≡ b
 some_is a b is = cc is
 
--- ---- points
-
-among_before : (points more : List ReadPoint) (point : ReadPoint) → IsAmong points point
-    → IsAmong (points ++ more) point
-among_before (first ∷ points) more point among = elim among [ inl at ↦ inl at | inr later ↦ inr (among_before points more point later) ]
-among_before [] more point among = absurd among
-
--- these are the points of the first item, or of the end
-next_points-first : (points : List ReadPoint) (items : List Item) (at_end : List ReadPoint)
-    → next_points (with_first_points points items) (end_points_of_last points items at_end) ≡ points
-next_points-first points [] at_end = refl
-next_points-first points (item ∷ items) at_end = refl
-
 -- ---- entries with the names of their sensors
 
 -- the listing that `count` selects follows its plan
@@ -76,16 +64,19 @@ module _ (entries : Entries) (from : Option ℕ) (tries : Tries) (store : Store)
   entries_map More Count.All keep on = λ walk end w ends. keep _ _ (on walk end w ends)
   entries_map More (Count.First n) keep on = λ walk end w ends. keep _ _ (on walk end w ends)
   entries_map More (Count.Last n) keep on = λ walk end w ends. keep _ _ (on walk end w ends)
+  entries_map More (Count.Tail n) keep on = tail_map entries n tries tries store Holds More (λ plan calls. keep plan (calls tries)) on
 
   entries_all : (count : Count) → ((plan : Plan) (calls : ℕ) → Holds plan calls) → OnEntries entries count from tries store Holds
   entries_all Count.All holds = λ walk end w ends. holds _ _
   entries_all (Count.First n) holds = λ walk end w ends. holds _ _
   entries_all (Count.Last n) holds = λ walk end w ends. holds _ _
+  entries_all (Count.Tail n) holds = tail_all entries n tries store Holds (λ points plan calls some. holds _ calls)
 
   job_all : (count : Count) → ((plan : Plan) (calls : ℕ) → Holds plan calls) → FollowsPlan (keeping_last (entries_job entries count from)) tries store Holds
   job_all Count.All holds = λ walk end w ends. holds _ _
   job_all (Count.First n) holds = λ walk end w ends. holds _ _
   job_all (Count.Last n) holds = λ walk end w ends. holds _ _
+  job_all (Count.Tail n) holds = tail_all entries n tries store Holds (λ points plan calls some. holds _ calls)
 
 -- a fact about every plan
 pub named_all : (wording : Wording) (records : List Row) (end : WalkEnd) (tries : Tries) (store : Store) (Holds : Plan → ℕ → Type 0)
@@ -99,6 +90,7 @@ entries_calls : (entries : Entries) (count : Count) (from : Option ℕ) (tries :
 entries_calls entries Count.All from tries = omega arith
 entries_calls entries (Count.First n) from tries = omega arith
 entries_calls entries (Count.Last n) from tries = omega arith
+entries_calls entries (Count.Tail n) from tries = omega arith
 
 pub entries_end : (wording : Wording) (entries : Entries) (count : Count) (from : Option ℕ) (seen : Seen) (ending : Ending)
     → EndsListing (Form.EntryLine entries) seen ending → EndsNamed wording (NameLookup.Events count from) seen ending
@@ -109,18 +101,21 @@ entries_may : (wording : Wording) (entries : Entries) (count : Count) (from : Op
 entries_may wording entries Count.All from c ending ends = entries_end wording entries Count.All from c.seen' ending ends
 entries_may wording entries (Count.First n) from c ending ends = entries_end wording entries (Count.First n) from c.seen' ending ends
 entries_may wording entries (Count.Last n) from c ending ends = entries_end wording entries (Count.Last n) from c.seen' ending ends
+entries_may wording entries (Count.Tail n) from c ending ends = entries_end wording entries (Count.Tail n) from c.seen' ending ends
 
 -- out of memory for the table of sensors
 memory_end : (entries : Entries) (count : Count) (from : Option ℕ) (c : Change) → MayEnd (keeping_last (entries_job entries count from)) c (Err Failure.OutOfMemory)
 memory_end entries Count.All from c = tt
 memory_end entries (Count.First n) from c = tt
 memory_end entries (Count.Last n) from c = tt
+memory_end entries (Count.Tail n) from c = tt
 
 memory_traces : (entries : Entries) (count : Count) (from : Option ℕ) (s : Seen) (text : Output)
     → TracesJob (keeping_last (entries_job entries count from)) (change s s text text) (Err Failure.OutOfMemory)
 memory_traces entries Count.All from s text = (Err Failure.OutOfMemory, refl, inl (inl refl, refl, refl))
 memory_traces entries (Count.First n) from s text = (Err Failure.OutOfMemory, refl, inl (inl refl, refl, refl))
 memory_traces entries (Count.Last n) from s text = inl (refl, refl, refl)
+memory_traces entries (Count.Tail n) from s text = inl (tt, refl)
 
 pub events_without_memory : (entries : Entries) (count : Count) (from : Option ℕ) (tries : Tries) (s : Seen) (text : Output)
     → Runs (keeping_last (entries_job entries count from)) tries (change s s text text) (Err Failure.OutOfMemory)
@@ -129,7 +124,7 @@ events_without_memory entries count from tries s text = record {
   ends = memory_end entries count from (change s s text text);
   why = λ h. ends_here h refl tt;
   prints = λ h same. job_all entries from tries s.store _ count (λ plan calls. (no_items (IsPieceOver s.store) plan text text refl, omega arith));
-  grows = λ h. entries_growing s s h (stays_refl s h).store _ (λ plan. no_items (IsTextWhile s s) plan text text refl) entries count from;
+  grows = λ h. entries_growing s s h (stays_refl s h) _ (λ plan. no_items (IsTextWhile s s) plan text text refl) entries count from;
   traces = λ h. memory_traces entries count from s text;
 }
 
@@ -227,7 +222,7 @@ module _ (tries : Tries) (s s' : Seen) (kept : Output) (wording : Wording) (name
           omega (arith, along.calls),
         ));
     grows = λ h first log grew.
-        let ends = (page_of h).ends.stays.store in
+        let ends = (page_of h).ends.stays in
         let walked = (page_of h).grows tt first log grew in (
           walked.0,
           walked.1,

@@ -26,6 +26,11 @@ pub points_at_walk_end-joined : (start : Place) (done rest : List Row) (end : Wa
 points_at_walk_end-joined start [] rest end = refl
 points_at_walk_end-joined start (d ∷ done) rest end = grind (arith, not_first d.next done)
 
+pub among_before : (points more : List ReadPoint) (point : ReadPoint) → IsAmong points point
+    → IsAmong (points ++ more) point
+among_before (first ∷ points) more point among = elim among [ inl at ↦ inl at | inr later ↦ inr (among_before points more point later) ]
+among_before [] more point among = absurd among
+
 pub among_after : (points ends : List ReadPoint) (point : ReadPoint) → IsAmong ends point
     → IsAmong (points ++ ends) point
 among_after [] ends point among = among

@@ -1,13 +1,14 @@
 -- A run over an image, and rewriting an image.
 use Rattle.std.proofs.Common.{◌≡◌, ◌⊎◌, inl, inr, ℕ, ◌+◌, arith, false, IsTrue, Option, None, Some, Result, Ok, Err, List, [], refl, subst, sym, ap₂, ◌∙◌}
 use Rattle.ipmi_commands.specs.Below.{CommandState, Count, Failure, failure_of_image, ImageFault, Row, Store, Seen, WalkEnd, IsHonest, image_text_of, Ending, Task}
-use Rattle.ipmi_commands.specs.Prelude.{after_names, AnswersJob, change, for_inventory, Form, IsAllowed, IsRewriting, IsPieceOver, Job, job_in, job_of, job_of_command, NameLookup, no_output, OnBytes, OfImage, OnNamed, FollowsPlan, pieces_of, faults_of, Plan, printed, rewrite_plan, Runs, RunsCommand, RunsOver, walk_call_bound, Wording, WritesPiece}
+use Rattle.ipmi_commands.specs.Prelude.{after_names, AnswersJob, bytes_of_rows, change, entries_in, for_inventory, Form, IsAllowed, IsRewriting, IsPieceOver, Job, job_in, job_of, job_of_command, NameLookup, no_output, OnBytes, OfImage, OnNamed, FollowsPlan, pieces_of, faults_of, Plan, printed, rewrite_plan, Runs, RunsCommand, RunsOver, walk_call_bound, Wording, WritesPiece}
 use Rattle.ipmi_commands.specs.Output.{Output, piece_of}
 use Rattle.ipmi_commands.specs.declared.summary.Summary.{Summary}
 use Rattle.ipmi_commands.specs.declared.limits.Tries.{Tries}
 use Rattle.ipmi_commands.proofs.NamedLemmas.{named_all}
 use Rattle.ipmi_commands.proofs.ItemLemmas.{no_items}
 use Rattle.ipmi_commands.proofs.PerformLemmas.{text_leaves}
+use Rattle.ipmi_commands.proofs.TailLemmas.{tail_all, tail_map}
 
 -- ---- a command, in codes
 
@@ -48,6 +49,8 @@ named_kept : (Holds : Plan → Type 0) (wording : Wording) (records : List Row) 
 named_kept Holds wording records end (NameLookup.Events Count.All from) tries store More keep on = λ walk e w ends. keep _ _ (on walk e w ends)
 named_kept Holds wording records end (NameLookup.Events (Count.First n) from) tries store More keep on = λ walk e w ends. keep _ _ (on walk e w ends)
 named_kept Holds wording records end (NameLookup.Events (Count.Last n) from) tries store More keep on = λ walk e w ends. keep _ _ (on walk e w ends)
+named_kept Holds wording records end (NameLookup.Events (Count.Tail n) from) tries store More keep on =
+    tail_map (entries_in wording (bytes_of_rows records)) n tries (for_inventory 0) store More (λ plan calls. Holds plan) (λ plan calls more. keep plan (calls tries) more) on
 named_kept Holds wording records end NameLookup.Devices tries store More keep on = keep _ _ on
 
 plan_kept : (Holds : Plan → Type 0) (job : Job) (tries : Tries) (store : Store) (More : Plan → ℕ → Type 0)
@@ -56,6 +59,8 @@ plan_kept : (Holds : Plan → Type 0) (job : Job) (tries : Tries) (store : Store
 plan_kept Holds (Job.Records l) tries store More keep on = λ walk end w ends. keep _ _ (on walk end w ends)
 plan_kept Holds (Job.Last entries n from) tries store More keep on = λ walk end w ends. keep _ _ (on walk end w ends)
 plan_kept Holds (Job.LastKept entries n from) tries store More keep on = λ walk end w ends. keep _ _ (on walk end w ends)
+plan_kept Holds (Job.Tail entries n) tries store More keep on =
+    tail_map entries n tries 0 store More (λ plan calls. Holds plan) (λ plan calls more. keep plan (calls tries) more) on
 plan_kept Holds (Job.NameLookup wording named) tries store More keep on = λ records end w ends.
     named_kept (λ plan. Holds (after_names records end plan)) wording records end named tries store
     (λ plan calls. More (after_names records end plan) (walk_call_bound Form.Bytes store tries records + calls))
@@ -87,6 +92,7 @@ plan_all : (Holds : Plan → Type 0) (job : Job) (store : Store) → ((plan : Pl
 plan_all Holds (Job.Records l) store holds = λ walk end w ends. holds _
 plan_all Holds (Job.Last entries n from) store holds = λ walk end w ends. holds _
 plan_all Holds (Job.LastKept entries n from) store holds = λ walk end w ends. holds _
+plan_all Holds (Job.Tail entries n) store holds = tail_all entries n (for_inventory 0) store (λ plan calls. Holds plan) (λ points plan calls some. holds _)
 plan_all Holds (Job.NameLookup wording named) store holds = λ records end w ends.
     named_all wording records end (for_inventory 0) store (λ plan calls. Holds (after_names records end plan)) named (λ plan calls. holds _)
 plan_all Holds (Job.AllInventories wording name) store holds = λ walk end w ends. holds _

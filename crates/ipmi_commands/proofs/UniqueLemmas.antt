@@ -1,9 +1,9 @@
 -- Items have at most one text, and a finished run has at most one output.
-use Rattle.std.proofs.Common.{◌≡◌, ℕ, zero, suc, ◌-◌, Bool, Option, None, Some, Result, Ok, Err, List, [], ◌∷◌, length, take, drop, sym, ap, ◌∙◌, arith}
-use Rattle.ipmi_commands.specs.Below.{Count, IsStore, WalkEnd, Shelf, Sdr, Sel, Place, First, start_of, Row, IsShelf, FoundIsRow, AreBytes, Reading, Store, info_of, rows_of, store_shelf, AllOf, WalkExists, place_after, place_after_rows, IsFruLine, IsFruText, SdrFault, SdrView, IsInfoBlock, IsSdrBlock, entry_bytes, sdr_view_of, SelView, sel_view_of, SdrLineIsUnique, ExtendedLineIsUnique, SelLineIsUnique, SelBlockIsUnique, EventInWordsIsUnique, SensorBlockIsUnique, SensorLineIsUnique, Ending}
+use Rattle.std.proofs.Common.{◌≡◌, ℕ, ◌+◌, zero, suc, ◌-◌, Bool, true, false, Option, None, Some, Result, Ok, Err, List, [], ◌∷◌, length, take, drop, sym, ap, ◌∙◌, arith}
+use Rattle.ipmi_commands.specs.Below.{Count, IsStore, WalkEnd, Shelf, Sdr, Sel, Place, First, Id, start_of, Row, IsShelf, FoundIsRow, AreBytes, Reading, Store, info_of, rows_of, store_shelf, AllOf, WalkExists, place_after, place_after_rows, IsFruLine, IsFruText, SdrFault, SdrView, IsInfoBlock, IsSdrBlock, entry_bytes, sdr_view_of, SelView, sel_view_of, SdrLineIsUnique, ExtendedLineIsUnique, SelLineIsUnique, SelBlockIsUnique, EventInWordsIsUnique, SensorBlockIsUnique, SensorLineIsUnique, Ending}
 use Rattle.ipmi_json.specs.Sdr.{bytes_members, fault_members}
 use Rattle.ipmi_json.specs.Laws.{DeviceLineIsUnique, EntryLineIsUnique, InfoLineIsUnique, ObjectLineIsUnique, RecordLineIsUnique}
-use Rattle.ipmi_commands.specs.Prelude.{after_names, bytes_of_rows, NameLookup, OnNamed, PrintsAll, AreOfBytes, Detail, Entries, entries_in, first_rows, FinishedRunsAreOne, Form, IfChosen, info_plan, Printed, IsBlockIn, IsBlockOfName, IsEntryLine, IsInfoIn, IsInventoryIn, IsInventoryText, IsLocatorPiece, IsOfBytes, IsRecordLine, IsRowText, IsTextOver, IsPieceOver, is_faulty, Item, ItemsHaveOneText, Job, last_items, last_plan, last_rows, OnWalk, reading_for, row_items, shelf_of, ReadPoint, points_of_walk, Subject, with_first_points, Wording}
+use Rattle.ipmi_commands.specs.Prelude.{after_names, after_points, AtRecord, bytes_of_rows, has_last, OnTail, OnTailFrom, OnTried, OnWhole, Plan, tail_from, NameLookup, OnNamed, PrintsAll, AreOfBytes, Detail, Entries, entries_in, first_rows, FinishedRunsAreOne, Form, IfChosen, info_plan, Printed, IsBlockIn, IsBlockOfName, IsEntryLine, IsInfoIn, IsInventoryIn, IsInventoryText, IsLocatorPiece, IsOfBytes, IsRecordLine, IsRowText, IsTextOver, IsPieceOver, is_faulty, Item, ItemsHaveOneText, Job, last_items, last_plan, last_rows, OnWalk, reading_for, row_items, shelf_of, ReadPoint, points_of_walk, Subject, walk_call_bound, with_first_points, Wording}
 use Rattle.ipmi_commands.specs.Output.{Output, piece_of}
 use Rattle.ipmi_commands.specs.declared.limits.Tries.{Tries}
 
@@ -137,6 +137,36 @@ module _ (one : ItemsHaveOneText) (exists : WalkExists) (look_row : FoundIsRow) 
   one_plan store {items} bytes x y =
       (x.0.new_is ∙ rw (one store items x.0.text y.0.text bytes x.0.are y.0.are) (sym y.0.new_is), x.1 ∙ sym y.1)
 
+  -- along the walk that has the last entries
+  module _ (store : Store) (ok : IsStore store) (entries : Entries) (n tries tries' : ℕ) {A B : Plan → Type 0} {R : Type 0}
+      (both : (plan : Plan) → AreOfBytes plan.items → A plan → B plan → R) where
+    tail_bytes : (start : Place) (points : List ReadPoint) (walk : List Row) (end : WalkEnd) → AllOf store.sel walk
+        → AreOfBytes (after_points points (last_plan entries n start walk end)).items
+    tail_bytes start points walk end all = first_kept _ _ (first_kept (points_of_walk start walk end) (last_items entries n start walk end)
+        (rows_are_bytes look_row (Form.EntryLine entries) Sel store.sel (place_after_rows start (take (length walk - n) walk)) (last_rows n walk end) ok.sel (grind (arith, parts_of_shelf (length walk - n) store.sel walk all))))
+
+    whole_meets : (points : List ReadPoint) (calls calls' : ℕ) → OnWhole points calls entries n tries store (λ plan c. A plan)
+        → OnWhole points calls' entries n tries' store (λ plan c. B plan) → R
+    whole_meets points calls calls' x y =
+        let there = exists Sel store.sel First ok.sel in
+        both _ (tail_bytes First points there.0 there.1 there.2.of_shelf) (x there.0 there.1 there.2 there.3) (y there.0 there.1 there.2 there.3)
+
+    tried_meets : (has : Bool) (id : ℕ) (walk : List Row) (end : WalkEnd) → AllOf store.sel walk
+        → OnTried has id walk end entries n tries store (λ plan c. A plan) → OnTried has id walk end entries n tries' store (λ plan c. B plan) → R
+    tried_meets true id walk end all x y = both _ (tail_bytes (Id id) (AtRecord 0 ∷ []) walk end all) x y
+    tried_meets false id walk end all x y = whole_meets (AtRecord 0 ∷ points_of_walk (Id id) walk end)
+        (tries + 1 + walk_call_bound Form.Skipped store tries walk) (tries' + 1 + walk_call_bound Form.Skipped store tries' walk) x y
+
+    from_meets : (start : Option ℕ) → OnTailFrom start entries n tries store (λ plan c. A plan)
+        → OnTailFrom start entries n tries' store (λ plan c. B plan) → R
+    from_meets None x y = whole_meets (AtRecord 0 ∷ []) (tries + 1) (tries' + 1) x y
+    from_meets (Some id) x y =
+        let there = exists Sel store.sel (Id id) ok.sel in
+        tried_meets (has_last n there.0 there.1) id there.0 there.1 there.2.of_shelf (x there.0 there.1 there.2 there.3) (y there.0 there.1 there.2 there.3)
+
+    tail_meets : OnTail entries n tries store (λ plan c. A plan) → OnTail entries n tries' store (λ plan c. B plan) → R
+    tail_meets x y = from_meets (tail_from n (info_of Sel store)) x y
+
   -- after reading the names
   one_named : (store : Store) (old a b : Output) (e f : Ending) (wording : Wording) (named : NameLookup)
       (tries tries' : Tries) (rows : List Row) (end : WalkEnd) → IsStore store → AllOf store.sdr rows
@@ -157,6 +187,8 @@ module _ (one : ItemsHaveOneText) (exists : WalkExists) (look_row : FoundIsRow) 
       one_plan store (first_kept _ _ (first_kept (points_of_walk start there.0 there.1) (last_items (entries_in wording (bytes_of_rows rows)) n start there.0 there.1)
       (rows_are_bytes look_row (Form.EntryLine (entries_in wording (bytes_of_rows rows))) Sel store.sel (place_after_rows start (take (length there.0 - n) there.0)) (last_rows n there.0 there.1) ok.sel (grind (arith, parts_of_shelf (length there.0 - n) store.sel there.0 there.2.of_shelf)))))
       (x there.0 there.1 there.2 there.3) (y there.0 there.1 there.2 there.3)
+  one_named store old a b e f wording (NameLookup.Events (Count.Tail n) from) tries tries' rows end ok all x y =
+      tail_meets store ok (entries_in wording (bytes_of_rows rows)) n tries tries' (λ plan bytes p q. one_plan store (first_kept _ _ bytes) p q) x y
   one_named store old a b e f wording NameLookup.Devices tries tries' rows end ok all x y =
       one_plan store (tt, rows_are_bytes look_row (Form.Device wording) Sdr store.sdr First rows ok.sdr all) x y
 
@@ -181,6 +213,8 @@ module _ (one : ItemsHaveOneText) (exists : WalkExists) (look_row : FoundIsRow) 
       (x there.0 there.1 there.2 there.3) (y there.0 there.1 there.2 there.3)
   one_output (Job.Last entries n from) tries tries' store old a b e f ok x y = one_last store old a b e f entries n from ok x y
   one_output (Job.LastKept entries n from) tries tries' store old a b e f ok x y = one_last store old a b e f entries n from ok x y
+  one_output (Job.Tail entries n) tries tries' store old a b e f ok x y =
+      tail_meets store ok entries n tries tries' (λ plan bytes p q. one_plan store bytes p q) x y
   one_output (Job.NameLookup wording named) tries tries' store old a b e f ok x y =
       let there = exists Sdr store.sdr First ok.sdr in
       one_named store old a b e f wording named tries tries' there.0 there.1 ok there.2.of_shelf

@@ -4,7 +4,7 @@ pub use Rattle.ipmi_text.specs.Bytes.{AreBytes}
 pub use Rattle.ipmi_text.specs.declared.reading.Reading.{Reading}
 pub use Rattle.ipmi_fru.specs.Line.{elsewhere_line, IsFruLine}
 pub use Rattle.ipmi_fru.specs.Print.{IsFruText}
-pub use Rattle.ipmi_records.specs.Info.{IsInfoBlock}
+pub use Rattle.ipmi_records.specs.Info.{info_in, IsInfoBlock}
 pub use Rattle.ipmi_records.specs.Laws.{ExtendedLineIsUnique, SdrLineIsUnique, SelBlockIsUnique, SelLineIsUnique}
 pub use Rattle.ipmi_records.specs.Sdr.{fru_of, sdr_view_of}
 pub use Rattle.ipmi_records.specs.SdrText.{fault_line, IsExtendedLine, IsSdrBlock, IsSdrLine, printed_name}
@@ -38,7 +38,7 @@ pub use Rattle.ipmi_bus.specs.Store.{info_of, Inventory, inventory_in, inventory
 pub use Rattle.ipmi_bus.specs.Tries.{IsTrouble, LastCallSays, LastFailed, LastFruCallSays, NotGivenUpOrRefused, RefusesRecord, RefusesValue}
 pub use Rattle.ipmi_bus.specs.declared.code.CodeClass.{CodeClass}
 pub use Rattle.ipmi_bus.specs.declared.code.CodeClass.TheVariants.{NotPresent}
-pub use Rattle.ipmi_bus.specs.Walk.{AllOf, CycleAt, Done, EndsAfter, EndsBy, EndsEmpty, has_id, IsWalk, last_next, MissingAt, place_after, place_after_rows, row_at, TailIsWalk, WalkEnd, WalkExists}
+pub use Rattle.ipmi_bus.specs.Walk.{AllOf, CycleAt, Done, EndsAfter, EndsBy, EndsEmpty, has_id, IsWalk, last_next, MissingAt, place_after, place_after_rows, RestIsWalk, row_at, TailIsWalk, WalkEnd, WalkExists, WalkIsUnique}
 pub use Rattle.ipmi_bus.specs.declared.controller.Shelf.{Shelf}
 pub use Rattle.ipmi_bus.specs.declared.controller.Shelf.TheVariants.{Sdr, Sel}
 pub use Rattle.ipmi_bus.specs.declared.inventory_reader.FruEnded.{FruEnded}

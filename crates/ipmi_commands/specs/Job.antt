@@ -34,6 +34,7 @@ entries_job entries Count.All from =
 entries_job entries (Count.First n) from =
     Job.Records (listing (Form.EntryLine entries) (start_of from) (Some n))
 entries_job entries (Count.Last n) from = Job.Last entries n from
+entries_job entries (Count.Tail n) from = Job.Tail entries n
 
 -- the same job, but the last entries of the log are kept in memory along one walk, and not counted on a first one
 abbrev pub keeping_last : Job → Job
@@ -122,6 +123,7 @@ abbrev pub IsJob : Job → Type 0
 IsJob (Job.Records l) = IsPlace l.start
 IsJob (Job.Last entries n from) = (1 ≤ n) × IsFrom from
 IsJob (Job.LastKept entries n from) = (1 ≤ n) × IsFrom from
+IsJob (Job.Tail entries n) = 1 ≤ n
 IsJob (Job.NameLookup wording named) = IsNamed named
 IsJob _ = Unit {0}
 

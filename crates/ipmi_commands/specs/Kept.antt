@@ -41,7 +41,7 @@ abbrev pub Keeps : ℕ → (Subject → Output → Type 0) → Place → List Ro
     → Type 0
 Keeps n IsText start walk end text kept (Ok done) = (end ≡ Done) × (kept ≡ last_of n (kept_rows walk))
 Keeps n IsText start walk end text kept (Err failure) =
-    (entries : Entries) → IsAllowed IsText (last_plan entries n start walk end) text text (Err failure)
+    (entries : Entries) (most : ℕ) → IsAllowed IsText (last_plan entries most start walk end) text text (Err failure)
 
 -- the walk of the cursor that kept them
 pub record KeepsFrom (n : ℕ) (start : Place) (s s' : Seen) (text : Output) (kept : List KeptEntry) (ending : Ending) : Type 0 where

@@ -1,6 +1,6 @@
 -- Laws of plans. They follow from the definitions of plans.
-use Rattle.std.specs.Prelude.{◌≡◌, List, [], ◌∷◌}
-use Rattle.ipmi_commands.specs.Below.{AreBytes, Store, IsStore, Ending}
+use Rattle.std.specs.Prelude.{◌≡◌, ◌≢◌, ℕ, true, List, [], ◌∷◌}
+use Rattle.ipmi_commands.specs.Below.{AreBytes, Done, EndsBy, First, has_id, Id, IsLog, IsWalk, Row, rows_of, Sel, Store, IsStore, Ending, WalkEnd}
 use Rattle.ipmi_commands.specs.declared.limits.Tries.{Tries}
 use Rattle.ipmi_commands.specs.declared.job.Detail.{Detail}
 use Rattle.ipmi_commands.specs.declared.job.Entries.{Entries}
@@ -9,8 +9,9 @@ use Rattle.ipmi_commands.specs.declared.job.Job.{Job}
 use Rattle.ipmi_commands.specs.declared.job.Wording.{Wording}
 use Rattle.ipmi_commands.specs.Allowed.{AreTexts, PrintsAll}
 use Rattle.ipmi_commands.specs.Output.{Output}
-use Rattle.ipmi_commands.specs.Plan.{Item}
+use Rattle.ipmi_commands.specs.Plan.{Item, last_rows}
 use Rattle.ipmi_commands.specs.Run.{FollowsPlan}
+use Rattle.ipmi_commands.specs.Tail.{has_last}
 use Rattle.ipmi_commands.specs.Texts.{Subject, OfRow, OfInfo, OfInventory, OfImage, IsPieceOver}
 
 -- the numbers in a subject are bytes, as in a well-formed store
@@ -56,6 +57,13 @@ ItemsHaveAText = (store : Store) (items : List Item) → IsStore store → AreIn
 abbrev pub ItemsHaveOneText : Type 0
 ItemsHaveOneText = (store : Store) (items : List Item) (a b : Output) → AreOfBytes items
     → AreTexts (IsPieceOver store) items a → AreTexts (IsPieceOver store) items b → a ≡ b
+
+-- if the log from the first entry ends with FFFFh and has an entry with this id, a walk from it that has n entries or more has the
+-- last n of the log
+abbrev pub TailsAreOfTheLog : Type 0
+TailsAreOfTheLog = (store : Store) (n id : ℕ) (log walk : List Row) (end : WalkEnd) → IsStore store → IsLog Sel First store log
+    → has_id log id ≡ true → id ≢ 0 → IsWalk (rows_of Sel store) (Id id) walk → EndsBy (rows_of Sel store) (Id id) walk end
+    → has_last n walk end ≡ true → last_rows n walk end ≡ last_rows n log Done
 
 -- over a well-formed store, a finished run has only one possible output and one possible end,
 -- whatever its tries

@@ -16,5 +16,6 @@ pub mod Prelude
 pub mod Printed
 pub mod Run
 pub mod Sensors
+pub mod Tail
 pub mod Texts
 pub mod Traced

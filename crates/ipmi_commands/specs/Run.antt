@@ -17,14 +17,20 @@ use Rattle.ipmi_commands.specs.Meanwhile.{IsTextWhile, OnGrowingListing}
 use Rattle.ipmi_commands.specs.Output.{and_then, IsCut, Output, piece_of}
 use Rattle.ipmi_commands.specs.Pages.{ArePages, IsOneListing, pages_made}
 use Rattle.ipmi_commands.specs.Plan.{OnWalk, AtInventory, Plan, after_names, bytes_of_rows, first_rows, last_rows, listing_plan, last_plan, inventory_plan, inventories_plan, info_plan, rewrite_plan}
+use Rattle.ipmi_commands.specs.Tail.{OnGrowingTail, OnTail, TracesTail}
 use Rattle.ipmi_commands.specs.Texts.{is_faulty_device, IsInventoryIn, IsPieceOver}
 use Rattle.ipmi_commands.specs.Traced.{Traces, TracesLast}
 
 -- ---- over any controller
 
+-- the largest number of calls for an info and two walks of the log
+abbrev pub most_on_tail : Tries → ℕ
+most_on_tail tries = tries.count + 1 + (most_on_walk Form.Skipped tries + most_on_walk Form.Skipped tries)
+
 -- the largest number of calls for what is listed with names, after the walk that reads them; an
 -- inventory has at most 65,535 bytes, and at most 65,536 records locate a device besides device 0
 abbrev pub most_named : NameLookup → Tries → ℕ
+most_named (NameLookup.Events (Count.Tail n) from) tries = most_on_tail tries
 most_named (NameLookup.Events count from) tries = most_on_walk Form.Skipped tries
 most_named NameLookup.Devices tries = 65537 * inventory_call_bound tries 65535
 
@@ -34,6 +40,7 @@ most_calls (Job.Records l) tries = most_on_walk l.form tries
 most_calls (Job.Last entries n from) tries =
     most_on_walk Form.Skipped tries + most_on_walk Form.Skipped tries
 most_calls (Job.LastKept entries n from) tries = most_on_walk Form.Skipped tries
+most_calls (Job.Tail entries n) tries = most_on_tail tries
 most_calls (Job.NameLookup wording named) tries =
     most_on_walk Form.Bytes tries + most_named named tries
 most_calls (Job.Info wording shelf) tries = tries.count + 1
@@ -128,6 +135,7 @@ abbrev pub MayEnd : Job → Change → Ending → Type 0
 MayEnd (Job.Records l) c ending = EndsListing l.form c.seen' ending
 MayEnd (Job.Last entries n from) c ending = EndsListing (Form.EntryLine entries) c.seen' ending
 MayEnd (Job.LastKept entries n from) c ending = EndsListing (Form.EntryLine entries) c.seen' ending
+MayEnd (Job.Tail entries n) c ending = EndsListing (Form.EntryLine entries) c.seen' ending
 MayEnd (Job.NameLookup wording named) c ending = EndsNamed wording named c.seen' ending
 MayEnd (Job.Info wording shelf) c ending = EndsInfo c.seen' ending
 MayEnd (Job.Inventory wording id name) c ending = EndsInventory wording id name c ending
@@ -181,6 +189,7 @@ OnEntries entries Count.All from tries store Holds =
 OnEntries entries (Count.First n) from tries store Holds =
     OnListing (listing (Form.EntryLine entries) (start_of from) (Some n)) tries store Holds
 OnEntries entries (Count.Last n) from tries store Holds = OnLastKept entries n from tries store Holds
+OnEntries entries (Count.Tail n) from tries store Holds = OnTail entries n tries store Holds
 
 -- what is listed with the names in the sensor data records on this walk, in this wording; devices are
 -- those that these records locate
@@ -197,6 +206,7 @@ abbrev pub FollowsPlan : Job → Tries → Store → (Plan → ℕ → Type 0) �
 FollowsPlan (Job.Records l) tries store Holds = OnListing l tries store Holds
 FollowsPlan (Job.Last entries n from) tries store Holds = OnLast entries n from tries store Holds
 FollowsPlan (Job.LastKept entries n from) tries store Holds = OnLastKept entries n from tries store Holds
+FollowsPlan (Job.Tail entries n) tries store Holds = OnTail entries n tries store Holds
 FollowsPlan (Job.NameLookup wording named) tries store Holds =
     OnWalk Sdr First store (λ records end. OnNamed wording records end named tries store
     (λ plan calls. Holds (after_names records end plan)
@@ -237,6 +247,7 @@ OnGrowingEntries entries Count.All from s s' Holds =
 OnGrowingEntries entries (Count.First n) from s s' Holds =
     OnGrowingListing (listing (Form.EntryLine entries) (start_of from) (Some n)) s s' Holds
 OnGrowingEntries entries (Count.Last n) from s s' Holds = OnGrowingLastKept entries n from s s' Holds
+OnGrowingEntries entries (Count.Tail n) from s s' Holds = OnGrowingTail entries n s s' Holds
 
 abbrev pub OnGrowingNamed : Wording → List Row → NameLookup → Seen → Seen → (Plan → Type 0) → Type 0
 OnGrowingNamed wording records (NameLookup.Events count from) s s' Holds =
@@ -251,6 +262,7 @@ abbrev pub OnGrowingPlan : Job → Seen → Seen → (Plan → Type 0) → Type 
 OnGrowingPlan (Job.Records l) s s' Holds = OnGrowingListing l s s' Holds
 OnGrowingPlan (Job.Last entries n from) s s' Holds = OnGrowingLast entries n from s s' Holds
 OnGrowingPlan (Job.LastKept entries n from) s s' Holds = OnGrowingLastKept entries n from s s' Holds
+OnGrowingPlan (Job.Tail entries n) s s' Holds = OnGrowingTail entries n s s' Holds
 OnGrowingPlan (Job.NameLookup wording named) s s' Holds = OnGrowing Sdr First s s' (λ records.
     OnGrowingNamed wording records named s s'
     (λ plan. Holds (after_names records Done plan)))
@@ -268,11 +280,12 @@ abbrev pub PrintsWhile : Job → Change → Ending → Type 0
 PrintsWhile job c ending = OnGrowingPlan job c.seen c.seen'
     (λ plan. IsAllowed (IsTextWhile c.seen c.seen') plan c.old c.new ending)
 
--- a job that is one listing, or one walk that keeps the last entries; nothing is promised of other jobs
+-- a job that is one listing, or a walk that keeps the last entries; nothing is promised of other jobs
 abbrev pub TracesJob : Job → Change → Ending → Type 0
 TracesJob (Job.Records l) c ending = (result : Result Place Failure) × (ending ≡ ending_of result)
     × Traces l.form l.start l.most c result
 TracesJob (Job.LastKept entries n from) c ending = TracesLast entries n (start_of from) c ending
+TracesJob (Job.Tail entries n) c ending = TracesTail entries n c ending
 TracesJob job c ending = Unit {0}
 
 -- ---- a run

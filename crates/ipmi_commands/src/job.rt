@@ -86,7 +86,7 @@ pub struct Listing<'a> {
 #[derive(Clone, Copy)]
 pub enum NameLookup {
     /// The entries of the event log that the count selects, with the names of their sensors. The walk starts at this
-    /// id, or at the first entry.
+    /// id, or at the first entry; of `Count::Tail` it starts as that says.
     Events(Count, Option<u16>),
     /// All FRU devices, with the name of device 0 too.
     Devices,
@@ -102,6 +102,9 @@ pub enum Job<'a> {
     Last(Entries<'a>, u16, Option<u16>),
     /// The same along one walk, which keeps these entries in memory until they are printed.
     LastKept(Entries<'a>, u16, Option<u16>),
+    /// The same along a walk that begins where the info of the event log suggests, if that walk has so many entries and an end,
+    /// and otherwise at the first entry.
+    Tail(Entries<'a>, u16),
     /// Reads the sensor data records for names, then lists with these names, in this wording.
     NameLookup(Wording<'a>, NameLookup),
     /// Prints the info of the shelf, in this wording.
@@ -198,6 +201,7 @@ impl<'a> Job<'a> {
                 Job::records(Form::EntryLine(Entries::Plain), from, Some(u32::from(n)))
             }
             Count::Last(n) => Job::Last(Entries::Plain, n, from),
+            Count::Tail(n) => Job::Tail(Entries::Plain, n),
         }
     }
 

@@ -22,21 +22,21 @@ use std::collections::VecDeque;
 
 /// An entry of the event log.
 #[derive(Clone, Copy)]
-struct KeptEntry {
+pub(crate) struct KeptEntry {
     id: u16,
     bytes: [u8; SEL_ENTRY_LEN],
 }
 
 /// The last entries of a walk so far, at most `most` of them.
 #[derive(Drop)]
-struct LastEntries {
+pub(crate) struct LastEntries {
     most: u16,
     entries: VecDeque<KeptEntry>,
 }
 
 impl LastEntries {
     /// Those of a walk that returned no entry.
-    fn new(alloc: Global, most: u16) -> LastEntries
+    pub(crate) fn new(alloc: Global, most: u16) -> LastEntries
         ensures most { result.most ≡ most }
         ensures none { result.entries.items ≡ [] }
     {
@@ -44,6 +44,13 @@ impl LastEntries {
             most,
             entries: VecDeque::new(alloc),
         }
+    }
+
+    /// The number of these entries.
+    pub(crate) fn count(&self) -> usize
+        ensures { result ≡ length self.now.entries.items }
+    {
+        self.entries.len()
     }
 
     /// Forgets the first entry if there is no room for another one.
@@ -105,7 +112,7 @@ fn keep_after<'a, C: Controller>(
 }
 
 /// Keeps the last entries of a walk that starts at the id `from`, or at the first entry.
-fn keep_entries<'a, C: Controller>(
+pub(crate) fn keep_entries<'a, C: Controller>(
     alloc: Global,
     ctl: &mut C,
     limits: RequestLimits,
@@ -145,7 +152,7 @@ fn print_entry<'a, O: Sink>(
 }
 
 /// Prints the lines of the entries, and forgets them.
-fn print_entries<'a, O: Sink>(
+pub(crate) fn print_entries<'a, O: Sink>(
     alloc: Global,
     kept: &mut LastEntries,
     entries: &Entries<'_>,

@@ -1,5 +1,5 @@
 //! Laws of plans. They follow from the definitions of plans. Each law is the contract of a function that does nothing.
-ghost use Rattle.ipmi_commands.specs.Prelude.{FinishedRunsAreOne, ItemsHaveAText, ItemsHaveOneText};
+ghost use Rattle.ipmi_commands.specs.Prelude.{FinishedRunsAreOne, ItemsHaveAText, ItemsHaveOneText, TailsAreOfTheLog};
 ghost use Rattle.ipmi_commands.specs.Sensors.{BlocksAreOfListing};
 
 /// Over a well-formed store, each list of items in codes and in words has a text.
@@ -52,3 +52,11 @@ pub fn finished_runs_are_one()
 pub fn blocks_are_of_a_listing()
     ensures { BlocksAreOfListing }
 {}
+
+/// If the log has an entry with an id, and the walk from it has so many entries or more, its last ones are those of the log.
+pub fn tails_are_of_the_log()
+    ensures { TailsAreOfTheLog }
+{
+    ipmi_bus::laws::one_walk_has_an_end();
+    ipmi_bus::laws::the_rest_is_a_walk();
+}

@@ -18,6 +18,7 @@ mod read_error;
 mod runs;
 mod sensors;
 mod summary;
+mod tail;
 
 pub use job::{Job, Wording};
 pub use limits::{LIVE_PART, RequestLimits, Tries};

@@ -15,6 +15,7 @@ use crate::limits::RequestLimits;
 use crate::named::{list_named, list_named_pages};
 use crate::pages::{list_page, list_pages};
 use crate::summary::Summary;
+use crate::tail::list_tail;
 use ipmi_bus::{Controller, Place, Shelf};
 use ipmi_command_line::Count;
 use ipmi_output::{Failure, RecordName, Sink, write_all};
@@ -112,6 +113,7 @@ pub(crate) fn list_entries<'a, C: Controller, O: Sink>(
             list_first(alloc, ctl, limits, entries, from, most, out, summary)
         }
         Count::Last(n) => list_kept(alloc, ctl, limits, entries, n, from, out, summary),
+        Count::Tail(n) => list_tail(alloc, ctl, limits, entries, n, out, summary),
     }
 }
 
@@ -215,6 +217,9 @@ pub fn execute<'a, C: Controller, O: Sink>(
         }
         Job::LastKept(entries, wanted, from) => {
             list_kept(alloc, ctl, limits, entries, wanted, from, out, summary)
+        }
+        Job::Tail(entries, wanted) => {
+            list_tail(alloc, ctl, limits, entries, wanted, out, summary)
         }
         Job::NameLookup(wording, named) => list_named(
             alloc, ctl, limits, wording, named, out, summary,

@@ -93,11 +93,14 @@ const SEL: &str = "Prints the system event log.
   sel list last N       the N newest
   sel elist ..          the same as sel list .., in words: the sensor's name, what
                         happened, and what the event's data say
+  sel tail N            the N newest as in sel elist, without reading the whole
+                        log: they begin where the log's info suggests, but if
+                        there are not N from there on, this is sel elist last N
   sel get ID            a block with all about one event
   sel get --id HEX      the same, by an id as sel list prints it
 
-N is 0 to 65535, and 0 means all. ID is 1 to 65534. Both are decimal, or up to
-four hex digits after 0x: what sel list prints as 0016 is --id 0016, 0x16 or 22.
+N is 0 to 65535, and 0 means all; sel tail takes no 0. ID is 1 to 65534. Both
+are decimal, or 0x and four hex digits at most: 0016 is --id 0016, 0x16 or 22.
 --from HEX4 starts at this record id, with sel list and sel elist.
 ";
 

@@ -139,6 +139,8 @@ sel,list,last,20|SelList(Last(20)) None; images; None 5; plain; false
 sel,elist|SelList(All) None; images; None 5; words; false
 sel,elist,0x10|SelList(First(16)) None; images; None 5; words; false
 sel,elist,last,3|SelList(Last(3)) None; images; None 5; words; false
+sel,tail,5|SelList(Tail(5)) None; images; None 5; words; false
+sel,tail,0xffff,--json|SelList(Tail(65535)) None; images; None 5; json; false
 sel,get,0x16|SelGet(22) None; images; None 5; plain; false
 sel,get,--id,0016|SelGet(22) None; images; None 5; plain; false
 --id=0x16,sel,get|SelGet(22) None; images; None 5; plain; false
@@ -167,7 +169,7 @@ const REFUSED: &str = "srd|unknown command 'srd': did you mean 'sdr'?
 foo|unknown command 'foo': use one of sdr sensor sel fru capture image help
 server.image|unknown command 'server.image': a file comes after --image
 sdr,lst|unknown word 'lst' after 'sdr': did you mean 'list'?
-sel,cl\u{7}ear|unknown word 'cl\\x07ear' after 'sel': use one of info list elist get
+sel,cl\u{7}ear|unknown word 'cl\\x07ear' after 'sel': use one of info list elist tail get
 sdr,list,ful|'ful' is not a kind: all, full, compact, event, generic, mclocator or fru: did you mean 'full'?
 sdr,get|'sdr get' needs a NAME
 sensor,get|'sensor get' needs a NAME
@@ -176,6 +178,10 @@ sdr,info,foo|unexpected word 'foo' with 'sdr info'
 sel,list,ten|'ten' is not a number from 0 to 65535, in decimal without leading zeros or as 0x and up to four hex digits
 sel,get,0016|'0016' is not an ID from 1 to 65534, in decimal without leading zeros or as 0x and up to four hex digits: in hex write 0x0016, or --id 0016
 sel,get|'sel get' needs an ID from 1 to 65534
+sel,tail|'sel tail' needs a number from 1 to 65535
+sel,tail,0|'0' is not a number from 1 to 65535, in decimal without leading zeros or as 0x and up to four hex digits
+sel,tail,5,6|unexpected word '6' with 'sel tail'
+sel,tail,5,--from,0002|--from does not go with 'sel tail'
 sel,get,1,--id,2|'sel get' takes an ID or --id, not both
 sdr,--id,2|--id does not go with 'sdr'
 sdr,list,--from,0000|--from '0000' is not four hex digits from 0001 to FFFE: leave it out to begin with the first record
