@@ -29,7 +29,11 @@ fn id_in_run(wanted: u16, count: u16) -> Option<u16>
 
 /// The id at which the last `wanted` entries begin, as the info of the event log suggests. None if it suggests none, or if
 /// there is no info.
-fn tail_from<C: Controller>(ctl: &mut C, wanted: u16, tries: Tries) -> Result<Option<u16>, ReadError>
+fn tail_from<C: Controller>(
+    ctl: &mut C,
+    wanted: u16,
+    tries: Tries,
+) -> Result<Option<u16>, ReadError>
     requires { 1 ≤ wanted }
     ensures calls { (C.seen ctl.new).calls ≤ (C.seen ctl.old).calls + (tries.count + 1) }
     ensures asked { AsksAtMost 0 (C.seen ctl.old) (C.seen ctl.new) }
