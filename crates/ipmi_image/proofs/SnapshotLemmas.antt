@@ -1,8 +1,8 @@
 -- The lines that name lacking items, and the answers of a controller over a snapshot.
 use Rattle.std.proofs.Common.{◌≡◌, ◌==◌, ℕ, ◌+◌, Bool, true, false, true≢false, cond, find, IfSome, not, Option, None, Some, Result, Ok, Err, List, [], ◌∷◌, ◌++◌, length, option_map, refl, sym, ap, ◌∙◌, arith, codes}
 use Rattle.std.proofs.lemmas.Bool.Decides.{nat_tests}
-use Rattle.ipmi_image.specs.Below.{Busy, Cancelled, class_of, Code, CodeClass, FailsWith, NotPresent, PartFailsWith, Refusal, Seen, SmallerPart}
-use Rattle.ipmi_image.specs.Prelude.{code_for, ImageFault, is_lack_line, is_third, Item, Lack, lack_of, lack_of_one, lack_of_reading, lacks_then, Line, LineCause, LineFault, may_refuse, pieces, refuses, saved_after, saved_of_image, saved_of_pieces, store_after, store_of_image, the_end, Version, with_three, with_two}
+use Rattle.ipmi_image.specs.Below.{Busy, Cancelled, class_of, Code, CodeClass, FailsWith, NotPresent, PartFailsWith, Refusal, Sdr, Seen, SmallerPart}
+use Rattle.ipmi_image.specs.Prelude.{code_for, ImageFault, is_lack_line, is_third, Item, Lack, lack_of, lack_of_one, lack_of_reading, lacks_then, Line, LineCause, LineFault, may_name, may_refuse, pieces, refuses, saved_after, saved_of_image, saved_of_pieces, store_after, store_of_image, the_end, Version, with_three, with_two}
 use Rattle.ipmi_image.proofs.ParseLemmas.{a_word, pieces-join_with_byte}
 use Rattle.ipmi_image.proofs.ReadLemmas.{store_of_image-lines}
 use Rattle.ipmi_image.proofs.TextLemmas.{Lacks, length_pieces, pieces-more}
@@ -75,12 +75,18 @@ find-passes test (item ∷ items) = by (test item) refl (find-passes test items)
 
 -- a noted code that ends a request is that of a refusal or of a busy controller
 pub code_refuses : (asked : Item) (lacks : List Lack) → IfSome (code_for asked lacks) (λ code. may_refuse code ≡ true)
-code_refuses asked lacks = by (find (refuses asked) lacks) (find-passes (refuses asked) lacks)
+code_refuses asked lacks =
+    by (find (refuses asked) lacks) (find-passes (refuses asked) lacks) (find (may_name asked) lacks) (find-passes (may_name asked) lacks)
   where
+    may : (lack : Lack) → may_name asked lack ≡ true → may_refuse lack.code ≡ true
+    may lack is = grind (arith, is)
+
     by : (found : Option Lack) → IfSome found (λ lack. refuses asked lack ≡ true)
-        → IfSome (option_map (λ (lack : Lack). lack.code) found) (λ code. may_refuse code ≡ true)
-    by None is = tt
-    by (Some lack) is = grind (arith, is)
+        → (naming : Option Lack) → IfSome naming (λ lack. may_name asked lack ≡ true)
+        → IfSome (option_map (λ (lack : Lack). lack.code) (elim found [ Some lack ↦ Some lack | None ↦ naming ])) (λ code. may_refuse code ≡ true)
+    by None first None is = tt
+    by None first (Some lack) is = may lack is
+    by (Some lack) is naming other = grind (arith, is)
 
 pub is_lacking : (asked : Item) (lacks : List Lack) → IfSome (code_for asked lacks) (λ code. (length lacks == 0) ≡ false)
 is_lacking asked [] = tt

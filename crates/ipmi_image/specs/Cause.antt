@@ -130,7 +130,8 @@ line_at bytes n = unwrap_or (slice_get (pieces 10 bytes) (n - 1)) []
 -- in version 3, of a line `lacks`, or else of a line as in version 2
 abbrev pub third_cause : ImageFault → List ℕ → Option FaultCause
 third_cause fault text =
-    if is_lack_line text then Some (FaultCause.Line LineCause.Lack) else line_cause Version.Two fault text
+    if is_lack_line text then Some (FaultCause.Line (unwrap_or (space_cause text) LineCause.Lack))
+    else line_cause Version.Two fault text
 
 abbrev pub numbered_cause : List ℕ → ImageFault → ℕ → Option FaultCause
 numbered_cause bytes fault n =

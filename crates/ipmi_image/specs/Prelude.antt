@@ -10,7 +10,7 @@ pub use Rattle.ipmi_image.specs.Responder.{begins_with, fru_answer, is_stale, Is
 pub use Rattle.ipmi_image.specs.Rewritten.{first_parts, hex_of, info_lines, inventory_lines, IsSaved, line_text, lines_text, next_field, other_lines, part_fields, parts_of, reading_fields, record_line_of, RewritingKeepsStores, row_fields, rows_lines}
 unfoldable pub use Rattle.ipmi_image.specs.Rewritten.{image_text_of}
 pub use Rattle.ipmi_image.specs.Rows.{begins_saved, is_same_saved, row_in, row_of}
-pub use Rattle.ipmi_image.specs.Snapshot.{byte_in, code_for, digit_in, fault_line, hides, hides_part, hides_record, is_lack_line, is_partial, is_third, item_fields, item_in, lack_fields, lack_of, lack_of_fields, lack_of_one, lack_of_reading, lack_with, later, may_refuse, reading_in_fields, refuses, same_shelf, Saved, saved_after, saved_of_image, saved_of_pieces, saved_text_of, saved_with, shelf_word, snapshot_answer, snapshot_lacks, snapshot_last_number, snapshot_seen, with_records, word_in}
+pub use Rattle.ipmi_image.specs.Snapshot.{byte_in, code_for, digit_in, fault_line, has_item, hides, hides_part, hides_record, is_lack_line, is_partial, is_third, item_fields, item_in, KeepsSnapshot, lack_fields, lack_for, lack_of, lack_of_fields, lack_of_one, lack_of_reading, lack_with, later, may_name, may_refuse, reading_in_fields, refusal, refuses, same_shelf, Saved, saved_after, saved_of_image, saved_of_pieces, saved_text_of, saved_with, shelf_word, snapshot_answer, snapshot_lacks, snapshot_last_number, snapshot_seen, with_records, word_in}
 unfoldable pub use Rattle.ipmi_image.specs.Snapshot.{lacks_then}
 pub use Rattle.ipmi_image.specs.Stored.{AreInventories, AreReadings, HoldsLines, IsRead, Puts, said, sensor_of, store_of}
 pub use Rattle.ipmi_image.specs.Table.{HasRoom, kept_inventory, IsIndex, place_in, place_of, sensor_key}

@@ -1,7 +1,7 @@
 -- What a capture saved: a store, and the items that it lacks. The text of both in version 3.
-use Rattle.std.specs.Prelude.{ℕ, ◌+◌, ◌==◌, nat_eq, ◌&&◌, not, Bool, true, false, if◌then◌else◌, Option, Some, None, option_map, option_and_then, Result, Ok, Err, List, [], ◌∷◌, ◌++◌, codes, bytes_eq, drop, find, length, map}
+use Rattle.std.specs.Prelude.{◌≡◌, ℕ, ◌+◌, ◌==◌, nat_eq, ◌&&◌, not, Bool, true, false, if◌then◌else◌, Option, Some, None, is_some, option_map, option_and_then, Result, Ok, Err, List, [], ◌∷◌, ◌++◌, codes, bytes_eq, drop, find, length, map}
 use Rattle.std.specs.List.{list_any, starts_with}
-use Rattle.ipmi_image.specs.Below.{Busy, class_of, Code, Refusal, Sdr, Seen, Sel, Shelf, Store}
+use Rattle.ipmi_image.specs.Below.{Busy, class_of, Code, info_of, inventory_of, look, Refusal, rows_of, Sdr, Seen, Sel, Shelf, Store}
 use Rattle.ipmi_image.specs.declared.image.ImageFault.{ImageFault}
 use Rattle.ipmi_image.specs.declared.lack.Item.{Item}
 use Rattle.ipmi_image.specs.declared.lack.Lack.{Lack}
@@ -164,10 +164,17 @@ same_shelf Sdr Sdr = true
 same_shelf Sel Sel = true
 same_shelf a b = false
 
--- Without the first item there is no answer to a request for the second. An inventory is not read without its size; a lacking reading
--- is only noted.
+-- the image has the item
+abbrev pub has_item : Item → Store → Bool
+has_item (Item.Record shelf id) store = is_some (look (rows_of shelf store) id)
+has_item (Item.Info shelf) store = is_some (info_of shelf store)
+has_item (Item.Inventory id) store = is_some (inventory_of id store)
+has_item asked store = false
+
+-- Without the first item the second may be lacking. Behind a record any other may be; an inventory is not read without its size; a
+-- lacking reading is only noted.
 abbrev pub hides : Item → Item → Bool
-hides (Item.Record s i) (Item.Record shelf id) = same_shelf s shelf && i == id
+hides (Item.Record s i) (Item.Record shelf id) = same_shelf s shelf
 hides (Item.Info s) (Item.Info shelf) = same_shelf s shelf
 hides (Item.Size i) (Item.Inventory id) = i == id
 hides (Item.Inventory i) (Item.Inventory id) = i == id
@@ -180,9 +187,18 @@ may_refuse code = elim (class_of code.0) [ Busy ↦ true | Refusal ↦ not (code
 abbrev pub refuses : Item → Lack → Bool
 refuses asked lack = hides lack.item asked && may_refuse lack.code
 
--- the code for a request for the item, if it is lacking
+-- sensor data records that are lacking may name the FRU device
+abbrev pub may_name : Item → Lack → Bool
+may_name (Item.Inventory id) lack = refuses (Item.Record Sdr 0) lack
+may_name asked lack = false
+
+-- why an item that the image does not have may be lacking
+abbrev pub lack_for : Item → List Lack → Option Lack
+lack_for asked lacks = elim (find (refuses asked) lacks) [ Some lack ↦ Some lack | None ↦ find (may_name asked) lacks ]
+
+-- the code for a request for it
 abbrev pub code_for : Item → List Lack → Option Code
-code_for asked lacks = option_map (λ lack. lack.code) (find (refuses asked) lacks)
+code_for asked lacks = option_map (λ lack. lack.code) (lack_for asked lacks)
 
 -- a record or an inventory was not read whole
 abbrev pub hides_part : Lack → Bool
@@ -209,6 +225,18 @@ snapshot_lacks c = c.lacks.items
 abbrev pub snapshot_last_number : SnapshotController → ℕ
 snapshot_last_number c = c.responder.given
 
--- the code that is noted for a lacking item, or else the answer of the image
-abbrev pub snapshot_answer : {V : Type 0} → Item → List Lack → Result V Code → Result V Code
-snapshot_answer asked lacks plain = elim (code_for asked lacks) [ Some code ↦ Err code | None ↦ plain ]
+-- what a call other than that for a reservation does not change
+pub record KeepsSnapshot (old new : SnapshotController) : Type 0 where
+  pub store : (snapshot_seen new).store ≡ (snapshot_seen old).store
+  pub sdr_reservation : (snapshot_seen new).sdr_reservation ≡ (snapshot_seen old).sdr_reservation
+  pub sel_reservation : (snapshot_seen new).sel_reservation ≡ (snapshot_seen old).sel_reservation
+  pub lacks : new.lacks.items ≡ old.lacks.items
+  pub last_number : snapshot_last_number new ≡ snapshot_last_number old
+
+-- the code for an item that the image does not have
+abbrev pub refusal : Item → Store → List Lack → Option Code
+refusal asked store lacks = if has_item asked store then None else code_for asked lacks
+
+-- the same, or the answer of the image
+abbrev pub snapshot_answer : {V : Type 0} → Item → SnapshotController → Result V Code → Result V Code
+snapshot_answer asked c plain = elim (refusal asked c.responder.image c.lacks.items) [ Some code ↦ Err code | None ↦ plain ]

@@ -340,7 +340,8 @@ fn third_cause(
     ensures { IfOk result (λ cause. cause ≡ third_cause fault line.now) }
 {
     if is_lack_line(line) {
-        return Ok(Some(FaultCause::Line(LineCause::Lack)));
+        let cause = space_cause(line).unwrap_or(LineCause::Lack);
+        return Ok(Some(FaultCause::Line(cause)));
     }
     line_cause(alloc, Version::Two, fault, line)
 }

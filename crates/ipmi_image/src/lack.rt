@@ -1,7 +1,7 @@
 //! What an image lacks, and the lines that say so.
 ghost use Rattle.std.specs.Prelude.{◌≡◌, ◌==◌, true, false, IfSome, length, option_map, find};
 ghost use Rattle.std.specs.List.{list_any};
-ghost use Rattle.ipmi_image.specs.Prelude.{byte_in, code_for, digit_in, hides, hides_part, hides_record, is_lack_line, item_in, lack_of_fields, lack_of_one, lack_of_reading, lack_with, may_refuse, pieces, reading_in_fields, refuses, same_shelf, word_in};
+ghost use Rattle.ipmi_image.specs.Prelude.{byte_in, code_for, digit_in, hides, hides_part, hides_record, is_lack_line, item_in, lack_for, lack_of_fields, lack_of_one, lack_of_reading, lack_with, may_name, may_refuse, pieces, reading_in_fields, refuses, same_shelf, word_in};
 
 use crate::image_line::{parse_shelf, three, two};
 use crate::text::{cut, read_digit, read_u8, read_u16};
@@ -39,15 +39,12 @@ fn same_shelf(a: Shelf, b: Shelf) -> bool
 }
 
 impl Item {
-    /// Whether there is no answer to a request for the other item where this one is lacking. A lacking reading is none that the sensor
-    /// has.
+    /// Whether the other item may be lacking where this one is. Behind a record any other may be. A lacking reading is only noted.
     fn hides(self, asked: Item) -> bool
         ensures { result ≡ hides self asked }
     {
         match (self, asked) {
-            (Item::Record(lacked, id), Item::Record(shelf, asked)) => {
-                same_shelf(lacked, shelf) && id == asked
-            }
+            (Item::Record(lacked, _), Item::Record(shelf, _)) => same_shelf(lacked, shelf),
             (Item::Info(lacked), Item::Info(shelf)) => same_shelf(lacked, shelf),
             (Item::Size(lacked), Item::Inventory(id)) => lacked == id,
             (Item::Inventory(lacked), Item::Inventory(id)) => lacked == id,
@@ -75,6 +72,16 @@ impl Lack {
         self.item.hides(asked) && may_refuse(self.code)
     }
 
+    /// Whether a lacking sensor data record may name the FRU device with this inventory.
+    fn may_name(&self, asked: Item) -> bool
+        ensures { result ≡ may_name asked self.now }
+    {
+        match asked {
+            Item::Inventory(_) => self.refuses(Item::Record(Shelf::Sdr, 0)),
+            _ => false,
+        }
+    }
+
     /// Whether a record of the shelf was not read whole.
     fn hides_record(&self, shelf: Shelf) -> bool
         ensures { result ≡ hides_record shelf self.now }
@@ -100,21 +107,38 @@ pub(crate) fn hides_records(shelf: Shelf, lacks: &[Lack]) -> bool
     lacks.iter().any(|lack| lack.hides_record(shelf))
 }
 
-/// The first item without which a request for this one fails.
+/// The first lacking item without which this one may be lacking.
 fn first_refusing(asked: Item, lacks: &[Lack]) -> Option<Lack>
     ensures { result ≡ find (refuses asked) lacks.now }
 {
     lacks.iter().copied().find(|lack| lack.refuses(asked))
 }
 
-/// The code for a request for the item, if it is lacking.
+/// The first lacking sensor data record, if such records may name the FRU device with this inventory.
+fn first_naming(asked: Item, lacks: &[Lack]) -> Option<Lack>
+    ensures { result ≡ find (may_name asked) lacks.now }
+{
+    lacks.iter().copied().find(|lack| lack.may_name(asked))
+}
+
+/// Why an item that the image does not have may be lacking.
+fn lack_for(asked: Item, lacks: &[Lack]) -> Option<Lack>
+    ensures { result ≡ lack_for asked lacks.now }
+{
+    match first_refusing(asked, lacks) {
+        Some(lack) => Some(lack),
+        None => first_naming(asked, lacks),
+    }
+}
+
+/// The code for a request for an item that the image does not have, if it may be lacking.
 #[tactic(auto, using(crate::proofs::SnapshotLemmas::code_refuses, crate::proofs::SnapshotLemmas::is_lacking))]
 pub(crate) fn code_for(asked: Item, lacks: &[Lack]) -> Option<Code>
     ensures code { result ≡ code_for asked lacks.now }
     ensures refuses { IfSome result (λ code. may_refuse code ≡ true) }
     ensures lacking { IfSome result (λ code. (length lacks.now == 0) ≡ false) }
 {
-    let lack = first_refusing(asked, lacks)?;
+    let lack = lack_for(asked, lacks)?;
     Some(lack.code)
 }
 

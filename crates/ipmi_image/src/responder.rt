@@ -1,10 +1,11 @@
 //! The answers of an image to a controller's calls.
 ghost use Rattle.std.specs.Prelude.{◌≡◌, ◌+◌, ◌<◌, ◌≤◌, ◌≢◌, true, false, MatchBool, IfOk, OnErr, Ok, ok_or, Some, None, [], length, drop, option_map, unwrap_or};
 ghost use Rattle.ipmi_image.specs.Below.{IsCall, failing_code, look, current, not_present, row_of_record, class_of, IsStore, rows_of, info_of, reading_of, inventory_of, IsHonest, PartFailsWith, ReserveAnswers, PartAnswers, ValueAnswers, SizeAnswers, BytesAnswers, part_asked};
-ghost use Rattle.ipmi_image.specs.Prelude.{chained, first_id, seen_as, place_asked, IsCopied, number_after, with_reservation, part_answer, fru_answer, size_answer, id_of, with_appended, with_image, counts_with};
+ghost use Rattle.ipmi_image.specs.Prelude.{chained, first_id, has_item, seen_as, place_asked, IsCopied, number_after, with_reservation, part_answer, fru_answer, size_answer, id_of, with_appended, with_image, counts_with};
 
 use crate::earlier::Earlier;
 use crate::image::Image;
+use crate::lack::Item;
 use crate::rows::Rows;
 use ipmi_bus::{
     Code, Event, FIRST_RECORD_ID, FruSize, INFO_LEN, Part, Record, Shelf, Tally, reads_ahead,
@@ -84,6 +85,7 @@ impl Responder {
         ensures none_earlier { result.earlier.stores ≡ [] }
         ensures none_current { (result.sdr_reservation ≡ None) × (result.sel_reservation ≡ None) }
         ensures none_given { result.given ≡ 0 }
+        ensures none_added { result.tally.counts.stores_added ≡ 0 }
     {
         Responder {
             image,
@@ -93,6 +95,18 @@ impl Responder {
             sel_reservation: None,
             near: 0,
             tally: Tally::new(),
+        }
+    }
+
+    /// Whether the image has the item.
+    pub(crate) fn has(&self, item: Item) -> bool
+        ensures { result ≡ has_item item self.now.image }
+    {
+        match item {
+            Item::Record(shelf, id) => look_up(self.image.rows(shelf), self.near, id).is_some(),
+            Item::Info(shelf) => self.image.info(shelf).is_some(),
+            Item::Inventory(id) => self.image.inventory(id).is_some(),
+            Item::Reading { .. } | Item::Size(_) => false,
         }
     }
 
@@ -185,6 +199,7 @@ impl Responder {
         ensures answers { IsHonest (seen_as true self.old) →
             ReserveAnswers shelf (Ok result) (seen_as true self.old) (seen_as true self.new) }
         ensures number { result ≡ number_after self.old.given }
+        ensures no_store { self.new.tally.counts.stores_added ≡ self.old.tally.counts.stores_added }
         ensures another { result ≢ self.old.given }
         ensures kept { self.new ≡
             record (with_reservation shelf result self.old) { tally = self.new.tally } }
@@ -239,6 +254,7 @@ impl Responder {
             PartAnswers (part_asked shelf reservation id offset (length into.old))
             result into.new (seen_as true self.old) (seen_as true self.new) }
         ensures same { self.new ≡ record self.old { near = self.new.near; tally = self.new.tally } }
+        ensures no_store { self.new.tally.counts.stores_added ≡ self.old.tally.counts.stores_added }
         ensures exact { result ≡ part_answer
             (part_asked shelf reservation id offset (length into.old))
             most (current shelf (seen_as true self.old))
@@ -273,6 +289,7 @@ impl Responder {
         ensures answers { IsHonest (seen_as true self.old) →
             ValueAnswers (info_of shelf) result (seen_as true self.old) (seen_as true self.new) }
         ensures same { self.new ≡ record self.old { tally = self.new.tally } }
+        ensures no_store { self.new.tally.counts.stores_added ≡ self.old.tally.counts.stores_added }
         ensures exact { result ≡ ok_or (info_of shelf self.old.image) not_present }
     {
         self.tally.count(Event::Called(0));
@@ -291,6 +308,7 @@ impl Responder {
             ValueAnswers (reading_of lun number) result (seen_as true self.old)
             (seen_as true self.new) }
         ensures same { self.new ≡ record self.old { tally = self.new.tally } }
+        ensures no_store { self.new.tally.counts.stores_added ≡ self.old.tally.counts.stores_added }
         ensures exact { result ≡ ok_or (reading_of lun number self.old.image) not_present }
     {
         self.tally.count(Event::Called(0));
@@ -308,6 +326,7 @@ impl Responder {
         ensures answers { IsHonest (seen_as true self.old) →
             SizeAnswers id result (seen_as true self.old) (seen_as true self.new) }
         ensures same { self.new ≡ record self.old { tally = self.new.tally } }
+        ensures no_store { self.new.tally.counts.stores_added ≡ self.old.tally.counts.stores_added }
         ensures exact { result ≡ size_answer (inventory_of id self.old.image) }
     {
         self.tally.count(Event::Called(0));
@@ -341,6 +360,7 @@ impl Responder {
             BytesAnswers id offset (length into.old) result into.new (seen_as true self.old)
             (seen_as true self.new) }
         ensures same { self.new ≡ record self.old { tally = self.new.tally } }
+        ensures no_store { self.new.tally.counts.stores_added ≡ self.old.tally.counts.stores_added }
         ensures exact { result ≡
             fru_answer offset (length into.old) most (inventory_of id self.old.image) }
     {

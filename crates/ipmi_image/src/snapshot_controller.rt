@@ -1,7 +1,5 @@
 //! A management controller that answers from a snapshot.
-ghost use Rattle.std.specs.Prelude.{◌≡◌, ◌<◌, ◌≤◌, ◌==◌, false, IfOk, OnErr, MatchOption, Ok, ok_or, None, Some, length, drop};
-ghost use Rattle.ipmi_image.specs.Below.{BytesAnswers, class_of, current, failing_code, info_of, inventory_of, IsCall, IsHonest, look, not_present, PartAnswers, PartFailsWith, part_asked, reading_of, ReserveAnswers, rows_of, SizeAnswers, ValueAnswers};
-ghost use Rattle.ipmi_image.specs.Prelude.{code_for, fru_answer, Item, number_after, part_answer, seen_as, size_answer, snapshot_answer, snapshot_lacks, snapshot_last_number, snapshot_seen};
+ghost use Rattle.std.specs.Prelude.{◌≡◌};
 
 use crate::lack::{Item, Lack, code_for};
 use crate::responder::Responder;
@@ -9,16 +7,21 @@ use crate::snapshot::Snapshot;
 use ipmi_bus::{Code, Controller, FruSize, LARGEST_PART, Part, Shelf, reads_ahead};
 use ipmi_text::Reading;
 
-/// A controller over a snapshot. It answers like an `ImageController` over the image, but a request for an item that the snapshot
-/// lacks ends with the code that is noted for it, if that is the code of a refusal or of a busy controller. A reading that it lacks is
-/// not present.
+/// A controller over a snapshot. It answers like an `ImageController` over the image, but a request for an item that the image does not
+/// have ends with the code that is noted for it, if it may be lacking and that is the code of a refusal or of a busy controller. A
+/// reading that is lacking is not present.
 #[derive(Drop)]
 pub struct SnapshotController {
     responder: Responder,
     lacks: Vec<Lack>,
+    ghost no_store: { responder.tally.counts.stores_added ≡ 0 },
 }
 
 impl SnapshotController {
+    ghost use Rattle.std.specs.Prelude.{◌≡◌, ◌==◌, false, MatchOption, None, Some, length};
+    ghost use Rattle.ipmi_image.specs.Below.{class_of, IsCall, IsHonest, PartFailsWith};
+    ghost use Rattle.ipmi_image.specs.Prelude.{refusal, snapshot_lacks, snapshot_last_number, snapshot_seen};
+
     /// A controller with the contents of the snapshot. No reservation is current.
     pub fn new(snapshot: Snapshot) -> SnapshotController
         ensures honest { IsHonest (snapshot_seen result) }
@@ -36,11 +39,17 @@ impl SnapshotController {
         }
     }
 
+    /// Does nothing.
+    pub fn keeps_its_store(&self)
+        ensures { (snapshot_seen self.now).stores_added ≡ 0 }
+    {}
+
     /// The code with which a call for `asked` bytes of the item fails, if it does. Then the call is counted. `ahead`: the call reads
     /// ahead.
     fn refusal(&mut self, item: Item, asked: u8, ahead: bool) -> Option<Code>
-        ensures code { result ≡ code_for item self.old.lacks.items }
-        ensures same { self.new ≡ record self.old { responder = record self.old.responder { tally = self.new.responder.tally } } }
+        ensures code { result ≡ refusal item self.old.responder.image self.old.lacks.items }
+        ensures same { self.new.responder ≡ record self.old.responder { tally = self.new.responder.tally } }
+        ensures lacks { self.new.lacks ≡ self.old.lacks }
         ensures counts { MatchOption result (self.new ≡ self.old) (λ code.
             IsCall asked (snapshot_seen self.old) (snapshot_seen self.new)
             × ((snapshot_seen self.new).last_failure ≡ Some code.0)
@@ -48,12 +57,19 @@ impl SnapshotController {
             × PartFailsWith ahead ⊥ ⊥ (class_of code.0) code.0 (snapshot_seen self.old) (snapshot_seen self.new)
             × ((snapshot_seen self.old).plain ≡ false)) }
     {
+        if self.responder.has(item) {
+            return None;
+        }
         let code = code_for(item, self.lacks.as_slice())?;
         Some(self.responder.fail(asked, ahead, code))
     }
 }
 
 impl Controller for SnapshotController {
+    ghost use Rattle.std.specs.Prelude.{◌≡◌, ◌<◌, ◌≤◌, IfOk, OnErr, Ok, ok_or, length, drop};
+    ghost use Rattle.ipmi_image.specs.Below.{BytesAnswers, current, failing_code, info_of, inventory_of, IsCall, IsHonest, look, not_present, PartAnswers, part_asked, reading_of, ReserveAnswers, rows_of, SizeAnswers, ValueAnswers};
+    ghost use Rattle.ipmi_image.specs.Prelude.{fru_answer, Item, KeepsSnapshot, number_after, part_answer, size_answer, snapshot_answer, snapshot_lacks, snapshot_last_number, snapshot_seen};
+
     ghost seen = { snapshot_seen };
 
     fn reserve(&mut self, shelf: Shelf) -> Result<u16, Code>
@@ -86,12 +102,11 @@ impl Controller for SnapshotController {
         ensures honest { IsHonest (snapshot_seen self.old) →
             PartAnswers (part_asked shelf reservation id offset (length into.old)) result into.new
             (snapshot_seen self.old) (snapshot_seen self.new) }
-        ensures exact { result ≡ snapshot_answer (Item.Record shelf id) (snapshot_lacks self.old)
+        ensures exact { result ≡ snapshot_answer (Item.Record shelf id) self.old
             (part_answer (part_asked shelf reservation id offset (length into.old))
             254 (current shelf (snapshot_seen self.old))
             (look (rows_of shelf (snapshot_seen self.old).store) id)) }
-        ensures last { snapshot_last_number self.new ≡ snapshot_last_number self.old }
-        ensures lacks { snapshot_lacks self.new ≡ snapshot_lacks self.old }
+        ensures keeps { KeepsSnapshot self.old self.new }
     {
         let ahead = reads_ahead(shelf, offset, into.len());
         match self.refusal(Item::Record(shelf, id), into.len() as u8, ahead) {
@@ -108,10 +123,9 @@ impl Controller for SnapshotController {
         ensures failure { (snapshot_seen self.new).last_failure ≡ failing_code result }
         ensures honest { IsHonest (snapshot_seen self.old) →
             ValueAnswers (info_of shelf) result (snapshot_seen self.old) (snapshot_seen self.new) }
-        ensures exact { result ≡ snapshot_answer (Item.Info shelf) (snapshot_lacks self.old)
+        ensures exact { result ≡ snapshot_answer (Item.Info shelf) self.old
             (ok_or (info_of shelf (snapshot_seen self.old).store) not_present) }
-        ensures last { snapshot_last_number self.new ≡ snapshot_last_number self.old }
-        ensures lacks { snapshot_lacks self.new ≡ snapshot_lacks self.old }
+        ensures keeps { KeepsSnapshot self.old self.new }
     {
         match self.refusal(Item::Info(shelf), 0, false) {
             Some(code) => Err(code),
@@ -125,8 +139,7 @@ impl Controller for SnapshotController {
         ensures honest { IsHonest (snapshot_seen self.old) →
             ValueAnswers (reading_of lun number) result (snapshot_seen self.old) (snapshot_seen self.new) }
         ensures exact { result ≡ ok_or (reading_of lun number (snapshot_seen self.old).store) not_present }
-        ensures last { snapshot_last_number self.new ≡ snapshot_last_number self.old }
-        ensures lacks { snapshot_lacks self.new ≡ snapshot_lacks self.old }
+        ensures keeps { KeepsSnapshot self.old self.new }
     {
         self.responder.reading(lun, number)
     }
@@ -136,10 +149,9 @@ impl Controller for SnapshotController {
         ensures failure { (snapshot_seen self.new).last_failure ≡ failing_code result }
         ensures honest { IsHonest (snapshot_seen self.old) →
             SizeAnswers id result (snapshot_seen self.old) (snapshot_seen self.new) }
-        ensures exact { result ≡ snapshot_answer (Item.Inventory id) (snapshot_lacks self.old)
+        ensures exact { result ≡ snapshot_answer (Item.Inventory id) self.old
             (size_answer (inventory_of id (snapshot_seen self.old).store)) }
-        ensures last { snapshot_last_number self.new ≡ snapshot_last_number self.old }
-        ensures lacks { snapshot_lacks self.new ≡ snapshot_lacks self.old }
+        ensures keeps { KeepsSnapshot self.old self.new }
     {
         match self.refusal(Item::Inventory(id), 0, false) {
             Some(code) => Err(code),
@@ -158,10 +170,9 @@ impl Controller for SnapshotController {
         ensures honest { IsHonest (snapshot_seen self.old) →
             BytesAnswers id offset (length into.old) result into.new
             (snapshot_seen self.old) (snapshot_seen self.new) }
-        ensures exact { result ≡ snapshot_answer (Item.Inventory id) (snapshot_lacks self.old)
+        ensures exact { result ≡ snapshot_answer (Item.Inventory id) self.old
             (fru_answer offset (length into.old) 254 (inventory_of id (snapshot_seen self.old).store)) }
-        ensures last { snapshot_last_number self.new ≡ snapshot_last_number self.old }
-        ensures lacks { snapshot_lacks self.new ≡ snapshot_lacks self.old }
+        ensures keeps { KeepsSnapshot self.old self.new }
     {
         match self.refusal(Item::Inventory(id), into.len() as u8, false) {
             Some(code) => Err(code),
