@@ -245,10 +245,17 @@ for dialect in --ipmitool --freeipmi; do
   "$SERDIMKO" --image "$work/saved" sel list > "$work/out" || fault "$dialect, partial sel: status $?"
   "$SERDIMKO" --image "$TOOL_IMAGE" sel list | cmp -s - "$work/out" || fault "$dialect, partial sel: differs"
   "$SERDIMKO" --image "$work/saved" image rewrite | cmp -s - "$work/saved" || fault "$dialect, partial: another spelling"
-  says 0 "$work/saved lacks sensor data records, or its info is not that of the controller: they are read from there" \
-    $dialect -- --records "$work/saved" sdr info
+  # so do a record and an inventory behind that one
+  for command in 'sdr elist' 'sel elist' 'fru list' 'sensor get CPU1' 'fru print 200'; do
+    # shellcheck disable=SC2086  # the words of a command
+    "$SERDIMKO" --image "$work/saved" $command > "$work/out" 2> "$work/err"
+    if [ $? -ne 1 ] || ! grep -q 'refused with code FFh' "$work/err"; then fault "$dialect, partial $command: $(cat "$work/err")"; fi
+  done
   # a whole image stays, but with --partial
   TOOL_TROUBLES=
+  says 0 "$work/saved lacks sensor data records, or its info is not that of the controller: they are read from there" \
+    $dialect -- --records "$work/saved" sdr hex
+  "$SERDIMKO" --image "$TOOL_IMAGE" sdr hex | cmp -s - "$work/out" || fault "$dialect, --records of a partial image: differs"
   live $dialect -- capture -o "$work/saved"
   captured "$dialect capture -o after a partial image" "$work/saved"
   cp "$work/saved" "$work/whole"

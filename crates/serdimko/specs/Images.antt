@@ -2,12 +2,13 @@
 use Rattle.std.specs.Prelude.{◌≡◌, ◌⊎◌, ◌+◌, ◌==◌, ℕ, Bool, true, false, IsTrue, List, [], ◌∷◌, ◌++◌, bytes_eq, codes, length, map, Option, None, Some, Result, Ok, Err, Vec, if◌then◌else◌}
 use Rattle.std.specs.Borrow.{Bor}
 use Rattle.std.specs.declared.alloc.Global.{Global}
-use Rattle.ipmi_bus.specs.Seen.{IsHonest, Seen}
+use Rattle.ipmi_bus.specs.Seen.{IsHonest}
 use Rattle.ipmi_commands.specs.Prelude.{IsSaving}
 use Rattle.ipmi_commands.specs.declared.limits.RequestLimits.{RequestLimits}
 use Rattle.ipmi_json.specs.declared.object.Label.{Label}
 use Rattle.ipmi_image.specs.Cause.{cause_of}
-use Rattle.ipmi_image.specs.Snapshot.{Saved, saved_of_image}
+use Rattle.ipmi_image.specs.Snapshot.{Saved, saved_of_image, snapshot_lacks, snapshot_seen}
+use Rattle.ipmi_image.specs.declared.snapshot_controller.SnapshotController.{SnapshotController}
 use Rattle.ipmi_image.specs.declared.cause.FaultCause.{FaultCause}
 use Rattle.ipmi_image.specs.declared.image.ImageFault.{ImageFault}
 use Rattle.ipmi_output.specs.Failure.{escaped_name, line_text}
@@ -47,12 +48,14 @@ abbrev pub IsImageQuery : ImageQuery → Type 0
 IsImageQuery (ImageQuery.Print query) = IsQuery query.now
 IsImageQuery ImageQuery.Rewrite = Unit {0}
 
--- The query runs over an honest controller that holds the image; if nothing is lacking it is never busy and cancels nothing. Or the
--- image is rewritten.
+-- The query runs over a controller that holds the image, whose answers are those of `SnapshotController`: it is honest, its store stays,
+-- and if nothing is lacking it is plain. Or the image is rewritten.
 abbrev pub PrintsStore : RequestLimits → ImageQuery → Report → Saved → Out → Out → Received → Received → Outcome → Type 0
 PrintsStore limits (ImageQuery.Print query) report saved old new said said' result =
-    (seen seen' : Seen) × IsHonest seen × (seen.plain ≡ (length saved.lacks == 0)) × (seen.store ≡ saved.store)
-    × PrintsQuery limits query.now report (state seen None old) (state seen' None new) said said' result
+    (c c' : SnapshotController) × IsHonest (snapshot_seen c) × ((snapshot_seen c).plain ≡ (length saved.lacks == 0))
+    × ((snapshot_seen c).store ≡ saved.store) × (snapshot_lacks c ≡ saved.lacks)
+    × ((snapshot_seen c').stores_added ≡ (snapshot_seen c).stores_added)
+    × PrintsQuery limits query.now report (state (snapshot_seen c) None old) (state (snapshot_seen c') None new) said said' result
 PrintsStore limits ImageQuery.Rewrite report saved old new said said' result = Rewrites report saved old new said said' result
 
 -- the fault of the bytes, and the rule that they break; or memory ran out

@@ -127,9 +127,9 @@ their infos, the readings of the sensors and the inventories that records name.
 
   serdimko-live -I lanplus -H HOST -U USER -E -- capture -o server.image
 
-What the image lacks is said, and noted in it. If it lacks a record, or an
-inventory whose size was given, it is not whole: the status is 1, and -o
-replaces a whole image only with --partial.
+What the image lacks is said, and noted in it. If it lacks a record or the
+bytes of an inventory, it is not whole: the status is 1, and -o replaces a
+whole image only with --partial.
 --tries N counts for each part of an inventory; --quiet shows no progress.
 ";
 

@@ -87,7 +87,9 @@ fn print_store<W: Write + Drop, E: MessageSink>(
         ImageQuery::Print(query) => query,
     };
     let mut ctl = SnapshotController::new(image);
+    ctl.keeps_its_store();
     let result = print_query(alloc, &mut ctl, limits, query, report, out, err);
+    ctl.keeps_its_store();
     drop(ctl);
     result
 }

@@ -29,7 +29,8 @@ const ANSWERS: &str = "part sdr 0 1 0 8|0002 06 010051c001aaeeee
 part sdr 0 2 0 8|0003 07 020051c002bbccee
 part sdr 0 3 0 8|code d4
 part sel 0 0 0 10|code c0
-part sel 0 3 0 10|code cb
+part sel 0 3 0 10|code c0
+part sdr 0 9 0 8|code d4
 info sdr|code c1
 info sel|code cb
 reading 1 a|code cb
@@ -40,7 +41,7 @@ fru_part 5 0 8|code d4
 fru_size 7|code ce
 fru_size 8|0002 00
 fru_part 8 0 8|02 0b0ceeeeeeeeeeee
-fru_size 0|code cb
+fru_size 0|code d4
 reserve sdr|0001";
 
 fn snapshot(rt: &impl Abort, alloc: Global, text: &str) -> Snapshot {
