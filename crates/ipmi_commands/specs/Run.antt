@@ -1,5 +1,5 @@
 -- The contract of a run: over any controller, over an honest one, in pages, and over an image.
-use Rattle.std.specs.Prelude.{◌≡◌, ◌⊎◌, ℕ, ◌+◌, ◌*◌, ◌<◌, ◌≤◌, ◌-◌, IsTrue, Option, None, Some, Result, Ok, Err, List, [], length}
+use Rattle.std.specs.Prelude.{◌≡◌, ◌⊎◌, ℕ, ◌+◌, ◌*◌, ◌<◌, ◌≤◌, ◌-◌, IsTrue, false, Option, None, Some, Result, Ok, Err, List, [], length}
 use Rattle.ipmi_commands.specs.Below.{Count, device_name, Ended, FruEnded, LastCallSays, LastFailed, LastFruCallSays, NoneCame, NotPresent, RefusesRecord, RefusesValue, Seen, Shelf, start_of, Place, First, Sdr, Sel, Row, Store, Done, OnGrowing, WasLog, info_of, inventory_of, Keeps, WalkEnd, IsHonest, ImageFault, UsageFault, CommandState, Received, ReceivesText, Ending, Failure, failure_of_usage, said_of, status_of}
 use Rattle.ipmi_image.specs.Snapshot.{Saved, saved_text_of}
 use Rattle.ipmi_commands.specs.declared.limits.Tries.{Tries}

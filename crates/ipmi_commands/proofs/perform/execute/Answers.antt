@@ -10,3 +10,6 @@ returns-in-LastKept-clause-parts g c = λ h. entries_spare c.args.limits.tries (
 
 pub returns-in-Info-clause-parts : goal.returns-in-Info-clause-parts
 returns-in-Info-clause-parts g c = λ h. info_spares c.args.limits.tries (IsStateOf g.C.Controller.seen) _ c.print_info.result c.print_info.ensures.runs.ends
+
+pub returns-in-Tail-clause-parts : goal.returns-in-Tail-clause-parts
+returns-in-Tail-clause-parts g c = λ h. entries_spare c.args.limits.tries (IsStateOf g.C.Controller.seen) _ _ c.list_tail.result c.list_tail.ensures.runs.ends
