@@ -65,6 +65,7 @@ pub job_spares : (tries : Tries) (S : Seen → Type 0) (entries : Entries) (coun
 job_spares tries S entries Count.All from c ending ends = entries_spare tries S c.seen' entries ending ends
 job_spares tries S entries (Count.First n) from c ending ends = entries_spare tries S c.seen' entries ending ends
 job_spares tries S entries (Count.Last n) from c ending ends = entries_spare tries S c.seen' entries ending ends
+job_spares tries S entries (Count.Tail n) from c ending ends = entries_spare tries S c.seen' entries ending ends
 
 -- entries with names in pages
 pub pages_spare : {wording : Wording} {from : Option ℕ} {sizes : List ℕ} {c : Change} {ending : Ending} (tries : Tries) (S : Seen → Type 0)

@@ -60,7 +60,7 @@ plan_kept Holds (Job.Records l) tries store More keep on = λ walk end w ends. k
 plan_kept Holds (Job.Last entries n from) tries store More keep on = λ walk end w ends. keep _ _ (on walk end w ends)
 plan_kept Holds (Job.LastKept entries n from) tries store More keep on = λ walk end w ends. keep _ _ (on walk end w ends)
 plan_kept Holds (Job.Tail entries n) tries store More keep on =
-    tail_map entries n tries 0 store More (λ plan calls. Holds plan) (λ plan calls more. keep plan (calls tries) more) on
+    tail_map entries n tries (for_inventory 0) store More (λ plan calls. Holds plan) (λ plan calls more. keep plan (calls tries) more) on
 plan_kept Holds (Job.NameLookup wording named) tries store More keep on = λ records end w ends.
     named_kept (λ plan. Holds (after_names records end plan)) wording records end named tries store
     (λ plan calls. More (after_names records end plan) (walk_call_bound Form.Bytes store tries records + calls))

@@ -138,7 +138,7 @@ module _ (one : ItemsHaveOneText) (exists : WalkExists) (look_row : FoundIsRow) 
       (x.0.new_is ∙ rw (one store items x.0.text y.0.text bytes x.0.are y.0.are) (sym y.0.new_is), x.1 ∙ sym y.1)
 
   -- along the walk that has the last entries
-  module _ (store : Store) (ok : IsStore store) (entries : Entries) (n tries tries' : ℕ) {A B : Plan → Type 0} {R : Type 0}
+  module _ (store : Store) (ok : IsStore store) (entries : Entries) (n : ℕ) (tries tries' : Tries) {A B : Plan → Type 0} {R : Type 0}
       (both : (plan : Plan) → AreOfBytes plan.items → A plan → B plan → R) where
     tail_bytes : (start : Place) (points : List ReadPoint) (walk : List Row) (end : WalkEnd) → AllOf store.sel walk
         → AreOfBytes (after_points points (last_plan entries n start walk end)).items
@@ -155,11 +155,11 @@ module _ (one : ItemsHaveOneText) (exists : WalkExists) (look_row : FoundIsRow) 
         → OnTried has id walk end entries n tries store (λ plan c. A plan) → OnTried has id walk end entries n tries' store (λ plan c. B plan) → R
     tried_meets true id walk end all x y = both _ (tail_bytes (Id id) (AtRecord 0 ∷ []) walk end all) x y
     tried_meets false id walk end all x y = whole_meets (AtRecord 0 ∷ points_of_walk (Id id) walk end)
-        (tries + 1 + walk_call_bound Form.Skipped store tries walk) (tries' + 1 + walk_call_bound Form.Skipped store tries' walk) x y
+        (tries.count + 1 + walk_call_bound Form.Skipped store tries walk) (tries'.count + 1 + walk_call_bound Form.Skipped store tries' walk) x y
 
     from_meets : (start : Option ℕ) → OnTailFrom start entries n tries store (λ plan c. A plan)
         → OnTailFrom start entries n tries' store (λ plan c. B plan) → R
-    from_meets None x y = whole_meets (AtRecord 0 ∷ []) (tries + 1) (tries' + 1) x y
+    from_meets None x y = whole_meets (AtRecord 0 ∷ []) (tries.count + 1) (tries'.count + 1) x y
     from_meets (Some id) x y =
         let there = exists Sel store.sel (Id id) ok.sel in
         tried_meets (has_last n there.0 there.1) id there.0 there.1 there.2.of_shelf (x there.0 there.1 there.2 there.3) (y there.0 there.1 there.2 there.3)

@@ -8,4 +8,4 @@ returns-in-Some g c = rw c.in-Some.is (refl, refl, rw (c.as_str.ensures.value, c
 pub returns : goal.returns
 returns g c = captured c.write_captured.result c.write_captured.ensures.saves (λ status saves.
     not_lost _ _ _ (none_lost _ c.args.lost _ refl c.in_default.not-Some)
-    (_, rw (c.as_slice.ensures.value, c.name_of-is_unknown.ensures.name, c.name_of-is_unknown.ensures.unknown) at c.in_ok-say_left.ensures, rw c.requires at saves))
+    (_, rw (c.as_slice.ensures.value, c.name_of-is_unknown.ensures.name, c.name_of-is_unknown.ensures.unknown) at c.in_ok-say_left.ensures, saves))
