@@ -2,7 +2,7 @@
 use Rattle.std.proofs.Common.{◌≡◌, ◌==◌, ◌⊎◌, ℕ, true, false, None, Option, Err, List, [], ◌∷◌, arith, inl, inr, length}
 use Rattle.std.proofs.lemmas.Bool.Decides.{nat_tests}
 use Rattle.ipmi_image.specs.Cause.{cause_of}
-use Rattle.ipmi_image.specs.Image.{store_of_image}
+use Rattle.ipmi_image.specs.Snapshot.{saved_of_image}
 use Rattle.ipmi_image.specs.declared.cause.FaultCause.{FaultCause}
 use Rattle.ipmi_image.specs.declared.image.ImageFault.{ImageFault}
 use Rattle.ipmi_output.specs.Received.{Received}
@@ -27,6 +27,6 @@ module _ (settings : Settings) (query : ImageQuery) where
 
 -- the fault of the bytes, or that memory ran out; and the rule that they break
 pub is_fault_of : (bytes : List ℕ) (fault : ImageFault) (cause : Option FaultCause)
-    → (fault ≡ ImageFault.Memory) ⊎ (store_of_image bytes ≡ Err fault) → cause ≡ cause_of bytes fault → IsFaultOf bytes fault cause
+    → (fault ≡ ImageFault.Memory) ⊎ (saved_of_image bytes ≡ Err fault) → cause ≡ cause_of bytes fault → IsFaultOf bytes fault cause
 is_fault_of bytes fault cause (inl memory) is = inl memory
 is_fault_of bytes fault cause (inr is_fault) is = inr (is_fault, is)

@@ -230,6 +230,24 @@ fn write_text<R: Files + AllocGlobal, E: MessageSink>(
     status_of_image(is_whole)
 }
 
+/// Writes the text of an image, and returns the exit status.
+fn write_to<R: Files + AllocGlobal, W: Write + Drop, E: MessageSink>(
+    rt: &R,
+    text: &[u8],
+    is_whole: bool,
+    target: Target<'_>,
+    out: &mut Output<W>,
+    err: &mut E,
+) -> u8
+    ensures { SavesText (file_in target.entry) target.entry.may_replace is_whole text.now (out_of out.old) (out_of out.new)
+        (E.received err.old) (E.received err.new) result }
+{
+    match target.file {
+        None => print_text(text, is_whole, out, err),
+        Some(file) => write_text(rt, text, is_whole, target.may_replace, file.as_str(), err),
+    }
+}
+
 /// Writes the image with notes of the items left out, and returns the exit status.
 fn write_captured<R: Files + AllocGlobal, W: Write + Drop, E: MessageSink>(
     rt: &R,
@@ -246,11 +264,8 @@ fn write_captured<R: Files + AllocGlobal, W: Write + Drop, E: MessageSink>(
     let snapshot = captured.into_snapshot(rt.alloc())?;
     let is_whole = !snapshot.is_partial();
     let text = snapshot_text(rt.alloc(), &snapshot)?;
-    let text = text.as_slice();
-    Ok(match target.file {
-        None => print_text(text, is_whole, out, err),
-        Some(file) => write_text(rt, text, is_whole, target.may_replace, file.as_str(), err),
-    })
+    let status = write_to(rt, text.as_slice(), is_whole, target, out, err);
+    Ok(status)
 }
 
 /// Reports that the connection was lost, or the items left out and writes the image. Returns the exit status.

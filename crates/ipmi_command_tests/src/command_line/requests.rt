@@ -53,9 +53,13 @@ fn action_text(rt: &impl Abort, alloc: Global, action: &Action) -> String {
             let names = spaced(rt, alloc, names.as_slice());
             format!(in alloc; "sensors{names} {from:?}").expect(rt, "memory")
         }
-        Action::Capture(output, quiet) => {
+        Action::Capture {
+            output,
+            quiet,
+            partial,
+        } => {
             let file = file_text(output.as_ref());
-            format!(in alloc; "capture {file} {quiet}").expect(rt, "memory")
+            format!(in alloc; "capture {file} {quiet} {partial}").expect(rt, "memory")
         }
         Action::Rewrite => String::from_str(alloc, "rewrite").expect(rt, "memory"),
         Action::Help(topic) => format!(in alloc; "help {topic:?}").expect(rt, "memory"),
@@ -148,7 +152,8 @@ fru,print,254|Fru(Some(254)) None; images; None 5; plain; false
 fru,list,--strict,--strict|Fru(None) None; images; None 5; words; true
 --json,--label,a=1,--label,b=2,fru|Fru(None) None; images; None 5; json a=1 b=2; false
 sdr,info,--live,ipmitool:/tmp/x|Info(Sdr) None; Ipmitool /tmp/x ; None 5; plain; false
---live,freeipmi:x,capture,-o,file,--quiet|capture file true; FreeIpmi x ; None 5; plain; false
+--live,freeipmi:x,capture,-o,file,--quiet|capture file true false; FreeIpmi x ; None 5; plain; false
+--live,freeipmi:x,capture,--partial|capture - false true; FreeIpmi x ; None 5; plain; false
 --live,ipmitool:/tmp/x:fe80::1%eth0,fru|Fru(None) None; Ipmitool /tmp/x fe80::1%eth0; None 5; plain; false
 --live,ipmitool:x,--records,r.image,sensor|List(Sensors) None; Ipmitool x r.image; None 5; words; false
 image,rewrite,--image,a|rewrite; images a; None 5; plain; false

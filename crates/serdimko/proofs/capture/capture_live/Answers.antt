@@ -2,7 +2,7 @@ use Rattle.serdimko.proofs.CapturedLemmas.{captured}
 use Rattle.serdimko.proofs.capture.capture_live.Goals as goal
 
 pub returns-clause-captures : goal.returns-clause-captures
-returns-clause-captures g c = captured c.report_captured-status.result c.report_captured-status.ensures (λ status saves. record {
+returns-clause-captures g c = captured c.report_captured.result c.report_captured.ensures (λ status saves. record {
   image = c.in_ok-captured.captured.image;
   left = c.in_ok-captured.captured.left.items;
   calls = rw c.tries.ensures at c.capture.ensures.calls;
