@@ -274,7 +274,7 @@ fn what_is_given_up_is_missed(rt: HostRuntime) {
         7,
         "busy busy busy busy",
         WITHOUT_READING,
-        "reading 0 30: gave up\nnot whole\n",
+        "reading 0 30: gave up\n",
     );
 }
 
