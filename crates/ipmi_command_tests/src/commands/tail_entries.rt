@@ -3,7 +3,7 @@ use super::in_words::outcome_in;
 use super::outcome::assert_outcome;
 use super::over_images::{Two, changing};
 use super::saved::{EMPTY, image_in};
-use crate::cases::{byte_of, case_of, number, parts};
+use crate::cases::{byte_of, case_of, parts};
 use ipmi_command_line::{Command, Count, Task};
 use ipmi_commands::Wording;
 use std::alloc::Global;
@@ -124,7 +124,7 @@ fn named(rt: &impl Abort, name: &str) -> &'static str {
 /// `sel tail` with a number of entries and one of tries, which are separated by a space.
 fn tail(rt: &impl Abort, words: &str) -> Command {
     let (count, tries) = words.split_once(' ').expect(rt, words);
-    let count = number(rt, count) as u16;
+    let count = u16::from_str_radix(count, 10).expect(rt, words);
     assert!(rt; 0 < count, "{words}");
     let task = Task::SelList(Count::Tail(count));
     Command::new(task, None, 32, byte_of(rt, tries), None)
