@@ -88,7 +88,7 @@ pub enum Source {
 pub struct Limits {
     /// The largest number of bytes per request, 1 to 254, if one was given.
     pub part: Option<u8>,
-    /// The number of retries for one record, reading, info or inventory.
+    /// The number of retries for one record, reading or info, and for one inventory or each part of it.
     pub tries: u8,
 }
 
