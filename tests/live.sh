@@ -231,7 +231,7 @@ for dialect in --ipmitool --freeipmi; do
       fault "$dialect capture -o ($TOOL_TROUBLES): status $status, $(head -n 1 "$work/saved")"
     fi
   done
-  # Without the fourth record and those behind it the image is partial. The file is no image before.
+  # Without the fourth record and those after it the image is partial. The file is no image before.
   TOOL_TROUBLES='refuse=ff,5,6'
   says 1 'sdr: record 0004h refused with code FFh' $dialect -- --part 254 capture
   cp "$work/out" "$work/partial"
@@ -245,7 +245,7 @@ for dialect in --ipmitool --freeipmi; do
   "$SERDIMKO" --image "$work/saved" sel list > "$work/out" || fault "$dialect, partial sel: status $?"
   "$SERDIMKO" --image "$TOOL_IMAGE" sel list | cmp -s - "$work/out" || fault "$dialect, partial sel: differs"
   "$SERDIMKO" --image "$work/saved" image rewrite | cmp -s - "$work/saved" || fault "$dialect, partial: another spelling"
-  # so do a record and an inventory behind that one
+  # so ends a command that needs a record after that one, or an inventory that one may name
   for command in 'sdr elist' 'sel elist' 'fru list' 'sensor get CPU1' 'fru print 200'; do
     # shellcheck disable=SC2086  # the words of a command
     "$SERDIMKO" --image "$work/saved" $command > "$work/out" 2> "$work/err"

@@ -31,7 +31,7 @@ fru_code _ = not_provided
 abbrev pub lacking : Item → Code → Option Lack
 lacking item code = Some (record { item = item; code = code })
 
--- the records from one id on; none behind a cycle
+-- the records from one id on; after a cycle there are none
 abbrev pub lack_of_records : Shelf → Ended → Option Lack
 lack_of_records shelf (Cycle n) = None
 lack_of_records shelf (Missing n) = lacking (Item.Record shelf n) not_present

@@ -69,7 +69,7 @@ fn lack_of_records(shelf: Shelf, ended: Ended) -> Option<Lack>
 }
 
 impl Left {
-    /// What an image notes of the item. None for a cycle, behind which there are no records, and for an inventory without bytes.
+    /// What an image notes of the item. None for a cycle, after which there are no records, and for an inventory without bytes.
     pub fn lack(&self) -> Option<Lack>
         ensures { result ≡ lack_of self.now }
     {

@@ -171,7 +171,7 @@ has_item (Item.Info shelf) store = is_some (info_of shelf store)
 has_item (Item.Inventory id) store = is_some (inventory_of id store)
 has_item asked store = false
 
--- Without the first item the second may be lacking. Behind a record any other may be; an inventory is not read without its size; a
+-- Without the first item the second may be lacking. After a record any other may be; an inventory is not read without its size; a
 -- lacking reading is only noted.
 abbrev pub hides : Item → Item → Bool
 hides (Item.Record s i) (Item.Record shelf id) = same_shelf s shelf

@@ -10,7 +10,7 @@ use ipmi_bus::{Code, CodeClass, Shelf};
 /// Something that a capture may leave out.
 #[derive(Clone, Copy, Debug, PartialEq, Eq)]
 pub enum Item {
-    /// The record that this id requests, and the records behind it.
+    /// The record that this id requests, and those that come after it.
     Record(Shelf, u16),
     /// The info of a shelf.
     Info(Shelf),
@@ -39,7 +39,7 @@ fn same_shelf(a: Shelf, b: Shelf) -> bool
 }
 
 impl Item {
-    /// Whether the other item may be lacking where this one is. Behind a record any other may be. A lacking reading is only noted.
+    /// Whether the other item may be lacking where this one is. After a record any other may be. A lacking reading is only noted.
     fn hides(self, asked: Item) -> bool
         ensures { result ≡ hides self asked }
     {
