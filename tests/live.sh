@@ -232,7 +232,7 @@ for dialect in --ipmitool --freeipmi; do
     fi
   done
   # Without the fourth record and those after it the image is partial. The file is no image before.
-  TOOL_TROUBLES='refuse=ff,5,6'
+  TOOL_TROUBLES='refuse=ff,6,7'
   says 1 'sdr: record 0004h refused with code FFh' $dialect -- --part 254 capture
   cp "$work/out" "$work/partial"
   says 1 'sdr: record 0004h refused with code FFh' $dialect -- --part 254 capture -o "$work/saved"
@@ -259,7 +259,7 @@ for dialect in --ipmitool --freeipmi; do
   live $dialect -- capture -o "$work/saved"
   captured "$dialect capture -o after a partial image" "$work/saved"
   cp "$work/saved" "$work/whole"
-  TOOL_TROUBLES='refuse=ff,5,6'
+  TOOL_TROUBLES='refuse=ff,6,7'
   says 1 "sdr: record 0004h refused with code FFh
 $work/saved stays as it is, since this image is not whole: --partial replaces it" $dialect -- --part 254 capture -o "$work/saved"
   cmp -s "$work/whole" "$work/saved" || fault "$dialect capture -o: a whole image is gone"

@@ -28,20 +28,21 @@ module _ (S : Seen → Type 0) (left left' : List Left) (more : Begins left left
       subst (λ (l : List Left). IsListedOrAbsent S Lacks l value) (sym more.1) (listed_more S Lacks left more.0 value is)
 
 -- all phases; later ones keep what was put into the image
-pub all_accounted : (S : Seen → Type 0) {l1 l2 l3 l4 l5 l6 : List Left} (i1 i2 i3 i4 i5 i6 : Store) (sensors devices : List Bool)
-    → i2 ≡ with_rows Sel (rows_of Sel i2) i1 → i3 ≡ with_info Sdr (info_of Sdr i3) i2
-    → i4 ≡ with_info Sel (info_of Sel i4) i3 → i5 ≡ record i4 { readings = i5.readings }
+pub all_accounted : (S : Seen → Type 0) {l2 l3 l4 l5 l6 : List Left} (l1 : List Left) (i1 i2 i3 i4 i5 i6 : Store) (sensors devices : List Bool)
+    → i2 ≡ with_rows Sdr (rows_of Sdr i2) i1 → i3 ≡ with_info Sel (info_of Sel i3) i2
+    → i4 ≡ with_rows Sel (rows_of Sel i4) i3 → i5 ≡ record i4 { readings = i5.readings }
     → i6 ≡ record i5 { inventories = i6.inventories } → Names i4.sdr sensors devices
     → Begins l1 l2 → Begins l2 l3 → Begins l3 l4 → Begins l4 l5 → Begins l5 l6
-    → IsShelfRead S Sdr l1 (rows_of Sdr i1) → IsShelfRead S Sel l2 (rows_of Sel i2)
-    → IsListedOrAbsent S (LacksInfo Sdr) l3 (info_of Sdr i3) → IsListedOrAbsent S (LacksInfo Sel) l4 (info_of Sel i4)
+    → IsListedOrAbsent S (LacksInfo Sdr) l1 (info_of Sdr i1) → IsShelfRead S Sdr l2 (rows_of Sdr i2)
+    → IsListedOrAbsent S (LacksInfo Sel) l3 (info_of Sel i3) → IsShelfRead S Sel l4 (rows_of Sel i4)
     → AreReadingsAccounted S sensors l5 i5 → AreInventoriesAccounted S devices l6 i6 → IsAccountedFor S l6 i6
-all_accounted S {l1} {l2} {l3} {l4} {l5} {l6} i1 i2 i3 i4 i5 i6 sensors devices e2 e3 e4 e5 e6 names g2 g3 g4 g5 g6 a b c d e f =
+all_accounted S {l2} {l3} {l4} {l5} {l6} l1 i1 i2 i3 i4 i5 i6 sensors devices e2 e3 e4 e5 e6 names g2 g3 g4 g5 g6 a b c d e f =
     let sdr_four : i6.sdr ≡ i4.sdr = ap (λ (x : Store). x.sdr) e6 ∙ ap (λ (x : Store). x.sdr) e5 in
-    let sdr_one : i6.sdr ≡ i1.sdr = sdr_four ∙ ap (λ (x : Store). x.sdr) e4 ∙ ap (λ (x : Store). x.sdr) e3 ∙ ap (λ (x : Store). x.sdr) e2 in
-    let sel_two : i6.sel ≡ i2.sel = ap (λ (x : Store). x.sel) e6 ∙ ap (λ (x : Store). x.sel) e5 ∙ ap (λ (x : Store). x.sel) e4 ∙ ap (λ (x : Store). x.sel) e3 in
-    let sdr_info : i6.sdr_info ≡ i3.sdr_info = ap (λ (x : Store). x.sdr_info) e6 ∙ ap (λ (x : Store). x.sdr_info) e5 ∙ ap (λ (x : Store). x.sdr_info) e4 in
-    let sel_info : i6.sel_info ≡ i4.sel_info = ap (λ (x : Store). x.sel_info) e6 ∙ ap (λ (x : Store). x.sel_info) e5 in
+    let sdr_two : i6.sdr ≡ i2.sdr = sdr_four ∙ ap (λ (x : Store). x.sdr) e4 ∙ ap (λ (x : Store). x.sdr) e3 in
+    let sel_four : i6.sel ≡ i4.sel = ap (λ (x : Store). x.sel) e6 ∙ ap (λ (x : Store). x.sel) e5 in
+    let sel_info : i6.sel_info ≡ i3.sel_info = ap (λ (x : Store). x.sel_info) e6 ∙ ap (λ (x : Store). x.sel_info) e5 ∙ ap (λ (x : Store). x.sel_info) e4 in
+    let sdr_info : i6.sdr_info ≡ i1.sdr_info = ap (λ (x : Store). x.sdr_info) e6 ∙ ap (λ (x : Store). x.sdr_info) e5 ∙ ap (λ (x : Store). x.sdr_info) e4
+    ∙ ap (λ (x : Store). x.sdr_info) e3 ∙ ap (λ (x : Store). x.sdr_info) e2 in
     let readings : i5.readings ≡ i6.readings = sym (ap (λ (x : Store). x.readings) e6) in
     let named : Names i6.sdr sensors devices = rw sdr_four names in
     let g46 = begins_then l4 l5 l6 g5 g6 in
@@ -49,10 +50,10 @@ all_accounted S {l1} {l2} {l3} {l4} {l5} {l6} i1 i2 i3 i4 i5 i6 sensors devices 
     let g26 = begins_then l2 l3 l6 g3 g36 in
     let g16 = begins_then l1 l2 l6 g2 g26 in
     record {
-      sdr = subst (λ (l : List Row). IsShelfRead S Sdr l6 l) (sym sdr_one) (shelf_begun S l1 l6 g16 Sdr (rows_of Sdr i1) a);
-      sel = subst (λ (l : List Row). IsShelfRead S Sel l6 l) (sym sel_two) (shelf_begun S l2 l6 g26 Sel (rows_of Sel i2) b);
-      sdr_info = subst (λ (o : _). IsListedOrAbsent S (LacksInfo Sdr) l6 o) (sym sdr_info) (value_begun S l3 l6 g36 (LacksInfo Sdr) (info_of Sdr i3) c);
-      sel_info = subst (λ (o : _). IsListedOrAbsent S (LacksInfo Sel) l6 o) (sym sel_info) (value_begun S l4 l6 g46 (LacksInfo Sel) (info_of Sel i4) d);
+      sdr = subst (λ (l : List Row). IsShelfRead S Sdr l6 l) (sym sdr_two) (shelf_begun S l2 l6 g26 Sdr (rows_of Sdr i2) b);
+      sel = subst (λ (l : List Row). IsShelfRead S Sel l6 l) (sym sel_four) (shelf_begun S l4 l6 g46 Sel (rows_of Sel i4) d);
+      sdr_info = subst (λ (o : _). IsListedOrAbsent S (LacksInfo Sdr) l6 o) (sym sdr_info) (value_begun S l1 l6 g16 (LacksInfo Sdr) (info_of Sdr i1) a);
+      sel_info = subst (λ (o : _). IsListedOrAbsent S (LacksInfo Sel) l6 o) (sym sel_info) (value_begun S l3 l6 g36 (LacksInfo Sel) (info_of Sel i3) c);
       readings = named_readings (IsReadingAccounted S l6 i6) sensors (sensors_of i6.sdr) named.keys named.sensors_are
           (λ key is mark. subst (λ (l : List SensorReading). IsListedOrAbsent S (LacksReading key.0 key.1) l6 (reading_in l key.0 key.1)) readings
           (value_begun S l5 l6 g6 (LacksReading key.0 key.1) (reading_in i5.readings key.0 key.1) (e key is mark)));

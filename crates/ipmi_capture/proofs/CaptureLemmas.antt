@@ -269,9 +269,8 @@ readings_last marks image store left more has = record {
 -- the effect of each phase on the image of the phase before it
 abbrev pub Parts : List Bool → List Bool → Store → Store → Store → Store → Store → Store → List Left → Store → Type 0
 Parts sensors devices i1 i2 i3 i4 i5 i6 left store =
-    ((((AreWalk Sdr left store (rows_of Sdr i1) × AreWalk Sel left store (rows_of Sel i2))
-    × SameOrLeft (LacksInfo Sdr) left (info_of Sdr i3) (info_of Sdr store))
-    × SameOrLeft (LacksInfo Sel) left (info_of Sel i4) (info_of Sel store))
+    ((((SameOrLeft (LacksInfo Sdr) left (info_of Sdr i1) (info_of Sdr store) × AreWalk Sdr left store (rows_of Sdr i2))
+    × SameOrLeft (LacksInfo Sel) left (info_of Sel i3) (info_of Sel store)) × AreWalk Sel left store (rows_of Sel i4))
     × HasReadings sensors left i5 store) × HasInventories devices left i6 store
 
 pub captures_parts : {S : Seen → Type 0} {tries : ℕ} {s0 s1 s2 s3 s4 s5 s6 : Seen} {l0 l1 l2 l3 l4 l5 l6 : List Left}
@@ -279,10 +278,10 @@ pub captures_parts : {S : Seen → Type 0} {tries : ℕ} {s0 s1 s2 s3 s4 s5 s6 :
     → (IsHonest s0 → StaysHonest s0 s1) → (IsHonest s1 → StaysHonest s1 s2)
     → (IsHonest s2 → StaysHonest s2 s3) → (IsHonest s3 → StaysHonest s3 s4)
     → (IsHonest s4 → StaysHonest s4 s5) → (IsHonest s5 → StaysHonest s5 s6)
-    → (IsHonest s0 → Captures S tries s0 s1 l0 l1 (AreWalk Sdr l1 s0.store (rows_of Sdr i1)))
-    → (IsHonest s1 → Captures S tries s1 s2 l1 l2 (AreWalk Sel l2 s1.store (rows_of Sel i2)))
-    → (IsHonest s2 → Captures S tries s2 s3 l2 l3 (SameOrLeft (LacksInfo Sdr) l3 (info_of Sdr i3) (info_of Sdr s2.store)))
-    → (IsHonest s3 → Captures S tries s3 s4 l3 l4 (SameOrLeft (LacksInfo Sel) l4 (info_of Sel i4) (info_of Sel s3.store)))
+    → (IsHonest s0 → Captures S tries s0 s1 l0 l1 (SameOrLeft (LacksInfo Sdr) l1 (info_of Sdr i1) (info_of Sdr s0.store)))
+    → (IsHonest s1 → Captures S tries s1 s2 l1 l2 (AreWalk Sdr l2 s1.store (rows_of Sdr i2)))
+    → (IsHonest s2 → Captures S tries s2 s3 l2 l3 (SameOrLeft (LacksInfo Sel) l3 (info_of Sel i3) (info_of Sel s2.store)))
+    → (IsHonest s3 → Captures S tries s3 s4 l3 l4 (AreWalk Sel l4 s3.store (rows_of Sel i4)))
     → (IsHonest s4 → Captures S tries s4 s5 l4 l5 (HasReadings sensors l5 i5 s4.store))
     → (IsHonest s5 → Captures S tries s5 s6 l5 l6 (HasInventories devices l6 i6 s5.store))
     → IsHonest s0 → Captures S tries s0 s6 l0 l6 (Parts sensors devices i1 i2 i3 i4 i5 i6 l6 s0.store)
@@ -294,25 +293,26 @@ captures_parts i1 i2 i3 i4 i5 i6 sensors devices stays1 stays2 stays3 stays4 sta
     let k5 = stays5 k4.honest in
     let k6 = stays6 k5.honest in
     all_parts k1 k2 k3 k4 k5 k6
-    (λ s l. AreWalk Sdr l s (rows_of Sdr i1)) (λ s l. AreWalk Sel l s (rows_of Sel i2))
-    (λ s l. SameOrLeft (LacksInfo Sdr) l (info_of Sdr i3) (info_of Sdr s)) (λ s l. SameOrLeft (LacksInfo Sel) l (info_of Sel i4) (info_of Sel s))
+    (λ s l. SameOrLeft (LacksInfo Sdr) l (info_of Sdr i1) (info_of Sdr s)) (λ s l. AreWalk Sdr l s (rows_of Sdr i2))
+    (λ s l. SameOrLeft (LacksInfo Sel) l (info_of Sel i3) (info_of Sel s)) (λ s l. AreWalk Sel l s (rows_of Sel i4))
     (λ s l. HasReadings sensors l i5 s) (λ s l. HasInventories devices l i6 s)
-    (walk_lasts Sdr (rows_of Sdr i1)) (walk_lasts Sel (rows_of Sel i2)) (info_lasts Sdr i3) (info_lasts Sel i4) (readings_last sensors i5)
+    (info_lasts Sdr i1) (walk_lasts Sdr (rows_of Sdr i2)) (info_lasts Sel i3) (walk_lasts Sel (rows_of Sel i4)) (readings_last sensors i5)
     (a h) (b k1.honest) (c k2.honest) (d k3.honest) (e k4.honest) (f k5.honest)
 
 -- later phases keep what was put into the image
-pub assemble : (left : List Left) (store i0 i1 i2 i3 i4 i5 i6 : Store) → i1 ≡ with_rows Sdr (rows_of Sdr i1) i0
-    → i2 ≡ with_rows Sel (rows_of Sel i2) i1 → i3 ≡ with_info Sdr (info_of Sdr i3) i2
-    → i4 ≡ with_info Sel (info_of Sel i4) i3 → i5 ≡ record i4 { readings = i5.readings }
+pub assemble : (left : List Left) (store i0 i1 i2 i3 i4 i5 i6 : Store) → i1 ≡ with_info Sdr (info_of Sdr i1) i0
+    → i2 ≡ with_rows Sdr (rows_of Sdr i2) i1 → i3 ≡ with_info Sel (info_of Sel i3) i2
+    → i4 ≡ with_rows Sel (rows_of Sel i4) i3 → i5 ≡ record i4 { readings = i5.readings }
     → i6 ≡ record i5 { inventories = i6.inventories } → IsStore i6 → IsStore store
     → (sensors devices : List Bool) → Names i4.sdr sensors devices
     → Parts sensors devices i1 i2 i3 i4 i5 i6 left store → IsCaptureBut left i6 store
 assemble left store i0 i1 i2 i3 i4 i5 i6 e1 e2 e3 e4 e5 e6 is_image is_store sensors devices names facts =
     let sdr_four : i6.sdr ≡ i4.sdr = ap (λ (x : Store). x.sdr) e6 ∙ ap (λ (x : Store). x.sdr) e5 in
-    let sdr_one : i6.sdr ≡ i1.sdr = sdr_four ∙ ap (λ (x : Store). x.sdr) e4 ∙ ap (λ (x : Store). x.sdr) e3 ∙ ap (λ (x : Store). x.sdr) e2 in
-    let sel_two : i6.sel ≡ i2.sel = ap (λ (x : Store). x.sel) e6 ∙ ap (λ (x : Store). x.sel) e5 ∙ ap (λ (x : Store). x.sel) e4 ∙ ap (λ (x : Store). x.sel) e3 in
-    let sdr_info : i6.sdr_info ≡ i3.sdr_info = ap (λ (x : Store). x.sdr_info) e6 ∙ ap (λ (x : Store). x.sdr_info) e5 ∙ ap (λ (x : Store). x.sdr_info) e4 in
-    let sel_info : i6.sel_info ≡ i4.sel_info = ap (λ (x : Store). x.sel_info) e6 ∙ ap (λ (x : Store). x.sel_info) e5 in
+    let sdr_two : i6.sdr ≡ i2.sdr = sdr_four ∙ ap (λ (x : Store). x.sdr) e4 ∙ ap (λ (x : Store). x.sdr) e3 in
+    let sel_four : i6.sel ≡ i4.sel = ap (λ (x : Store). x.sel) e6 ∙ ap (λ (x : Store). x.sel) e5 in
+    let sel_info : i6.sel_info ≡ i3.sel_info = ap (λ (x : Store). x.sel_info) e6 ∙ ap (λ (x : Store). x.sel_info) e5 ∙ ap (λ (x : Store). x.sel_info) e4 in
+    let sdr_info : i6.sdr_info ≡ i1.sdr_info = ap (λ (x : Store). x.sdr_info) e6 ∙ ap (λ (x : Store). x.sdr_info) e5 ∙ ap (λ (x : Store). x.sdr_info) e4
+    ∙ ap (λ (x : Store). x.sdr_info) e3 ∙ ap (λ (x : Store). x.sdr_info) e2 in
     let readings : i6.readings ≡ i5.readings = ap (λ (x : Store). x.readings) e6 in
     let named : Names i6.sdr sensors devices = rw sdr_four names in
     let has : HasReadings sensors left i6 store =
@@ -320,9 +320,9 @@ assemble left store i0 i1 i2 i3 i4 i5 i6 e1 e2 e3 e4 e5 e6 is_image is_store sen
       named = λ key is mark. subst (λ (l : List SensorReading). SameOrLeft (LacksReading key.0 key.1) left (reading_in l key.0 key.1) (reading_of key.0 key.1 store)) (sym readings) (facts.0.1.named key is mark);
       own = λ lun number. subst (λ (l : List SensorReading). NoneOrSame (reading_in l lun number) (reading_of lun number store)) (sym readings) (facts.0.1.own lun number);
     } in
-    is_capture left i6 store is_image is_store (rw sdr_one facts.0.0.0.0.0) (rw sel_two facts.0.0.0.0.1)
-    (subst (λ (o : _). SameOrLeft (LacksInfo Sdr) left o (info_of Sdr store)) (sym sdr_info) facts.0.0.0.1)
-    (subst (λ (o : _). SameOrLeft (LacksInfo Sel) left o (info_of Sel store)) (sym sel_info) facts.0.0.1)
+    is_capture left i6 store is_image is_store (rw sdr_two facts.0.0.0.0.1) (rw sel_four facts.0.0.1)
+    (subst (λ (o : _). SameOrLeft (LacksInfo Sdr) left o (info_of Sdr store)) (sym sdr_info) facts.0.0.0.0.0)
+    (subst (λ (o : _). SameOrLeft (LacksInfo Sel) left o (info_of Sel store)) (sym sel_info) facts.0.0.0.1)
     (named_readings (ReadingOrLeft left i6 store) sensors (sensors_of i6.sdr) named.keys named.sensors_are has.named)
     (named_inventories (InventoryOrLeft left i6 store) devices (devices_of i6.sdr) named.ids named.devices_are facts.1.named (inl (neither i6 store is_image is_store)))
     has.own facts.1.own
@@ -372,22 +372,22 @@ module _ (image : Store) where
       rw more.grows (All-append (IsLeftOut image) left more.more all more.all)
 
   pub left_out : {l0 l1 l2 l3 l4 l5 l6 : List Left} (i1 i2 i3 i4 i5 : Store)
-      → i2 ≡ with_rows Sel (rows_of Sel i2) i1 → i3 ≡ with_info Sdr (info_of Sdr i3) i2 → i4 ≡ with_info Sel (info_of Sel i4) i3 → i5 ≡ record i4 { readings = i5.readings }
+      → i2 ≡ with_rows Sdr (rows_of Sdr i2) i1 → i3 ≡ with_info Sel (info_of Sel i3) i2 → i4 ≡ with_rows Sel (rows_of Sel i4) i3 → i5 ≡ record i4 { readings = i5.readings }
       → image ≡ record i5 { inventories = image.inventories } → l0 ≡ []
-      → Adds (IsEndOf Sdr (rows_of Sdr i1)) l0 l1 → Adds (IsEndOf Sel (rows_of Sel i2)) l1 l2
-      → Adds (λ l. LacksInfo Sdr l × (info_of Sdr i3 ≡ None)) l2 l3
-      → Adds (λ l. LacksInfo Sel l × (info_of Sel i4 ≡ None)) l3 l4
+      → Adds (λ l. LacksInfo Sdr l × (info_of Sdr i1 ≡ None)) l0 l1 → Adds (IsEndOf Sdr (rows_of Sdr i2)) l1 l2
+      → Adds (λ l. LacksInfo Sel l × (info_of Sel i3 ≡ None)) l2 l3 → Adds (IsEndOf Sel (rows_of Sel i4)) l3 l4
       → Adds (IsUnread i5) l4 l5 → Adds (IsUnkept image) l5 l6 → All (IsLeftOut image) l6
   left_out {l0 = l0} i1 i2 i3 i4 i5 e2 e3 e4 e5 e6 empty a b c d e f =
-      let sel : rows_of Sel image ≡ rows_of Sel i2 = ap (λ (x : Store). x.sel) e6 ∙ ap (λ (x : Store). x.sel) e5 ∙ ap (λ (x : Store). x.sel) e4 ∙ ap (λ (x : Store). x.sel) e3 in
-      let sdr : rows_of Sdr image ≡ rows_of Sdr i1 = ap (λ (x : Store). x.sdr) e6 ∙ ap (λ (x : Store). x.sdr) e5 ∙ ap (λ (x : Store). x.sdr) e4 ∙ ap (λ (x : Store). x.sdr) e3 ∙ ap (λ (x : Store). x.sdr) e2 in
-      let sdr_info : image.sdr_info ≡ i3.sdr_info = ap (λ (x : Store). x.sdr_info) e6 ∙ ap (λ (x : Store). x.sdr_info) e5 ∙ ap (λ (x : Store). x.sdr_info) e4 in
-      let sel_info : image.sel_info ≡ i4.sel_info = ap (λ (x : Store). x.sel_info) e6 ∙ ap (λ (x : Store). x.sel_info) e5 in
+      let sel : rows_of Sel image ≡ rows_of Sel i4 = ap (λ (x : Store). x.sel) e6 ∙ ap (λ (x : Store). x.sel) e5 in
+      let sdr : rows_of Sdr image ≡ rows_of Sdr i2 = ap (λ (x : Store). x.sdr) e6 ∙ ap (λ (x : Store). x.sdr) e5 ∙ ap (λ (x : Store). x.sdr) e4 ∙ ap (λ (x : Store). x.sdr) e3 in
+      let sel_info : image.sel_info ≡ i3.sel_info = ap (λ (x : Store). x.sel_info) e6 ∙ ap (λ (x : Store). x.sel_info) e5 ∙ ap (λ (x : Store). x.sel_info) e4 in
+      let sdr_info : image.sdr_info ≡ i1.sdr_info = ap (λ (x : Store). x.sdr_info) e6 ∙ ap (λ (x : Store). x.sdr_info) e5 ∙ ap (λ (x : Store). x.sdr_info) e4
+      ∙ ap (λ (x : Store). x.sdr_info) e3 ∙ ap (λ (x : Store). x.sdr_info) e2 in
       let readings : image.readings ≡ i5.readings = ap (λ (x : Store). x.readings) e6 in
       let none : All (IsLeftOut image) l0 = rw empty (All-nil (IsLeftOut image)) in
-      let one = out_more (IsEndOf Sdr (rows_of Sdr i1)) (λ l out. out_end Sdr (rows_of Sdr i1) image l out sdr) none a in
-      let two = out_more (IsEndOf Sel (rows_of Sel i2)) (λ l out. out_end Sel (rows_of Sel i2) image l out sel) one b in
-      let three = out_more (λ l. LacksInfo Sdr l × (info_of Sdr i3 ≡ None)) (λ l out. out_info Sdr image l out.0 (sdr_info ∙ out.1)) two c in
-      let four = out_more (λ l. LacksInfo Sel l × (info_of Sel i4 ≡ None)) (λ l out. out_info Sel image l out.0 (sel_info ∙ out.1)) three d in
+      let one = out_more (λ l. LacksInfo Sdr l × (info_of Sdr i1 ≡ None)) (λ l out. out_info Sdr image l out.0 (sdr_info ∙ out.1)) none a in
+      let two = out_more (IsEndOf Sdr (rows_of Sdr i2)) (λ l out. out_end Sdr (rows_of Sdr i2) image l out sdr) one b in
+      let three = out_more (λ l. LacksInfo Sel l × (info_of Sel i3 ≡ None)) (λ l out. out_info Sel image l out.0 (sel_info ∙ out.1)) two c in
+      let four = out_more (IsEndOf Sel (rows_of Sel i4)) (λ l out. out_end Sel (rows_of Sel i4) image l out sel) three d in
       let five = out_more (IsUnread i5) (λ l out. out_reading out.key.0 out.key.1 image l out.lacks (ap (λ (list : List SensorReading). reading_in list out.key.0 out.key.1) readings ∙ out.none)) four e in
       out_more (IsUnkept image) (λ l out. out_inventory out.id image l out.lacks out.none) five f

@@ -3,7 +3,7 @@ use Rattle.std.proofs.Common.{◌≡◌, ℕ, zero, suc, ◌==◌, false, Option
 use Rattle.std.specs.Prelude.{flat_map}
 use Rattle.std.proofs.lemmas.Bool.Decides.{nat_tests}
 use Rattle.std.proofs.lemmas.List.Concat.{flat_map-append}
-use Rattle.ipmi_capture.specs.Below.{Code, Cycle, CursorState, Ended, FruEnded, GaveUp, InventoryCounts, IsLastPart, IsRefused, IsRefusedWith, Malformed, Missing, PartsCame, Refused, Seen, Shelf, Stalled, StepAnswers, Store, ValueIs, WithinTries}
+use Rattle.ipmi_capture.specs.Below.{Code, Cycle, CursorState, Ended, FruEnded, GaveUp, InventoryCounts, IsLastPart, IsRefusedWith, Malformed, Missing, PartsCame, Refused, Seen, Shelf, Stalled, StepAnswers, Store, ValueIs, WithinTries}
 use Rattle.ipmi_capture.specs.Left.{AreCounted, CountsGrow, HaveStretches, IsStateOf, IsUnreadOver, unread_in, unread_of}
 use Rattle.ipmi_capture.specs.Phases.{IsNotPlain}
 use Rattle.ipmi_capture.specs.declared.left.Left.{Left}
@@ -158,15 +158,7 @@ module _ (S : Seen → Type 0) (tries : ℕ) {s s' s'' : Seen} where
   counted_inventory i id FruEnded.Words from to not counts after = absurd counts
 
   pub counted_size : (i id : ℕ) (code : Code) → S s → S s' → S s'' → IsNotPlain (FruEnded.Refused code)
-      → InventoryCounts id tries s s' (Err (FruEnded.Refused code)) → IsRefused code.0 s' s''
+      → InventoryCounts id tries s s' (Err (FruEnded.Refused code)) → IsRefusedWith tries code.0 s' s''
       → AreCounted S tries (Left.Size i code ∷ []) s s''
   counted_size i id code from to end not counts again =
-      (s, s', from, to, grown_none s, refused_inventory id code not counts, (s', s'', to, end, grown_none s', once_more, grown_none s''))
-    where
-      once_more : IsRefusedWith tries code.0 s' s''
-      once_more = record {
-        grows = omega (arith, again.troubles);
-        troubles = omega (arith, again.troubles);
-        refusals = again.refusals;
-        last_code = again.last_code;
-      }
+      (s, s', from, to, grown_none s, refused_inventory id code not counts, (s', s'', to, end, grown_none s', again, grown_none s''))

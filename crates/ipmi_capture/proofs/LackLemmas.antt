@@ -1,8 +1,7 @@
 -- What an image notes of the items that were left out.
-use Rattle.std.proofs.Common.{◌≡◌, ◌∷◌, [], ◌&&◌, Bool, true, false, Option, None, Some, List, filter_map, not, refl, rules}
+use Rattle.std.proofs.Common.{◌≡◌, ◌∷◌, [], List, filter_map, not, refl}
 use Rattle.std.specs.List.{list_all}
-use Rattle.ipmi_image.specs.Snapshot.{hides_part, is_partial}
-use Rattle.ipmi_image.specs.declared.lack.Lack.{Lack}
+use Rattle.ipmi_image.specs.Snapshot.{is_partial}
 use Rattle.ipmi_capture.specs.Below.{Cycle, GaveUp, Malformed, Missing, Refused, Stalled}
 use Rattle.ipmi_capture.specs.Lacks.{lack_of}
 use Rattle.ipmi_capture.specs.Left.{leaves_whole}

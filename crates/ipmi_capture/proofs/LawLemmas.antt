@@ -6,22 +6,19 @@ use Rattle.std.proofs.lemmas.List.Elements.{All-cons, All-contains, All-contains
 use Rattle.std.proofs.lemmas.Option.{none-some}
 use Rattle.ipmi_capture.specs.Below.{End, EndsBy, First, first_row, FoundIsRow, Id, info_of, inventory_of, IsStore, IsWalk, look, Place, place_after, place_after_rows, Reading, reading_of, Row, row_with_id, rows_of, Sdr, SdrFault, SdrView, sdr_view_of, Sel, Shelf, start_of, Store, store_shelf, WalkEnd, WalkExists, WalkIsUnique}
 use Rattle.ipmi_capture.specs.Capture.{device_named, devices_of, HasWalk, InventoryOrLeft, IsCaptureBut, IsCaptureOf, ReadingOrLeft, SameInventory, SameReading, SameWalk, sensor_named, sensors_of, WalkOrLeft}
-use Rattle.ipmi_capture.specs.Laws.{AreOfCapture, CapturesPrintTheSame, CapturesPrintWhatTheyHave, devices_asked, is_info_asked, is_walked, IsKnownPlace, IsOfCapture, IsUnneeded, PrintsTheSame, SameText, sensors_asked}
+use Rattle.ipmi_capture.specs.Laws.{AreOfCapture, CapturesPrintTheSame, CapturesPrintWhatTheyHave, devices_asked, is_info_asked, is_walked, IsKnownPlace, IsOfCapture, IsUnneeded, PrintsTheSame, SamePlan, SameText, sensors_asked}
 use Rattle.ipmi_capture.specs.Left.{EndIsNoted, LacksInfo, LacksInventory, LacksReading, LacksRecords, SameOrLeft}
 use Rattle.ipmi_capture.specs.declared.left.Left.{Left}
-use Rattle.ipmi_commands.specs.Prelude.{after_names, after_points, AtInventory, AtRecord, bytes_of_rows, entries_in, has_last, IfChosen, info_plan, inventories_plan, inventory_plan, is_name, IsBlockIn, IsBlockOfName, IsDevicePiece, IsInventoryIn, IsLocatorPiece, IsRowText, Item, last_plan, last_rows, listing, listing_plan, OfInventory, OnEntries, OnTail, OnTailFrom, OnTried, OnWalk, OnWhole, Plan, points_of_walk, reading_by, reading_for, row_is_of_kind, row_items, ReadPoint, tail_from, walk_call_bound, points_before, view_has_name, with_first_points}
-use Rattle.ipmi_commands.specs.declared.job.Entries.{Entries}
+use Rattle.ipmi_commands.specs.Prelude.{after_names, after_points, AtInventory, AtRecord, bytes_of_rows, devices_job, events_job, named_entries, has_last, IfChosen, info_plan, inventories_plan, inventory_plan, is_name, IsBlockOfName, IsDevicePiece, IsLocatorPiece, IsRecordText, IsRowText, IsTextOfRecord, Texts, Item, last_plan, last_rows, listing, listing_plan, OfInventory, OnEntries, OnTail, OnTailFrom, OnTried, OnWalk, OnWhole, Plan, points_of_walk, reading_by, reading_for, row_is_of_kind, row_items, ReadPoint, tail_from, walk_call_bound, points_before, view_has_name, with_first_points}
+use Rattle.ipmi_commands.specs.declared.format.Detail.{Detail}
+use Rattle.ipmi_commands.specs.declared.job.EntryText.{EntryText}
 use Rattle.ipmi_commands.specs.declared.job.Form.{Form}
-use Rattle.ipmi_commands.specs.declared.job.Wording.{Wording}
 use Rattle.ipmi_commands.specs.declared.limits.Tries.{Tries}
 use Rattle.ipmi_command_line.specs.declared.task.Count.{Count}
 use Rattle.ipmi_command_line.specs.declared.task.Kind.{Kind}
 use Rattle.ipmi_command_line.specs.declared.task.Task.{Task}
 use Rattle.ipmi_events.specs.Name.{device_name}
-use Rattle.ipmi_events.specs.SensorLines.{IsSensorLine}
-use Rattle.ipmi_json.specs.Object.{IsLineOf}
-use Rattle.ipmi_json.specs.Sdr as json
-use Rattle.ipmi_records.specs.SdrText.{fault_line, IsExtendedLine, IsSdrLine, printed_name}
+use Rattle.ipmi_records.specs.SdrText.{printed_name}
 use Rattle.ipmi_records.specs.Sdr as sdr
 use Rattle.ipmi_commands.proofs.TailLemmas.{tail_map}
 use Rattle.ipmi_capture.proofs.FromLemmas.{Among, from_end, from_id, look_at}
@@ -40,87 +37,73 @@ chosen : (P Q : List ℕ → Type 0) (b : Bool) → (b ≡ true → Same P Q)
 chosen P Q true same = same refl
 chosen P Q false same = itself (λ text. text ≡ [])
 
--- the line of a record in one of its forms, or the line of its fault
-abbrev LineBy : (SdrView → Option Reading → List ℕ → Type 0) → (SdrFault → List ℕ → Type 0) → Store
-    → Result SdrView SdrFault → List ℕ → Type 0
-LineBy IsLine IsFault store (Ok view) text = IsLine view (reading_for store view) text
-LineBy IsLine IsFault store (Err fault) text = IsFault fault text
-
--- the line of a fault
-abbrev fault_is : ℕ → SdrFault → List ℕ → Type 0
-fault_is id fault text = text ≡ fault_line id fault
-
-module _ (a b : Store) where
+module _ (x : Texts) (a b : Store) where
   -- the reading requested for a record is the same in both stores
   abbrev SameFor : Result SdrView SdrFault → Type 0
   SameFor (Ok view) = reading_for a view ≡ reading_for b view
   SameFor (Err fault) = Unit {0}
 
-  record_line : (IsLine : SdrView → Option Reading → List ℕ → Type 0) (IsFault : SdrFault → List ℕ → Type 0)
-      (r : Result SdrView SdrFault) → SameFor r
-      → Same (λ text. LineBy IsLine IsFault a r text) (λ text. LineBy IsLine IsFault b r text)
-  record_line IsLine IsFault (Ok view) same =
-      subst (λ (o : Option Reading). Same (λ text. IsLine view (reading_for a view) text) (λ text. IsLine view o text)) same (itself _)
-  record_line IsLine IsFault (Err fault) same = itself _
+  record_text : (detail : Detail) (row : Row) (r : Result SdrView SdrFault) → SameFor r
+      → Same (λ text. IsRecordText x detail a row r text) (λ text. IsRecordText x detail b row r text)
+  record_text detail row (Ok view) same =
+      subst (λ (o : Option Reading). Same (λ text. IsTextOfRecord x detail row.id view (reading_for a view) text) (λ text. IsTextOfRecord x detail row.id view o text)) same (itself _)
+  record_text detail row (Err fault) same = itself _
 
-  block : (wording : Wording) (name : List ℕ) (id : ℕ) (r : Result SdrView SdrFault)
-      → (view_has_name name r ≡ true → SameFor r)
-      → Same (λ text. IsBlockOfName wording name a id r text) (λ text. IsBlockOfName wording name b id r text)
-  block wording name id (Ok view) same =
+  block : (name : List ℕ) (id : ℕ) (r : Result SdrView SdrFault) → (view_has_name name r ≡ true → SameFor r)
+      → Same (λ text. IsBlockOfName x name a id r text) (λ text. IsBlockOfName x name b id r text)
+  block name id (Ok view) same =
       chosen _ _ (is_name name (sdr.name_of view)) (λ has.
-      subst (λ (o : Option Reading). Same (λ text. IsBlockIn wording id view (reading_for a view) text) (λ text. IsBlockIn wording id view o text)) (same has) (itself _))
-  block wording name id (Err fault) same = itself _
+      subst (λ (o : Option Reading). Same (λ text. IsTextOfRecord x Detail.Block id view (reading_for a view) text) (λ text. IsTextOfRecord x Detail.Block id view o text)) (same has) (itself _))
+  block name id (Err fault) same = itself _
 
-  piece : (wording : Wording) (id : ℕ) (name : Option (List ℕ)) → inventory_of id a ≡ inventory_of id b
-      → Same (λ text. IsInventoryIn wording id name (inventory_of id a) text) (λ text. IsInventoryIn wording id name (inventory_of id b) text)
-  piece wording id name same =
-      subst (λ (o : Option (List ℕ)). Same (λ text. IsInventoryIn wording id name (inventory_of id a) text) (λ text. IsInventoryIn wording id name o text)) same (itself _)
+  piece : (detail : Detail) (id : ℕ) (name : Option (List ℕ)) → inventory_of id a ≡ inventory_of id b
+      → Same (λ text. x.IsDevice detail id name (inventory_of id a) text) (λ text. x.IsDevice detail id name (inventory_of id b) text)
+  piece detail id name same =
+      subst (λ (o : Option (List ℕ)). Same (λ text. x.IsDevice detail id name (inventory_of id a) text) (λ text. x.IsDevice detail id name o text)) same (itself _)
 
-  device : (wording : Wording) (name : List ℕ) (o : Option ℕ)
-      → ((id : ℕ) → o ≡ Some id → inventory_of id a ≡ inventory_of id b)
-      → Same (λ text. IsDevicePiece wording a name o text) (λ text. IsDevicePiece wording b name o text)
-  device wording name None same = itself _
-  device wording name (Some id) same = chosen _ _ _ (λ other. piece wording id (Some name) (same id refl))
+  device : (name : List ℕ) (o : Option ℕ) → ((id : ℕ) → o ≡ Some id → inventory_of id a ≡ inventory_of id b)
+      → Same (λ text. IsDevicePiece x a name o text) (λ text. IsDevicePiece x b name o text)
+  device name None same = itself _
+  device name (Some id) same = chosen _ _ _ (λ other. piece Detail.Line id (Some name) (same id refl))
 
-  locator : (wording : Wording) (r : Result SdrView SdrFault)
-      → ((id : ℕ) → device_named r ≡ Some id → inventory_of id a ≡ inventory_of id b)
-      → Same (λ text. IsLocatorPiece wording a r text) (λ text. IsLocatorPiece wording b r text)
-  locator wording (Ok (SdrView.Fru bytes)) same = device wording (printed_name (SdrView.Fru bytes)) (sdr.fru_of (SdrView.Fru bytes)) same
-  locator wording (Ok (SdrView.Full bytes)) same = itself _
-  locator wording (Ok (SdrView.Compact bytes)) same = itself _
-  locator wording (Ok (SdrView.EventOnly bytes)) same = itself _
-  locator wording (Ok (SdrView.Generic bytes)) same = itself _
-  locator wording (Ok (SdrView.Controller bytes)) same = itself _
-  locator wording (Ok (SdrView.Other bytes)) same = itself _
-  locator wording (Err fault) same = itself _
+  locator : (r : Result SdrView SdrFault) → ((id : ℕ) → device_named r ≡ Some id → inventory_of id a ≡ inventory_of id b)
+      → Same (λ text. IsLocatorPiece x a r text) (λ text. IsLocatorPiece x b r text)
+  locator (Ok (SdrView.Fru bytes)) same = device (printed_name (SdrView.Fru bytes)) (sdr.fru_of (SdrView.Fru bytes)) same
+  locator (Ok (SdrView.Full bytes)) same = itself _
+  locator (Ok (SdrView.Compact bytes)) same = itself _
+  locator (Ok (SdrView.EventOnly bytes)) same = itself _
+  locator (Ok (SdrView.Generic bytes)) same = itself _
+  locator (Ok (SdrView.Controller bytes)) same = itself _
+  locator (Ok (SdrView.Other bytes)) same = itself _
+  locator (Err fault) same = itself _
 
   -- ---- items
 
   rows_same : (form : _) (start : Place) (rows : List Row)
-      → ((row : Row) → Among rows row → Same (λ text. IsRowText a form row text) (λ text. IsRowText b form row text))
-      → All (SameText a b) (row_items form start rows)
-  rows_same form start [] same = All-nil (SameText a b)
+      → ((row : Row) → Among rows row → Same (λ text. IsRowText x a form row text) (λ text. IsRowText x b form row text))
+      → All (SameText x a b) (row_items form start rows)
+  rows_same form start [] same = All-nil (SameText x a b)
   rows_same form start (row ∷ rows) same =
-      All-cons (SameText a b) _ _ (same row (inl refl)) (rows_same form (place_after row.next) rows (λ r among. same r (inr among)))
+      All-cons (SameText x a b) _ _ (same row (inl refl)) (rows_same form (place_after row.next) rows (λ r among. same r (inr among)))
 
   -- the inventory of a device, and other items
-  inventory_same : (wording : Wording) (id : ℕ) (name : Option (List ℕ)) (items : List Item) (points : List ReadPoint)
-      → inventory_of id a ≡ inventory_of id b → All (SameText a b) items
-      → All (SameText a b) (record { subject = OfInventory wording id name; points = points } ∷ items)
-  inventory_same wording id name items points same others =
-      All-cons (SameText a b) _ _ (piece wording id name same) others
+  inventory_same : (detail : Detail) (id : ℕ) (name : Option (List ℕ)) (items : List Item) (points : List ReadPoint)
+      → inventory_of id a ≡ inventory_of id b → All (SameText x a b) items
+      → All (SameText x a b) (record { subject = OfInventory detail id name; points = points } ∷ items)
+  inventory_same detail id name items points same others =
+      All-cons (SameText x a b) _ _ (piece detail id name same) others
 
   -- the first item with other points
-  first_texts : (points : List ReadPoint) (items : List Item) → All (SameText a b) items
-      → All (SameText a b) (with_first_points points items)
+  first_texts : (points : List ReadPoint) (items : List Item) → All (SameText x a b) items
+      → All (SameText x a b) (with_first_points points items)
   first_texts points [] same = same
   first_texts points (item ∷ items) same =
-      All-cons (SameText a b) (record { subject = item.subject; points = points }) items (All-head (SameText a b) item items same) (All-tail (SameText a b) item items same)
+      All-cons (SameText x a b) (record { subject = item.subject; points = points }) items (All-head (SameText x a b) item items same) (All-tail (SameText x a b) item items same)
 
-  info_same : (wording : Wording) (shelf : Shelf) (o : Option (List ℕ))
-      → All (SameText a b) (info_plan wording shelf o).items
-  info_same wording shelf None = All-nil (SameText a b)
-  info_same wording shelf (Some info) = All-cons (SameText a b) _ [] (itself _) (All-nil (SameText a b))
+  info_same : (shelf : Shelf) (o : Option (List ℕ))
+      → All (SameText x a b) (info_plan shelf o).items
+  info_same shelf None = All-nil (SameText x a b)
+  info_same shelf (Some info) = All-cons (SameText x a b) _ [] (itself _) (All-nil (SameText x a b))
 
 -- ---- names in rows
 
@@ -191,8 +174,8 @@ of_some {X = X} h P test (row ∷ rows) all =
 -- ---- the requests of a command
 
 -- everything that the command requests is the same in both stores
-record HasAsked (image store : Store) (task : Task) (wording : Wording) : Type 0 where
-  walk : (shelf : Shelf) → is_walked shelf task wording ≡ true → SameWalk shelf image store
+record HasAsked (has_names : Detail → Bool) (image store : Store) (task : Task) : Type 0 where
+  walk : (shelf : Shelf) → is_walked shelf has_names task ≡ true → SameWalk shelf image store
   info : (shelf : Shelf) → is_info_asked shelf task ≡ true → info_of shelf image ≡ info_of shelf store
   readings : All (SameReading image store) (sensors_asked task image.sdr)
   inventories : All (SameInventory image store) (devices_asked task image.sdr)
@@ -226,9 +209,9 @@ module _ (image : Store) where
   asked_inventories P Task.Rewrite from known all = All-nil P
 
 -- this holds for a capture that lacks nothing
-asked_of_capture : (image store : Store) (wording : Wording) (task : Task) (from : Option ℕ)
-    → IsCaptureOf image store → IsOfCapture image task from → HasAsked image store task wording
-asked_of_capture image store wording task from capture known = record {
+asked_of_capture : (has_names : Detail → Bool) (image store : Store) (task : Task) (from : Option ℕ)
+    → IsCaptureOf image store → IsOfCapture image task from → HasAsked has_names image store task
+asked_of_capture has_names image store task from capture known = record {
   walk = λ shelf walked. walk shelf;
   info = λ shelf asked. info shelf;
   readings = asked_readings image (SameReading image store) task capture.readings;
@@ -244,19 +227,19 @@ asked_of_capture image store wording task from capture known = record {
     info Sel = capture.sel_info
 
 -- this holds for a capture that lacks only items that are not requested
-module _ (left : List Left) (image store : Store) (wording : Wording) (task : Task) (from : Option ℕ)
-    (capture : IsCaptureBut left image store) (unneeded : All (IsUnneeded image wording task) left)
+module _ (has_names : Detail → Bool) (left : List Left) (image store : Store) (task : Task) (from : Option ℕ)
+    (capture : IsCaptureBut left image store) (unneeded : All (IsUnneeded has_names image task) left)
     (known : IsOfCapture image task from) where
   -- no item left out is requested
-  never : (P : Left → Type 0) → ((l : Left) → IsUnneeded image wording task l → P l → ⊥) → Any P left → ⊥
-  never P none any = none any.1 (subst (λ (l : Left). IsUnneeded image wording task l) any.3 (unneeded any.0 any.1 any.2)) any.4
+  never : (P : Left → Type 0) → ((l : Left) → IsUnneeded has_names image task l → P l → ⊥) → Any P left → ⊥
+  never P none any = none any.1 (subst (λ (l : Left). IsUnneeded has_names image task l) any.3 (unneeded any.0 any.1 any.2)) any.4
 
   same_of : {V : Type 0} (P : Left → Type 0) (a b : Option V)
-      → ((l : Left) → IsUnneeded image wording task l → P l → ⊥) → SameOrLeft P left a b → a ≡ b
+      → ((l : Left) → IsUnneeded has_names image task l → P l → ⊥) → SameOrLeft P left a b → a ≡ b
   same_of P a b none (inl same) = same
   same_of P a b none (inr lacks) = absurd (never P none lacks.1)
 
-  walk_of : (shelf : Shelf) → is_walked shelf task wording ≡ true → WalkOrLeft shelf left image store
+  walk_of : (shelf : Shelf) → is_walked shelf has_names task ≡ true → WalkOrLeft shelf left image store
       → SameWalk shelf image store
   walk_of shelf walked walks = λ walk end is ends. by walk end (walks walk end is ends)
     where
@@ -268,7 +251,7 @@ module _ (left : List Left) (image store : Store) (wording : Wording) (task : Ta
       by walk end (inr front) =
           absurd (never (LacksRecords shelf) (λ l none lacks. true≢false (sym walked ∙ none.records shelf lacks)) front.1)
 
-  asked_of_rest : HasAsked image store task wording
+  asked_of_rest : HasAsked has_names image store task
   asked_of_rest = record {
     walk = λ shelf walked. walk shelf walked;
     info = λ shelf asked. info shelf asked;
@@ -286,7 +269,7 @@ module _ (left : List Left) (image store : Store) (wording : Wording) (task : Ta
         (asked_inventories image (InventoryOrLeft left image store) task from known capture.inventories k d lt);
   }
     where
-      walk : (shelf : Shelf) → is_walked shelf task wording ≡ true → SameWalk shelf image store
+      walk : (shelf : Shelf) → is_walked shelf has_names task ≡ true → SameWalk shelf image store
       walk Sdr walked = walk_of Sdr walked capture.sdr
       walk Sel walked = walk_of Sel walked capture.sel
 
@@ -296,7 +279,7 @@ module _ (left : List Left) (image store : Store) (wording : Wording) (task : Ta
 
 -- ---- plans
 
-module _ (exists : WalkExists) (unique : WalkIsUnique) (found : FoundIsRow) (image store : Store)
+module _ (x : Texts) (exists : WalkExists) (unique : WalkIsUnique) (found : FoundIsRow) (image store : Store)
     (is_image : IsStore image) (is_store : IsStore store) where
   same_from : (shelf : Shelf) (start : Place) → SameWalk shelf image store → IsKnownPlace shelf image start
       → (walk : List Row) (end : WalkEnd) → IsWalk (rows_of shelf store) start walk
@@ -324,21 +307,21 @@ module _ (exists : WalkExists) (unique : WalkIsUnique) (found : FoundIsRow) (ima
   records_same : (form : _) (from : Option ℕ) → SameWalk Sdr image store
       → IsKnownPlace Sdr image (start_of from)
       → ((row : Row) → Among image.sdr row
-      → Same (λ text. IsRowText image form row text) (λ text. IsRowText store form row text))
+      → Same (λ text. IsRowText x image form row text) (λ text. IsRowText x store form row text))
       → OnWalk Sdr (start_of from) store (λ walk end. OnWalk Sdr (start_of from) image (λ walk' end'.
-      (walk' ≡ walk) × (end' ≡ end) × All (SameText image store) (row_items form (start_of from) walk)))
+      (walk' ≡ walk) × (end' ≡ end) × All (SameText x image store) (row_items form (start_of from) walk)))
   records_same form from walks known same = λ walk end is ends walk' end' is' ends'.
       let one = one_walk Sdr (start_of from) walks known walk walk' end end' is ends is' ends' in (
         one.0,
         one.1,
-        rows_same image store form (start_of from) walk (λ row among. same row
+        rows_same x image store form (start_of from) walk (λ row among. same row
             (looked_up image.sdr row.id row (look_at image.sdr walk row one.2.of_shelf among))),
       )
 
   -- the readings that it requests
   row_reads : (test : Row → Bool) → All (SameReading image store) (sensors_of (filter test image.sdr))
       → (row : Row) → Among image.sdr row → test row ≡ true
-      → SameFor image store (sdr_view_of row.bytes)
+      → SameFor x image store (sdr_view_of row.bytes)
   row_reads test same row among passes = by (sdr_view_of row.bytes) (λ key is.
       named (λ (r : Row). sensor_named (sdr_view_of r.bytes)) (SameReading image store) (filter test image.sdr) row key (kept test image.sdr row among passes) is same)
     where
@@ -349,7 +332,7 @@ module _ (exists : WalkExists) (unique : WalkIsUnique) (found : FoundIsRow) (ima
 
       by : (r : Result SdrView SdrFault)
           → ((key : ℕ × ℕ) → sensor_named r ≡ Some key → SameReading image store key)
-          → SameFor image store r
+          → SameFor x image store r
       by (Ok view) same = reading (sdr.reading_of view) same
       by (Err fault) same = tt
 
@@ -357,59 +340,41 @@ module _ (exists : WalkExists) (unique : WalkIsUnique) (found : FoundIsRow) (ima
   listing_same : (form : _) (from : Option ℕ) → SameWalk Sdr image store
       → IsKnownPlace Sdr image (start_of from)
       → ((row : Row) → Among image.sdr row
-      → Same (λ text. IsRowText image form row text) (λ text. IsRowText store form row text))
+      → Same (λ text. IsRowText x image form row text) (λ text. IsRowText x store form row text))
       → OnWalk Sdr (start_of from) store (λ walk end. OnWalk Sdr (start_of from) image (λ walk' end'.
       (listing_plan (listing form (start_of from) None) walk' end' ≡ listing_plan (listing form (start_of from) None) walk end)
-      × All (SameText image store) (listing_plan (listing form (start_of from) None) walk end).items))
+      × All (SameText x image store) (listing_plan (listing form (start_of from) None) walk end).items))
   listing_same form from walks known same = λ walk end is ends walk' end' is' ends'.
       let one = records_same form from walks known same walk end is ends walk' end' is' ends' in
       (rw (one.0, one.1) refl, one.2)
 
-  -- the texts of a record of the kind
-  module _ (kind : Kind) (readings : All (SameReading image store) (sensors_of (filter (row_is_of_kind kind) image.sdr)))
-      (row : Row) (among : Among image.sdr row) where
-    line_same : (IsLine : SdrView → Option Reading → List ℕ → Type 0) (IsFault : SdrFault → List ℕ → Type 0)
-        → Same (λ text. IfChosen (row_is_of_kind kind row) (λ t. LineBy IsLine IsFault image (sdr_view_of row.bytes) t) text)
-        (λ text. IfChosen (row_is_of_kind kind row) (λ t. LineBy IsLine IsFault store (sdr_view_of row.bytes) t) text)
-    line_same IsLine IsFault =
-        chosen _ _ (row_is_of_kind kind row) (λ passes. record_line image store IsLine IsFault (sdr_view_of row.bytes)
-        (row_reads (row_is_of_kind kind) readings row among passes))
-
-  -- objects of the records of a kind
-  objects_same : (labels : _) (kind : Kind) (from : Option ℕ) → SameWalk Sdr image store
-      → All (SameReading image store) (sensors_of (filter (row_is_of_kind kind) image.sdr))
-      → IsKnownPlace Sdr image (start_of from) → PrintsTheSame image store (Wording.Json labels) (Task.List kind) from
-  objects_same labels kind from walks readings known = λ tries tries'.
-      listing_same _ from walks known (λ row among. line_same kind readings row among
-      (λ view reading text. json.IsSdrLine row.id view reading labels.now text)
-      (λ fault text. IsLineOf (json.fault_members row.id fault row.bytes) labels.now text))
+  -- the text of a record of the kind
+  record_same : (detail : Detail) (kind : Kind) → All (SameReading image store) (sensors_of (filter (row_is_of_kind kind) image.sdr))
+      → (row : Row) → Among image.sdr row
+      → Same (λ text. IsRowText x image (Form.Record detail kind) row text) (λ text. IsRowText x store (Form.Record detail kind) row text)
+  record_same detail kind readings row among =
+      chosen _ _ (row_is_of_kind kind row) (λ passes. record_text x image store detail row (sdr_view_of row.bytes)
+      (row_reads (row_is_of_kind kind) readings row among passes))
 
   -- the block of a record with the name
-  block_same : (wording : Wording) (name : List ℕ)
+  block_same : (name : List ℕ)
       → All (SameReading image store) (sensors_of (filter (λ row. view_has_name name (sdr_view_of row.bytes)) image.sdr))
       → (row : Row) → Among image.sdr row
-      → Same (λ text. IsBlockOfName wording name image row.id (sdr_view_of row.bytes) text)
-      (λ text. IsBlockOfName wording name store row.id (sdr_view_of row.bytes) text)
-  block_same wording name readings row among =
-      block image store wording name row.id (sdr_view_of row.bytes)
+      → Same (λ text. IsBlockOfName x name image row.id (sdr_view_of row.bytes) text)
+      (λ text. IsBlockOfName x name store row.id (sdr_view_of row.bytes) text)
+  block_same name readings row among =
+      block x image store name row.id (sdr_view_of row.bytes)
       (row_reads (λ (r : Row). view_has_name name (sdr_view_of r.bytes)) readings row among)
 
-  -- one entry
-  entry_same : (id : ℕ) (from : Option ℕ) → SameWalk Sel image store → IsKnownPlace Sel image (Id id)
-      → PrintsTheSame image store Wording.Plain (Task.SelGet id) from
-  entry_same id from walks known = λ tries tries' walk end is ends walk' end' is' ends'.
-      let one = one_walk Sel (Id id) walks known walk walk' end end' is ends is' ends' in
-      (rw (one.0, one.1) refl, rows_same image store _ (Id id) (take 1 walk) (λ row among. itself _))
-
   -- the last entries of a walk from the first one, with lines of this form
-  module _ (entries : Entries) (n : ℕ) (walks : SameWalk Sel image store) (tries tries' : Tries) where
+  module _ (entries : EntryText) (n : ℕ) (walks : SameWalk Sel image store) (tries tries' : Tries) where
     abbrev Agree : Plan → Plan → Type 0
-    Agree plan plan' = (plan' ≡ plan) × All (SameText image store) plan.items
+    Agree plan plan' = (plan' ≡ plan) × All (SameText x image store) plan.items
 
     last_agree : (points : List ReadPoint) (start : Place) (walk : List Row) (end : WalkEnd)
-        → All (SameText image store) (after_points points (last_plan entries n start walk end)).items
+        → All (SameText x image store) (after_points points (last_plan entries n start walk end)).items
     last_agree points start walk end =
-        first_texts image store _ _ (first_texts image store _ _ (rows_same image store _ (place_after_rows start (take (length walk - n) walk)) (last_rows n walk end) (λ row among. itself _)))
+        first_texts x image store _ _ (first_texts x image store _ _ (rows_same x image store _ (place_after_rows start (take (length walk - n) walk)) (last_rows n walk end) (λ row among. itself _)))
 
     whole_same : (points : List ReadPoint) (calls calls' : ℕ) → OnWhole points calls entries n tries store (λ plan c.
         OnWhole points calls' entries n tries' image (λ plan' c'. Agree plan plan'))
@@ -461,147 +426,141 @@ module _ (exists : WalkExists) (unique : WalkIsUnique) (found : FoundIsRow) (ima
       → SameWalk Sel image store → SameStart count → AreOfCapture image count from → (tries tries' : Tries)
       → OnEntries entries count from tries store (λ plan calls.
       OnEntries entries count from tries' image (λ plan' calls'.
-      (plan' ≡ plan) × All (SameText image store) plan.items))
+      (plan' ≡ plan) × All (SameText x image store) plan.items))
   lines_same entries Count.All from walks start known = λ tries tries' walk end is ends walk' end' is' ends'.
       let one = one_walk Sel (start_of from) walks known walk walk' end end' is ends is' ends' in
-      (rw (one.0, one.1) refl, rows_same image store _ (start_of from) walk (λ row among. itself _))
+      (rw (one.0, one.1) refl, rows_same x image store _ (start_of from) walk (λ row among. itself _))
   lines_same entries (Count.First n) from walks start known = λ tries tries' walk end is ends walk' end' is' ends'.
       let one = one_walk Sel (start_of from) walks known walk walk' end end' is ends is' ends' in
-      (rw (one.0, one.1) refl, rows_same image store _ (start_of from) (take n walk) (λ row among. itself _))
+      (rw (one.0, one.1) refl, rows_same x image store _ (start_of from) (take n walk) (λ row among. itself _))
   lines_same entries (Count.Last n) from walks start known = λ tries tries' walk end is ends walk' end' is' ends'.
       let place = start_of from in
       let one = one_walk Sel place walks known walk walk' end end' is ends is' ends' in
       let at = place_after_rows place (take (length walk - n) walk) in (
         rw (one.0, one.1) refl,
-        first_texts image store _ _ (rows_same image store _ at (last_rows n walk end) (λ row among. itself _)),
+        first_texts x image store _ _ (rows_same x image store _ at (last_rows n walk end) (λ row among. itself _)),
       )
   lines_same entries (Count.Tail n) from walks start known = λ tries tries'.
       subst (λ (o : Option ℕ). OnTailFrom o entries n tries store (λ plan c. OnTail entries n tries' image (λ plan' c'. Agree entries n walks tries tries' plan plan')))
       (ap (tail_from n) start) (tail_same entries n walks tries tries' (tail_from n (info_of Sel image)) known)
 
-  entries_same : (count : Count) (from : Option ℕ) → SameWalk Sel image store → SameStart count
-      → AreOfCapture image count from → PrintsTheSame image store Wording.Plain (Task.SelList count) from
-  entries_same Count.All from walks start known = lines_same _ Count.All from walks start known
-  entries_same (Count.First n) from walks start known = lines_same _ (Count.First n) from walks start known
-  entries_same (Count.Last n) from walks start known = lines_same _ (Count.Last n) from walks start known
-  entries_same (Count.Tail n) from walks start known = lines_same _ (Count.Tail n) from walks start known
-
   -- events with the names of their sensors: the sensor data records are walked first
-  events_same : (wording : Wording) (count : Count) (from : Option ℕ) → SameWalk Sdr image store → SameWalk Sel image store
+  events_same : (detail : Detail) (count : Count) (from : Option ℕ) → SameWalk Sdr image store → SameWalk Sel image store
       → SameStart count → AreOfCapture image count from → (tries tries' : Tries)
-      → OnWalk Sdr First store (λ sensors end. OnEntries (entries_in wording (bytes_of_rows sensors)) count from tries store (λ plan calls.
-      OnWalk Sdr First image (λ sensors' end'. OnEntries (entries_in wording (bytes_of_rows sensors')) count from tries' image (λ plan' calls'.
-      (after_names sensors' end' plan' ≡ after_names sensors end plan) × All (SameText image store) (after_names sensors end plan).items))))
-  events_same wording Count.All from records entries start known = λ tries tries' sensors end is ends walk e w we sensors' end' is' ends' walk' e' w' we'.
+      → OnWalk Sdr First store (λ sensors end. OnEntries (named_entries detail (bytes_of_rows sensors)) count from tries store (λ plan calls.
+      OnWalk Sdr First image (λ sensors' end'. OnEntries (named_entries detail (bytes_of_rows sensors')) count from tries' image (λ plan' calls'.
+      (after_names sensors' end' plan' ≡ after_names sensors end plan) × All (SameText x image store) (after_names sensors end plan).items))))
+  events_same detail Count.All from records entries start known = λ tries tries' sensors end is ends walk e w we sensors' end' is' ends' walk' e' w' we'.
       let one = one_walk Sdr First records tt sensors sensors' end end' is ends is' ends' in
-      let same = lines_same (entries_in wording (bytes_of_rows sensors)) Count.All from entries start known tries tries' walk e w we walk' e' w' we' in
-      (rw (one.0, one.1) (ap (after_names sensors end) same.0), first_texts image store _ _ same.1)
-  events_same wording (Count.First n) from records entries start known = λ tries tries' sensors end is ends walk e w we sensors' end' is' ends' walk' e' w' we'.
+      let same = lines_same (named_entries detail (bytes_of_rows sensors)) Count.All from entries start known tries tries' walk e w we walk' e' w' we' in
+      (rw (one.0, one.1) (ap (after_names sensors end) same.0), first_texts x image store _ _ same.1)
+  events_same detail (Count.First n) from records entries start known = λ tries tries' sensors end is ends walk e w we sensors' end' is' ends' walk' e' w' we'.
       let one = one_walk Sdr First records tt sensors sensors' end end' is ends is' ends' in
-      let same = lines_same (entries_in wording (bytes_of_rows sensors)) (Count.First n) from entries start known tries tries' walk e w we walk' e' w' we' in
-      (rw (one.0, one.1) (ap (after_names sensors end) same.0), first_texts image store _ _ same.1)
-  events_same wording (Count.Last n) from records entries start known = λ tries tries' sensors end is ends walk e w we sensors' end' is' ends' walk' e' w' we'.
+      let same = lines_same (named_entries detail (bytes_of_rows sensors)) (Count.First n) from entries start known tries tries' walk e w we walk' e' w' we' in
+      (rw (one.0, one.1) (ap (after_names sensors end) same.0), first_texts x image store _ _ same.1)
+  events_same detail (Count.Last n) from records entries start known = λ tries tries' sensors end is ends walk e w we sensors' end' is' ends' walk' e' w' we'.
       let one = one_walk Sdr First records tt sensors sensors' end end' is ends is' ends' in
-      let same = lines_same (entries_in wording (bytes_of_rows sensors)) (Count.Last n) from entries start known tries tries' walk e w we walk' e' w' we' in
-      (rw (one.0, one.1) (ap (after_names sensors end) same.0), first_texts image store _ _ same.1)
-  events_same wording (Count.Tail n) from records entries start known = λ tries tries' sensors end is ends.
-      let lines = entries_in wording (bytes_of_rows sensors) in
-      let named : Plan → Plan → Type 0 = λ plan plan'. (plan' ≡ after_names sensors end plan) × All (SameText image store) (after_names sensors end plan).items in
-      tail_map lines n tries tries store (λ plan c. OnTail lines n tries' image (λ plan' c'. (plan' ≡ plan) × All (SameText image store) plan.items))
-      (λ plan c. OnWalk Sdr First image (λ sensors' end'. OnTail (entries_in wording (bytes_of_rows sensors')) n tries' image (λ plan' c'. named plan (after_names sensors' end' plan'))))
+      let same = lines_same (named_entries detail (bytes_of_rows sensors)) (Count.Last n) from entries start known tries tries' walk e w we walk' e' w' we' in
+      (rw (one.0, one.1) (ap (after_names sensors end) same.0), first_texts x image store _ _ same.1)
+  events_same detail (Count.Tail n) from records entries start known = λ tries tries' sensors end is ends.
+      let lines = named_entries detail (bytes_of_rows sensors) in
+      let named : Plan → Plan → Type 0 = λ plan plan'. (plan' ≡ after_names sensors end plan) × All (SameText x image store) (after_names sensors end plan).items in
+      tail_map lines n tries tries store (λ plan c. OnTail lines n tries' image (λ plan' c'. (plan' ≡ plan) × All (SameText x image store) plan.items))
+      (λ plan c. OnWalk Sdr First image (λ sensors' end'. OnTail (named_entries detail (bytes_of_rows sensors')) n tries' image (λ plan' c'. named plan (after_names sensors' end' plan'))))
       (λ plan calls on sensors' end' is' ends'.
       let one = one_walk Sdr First records tt sensors sensors' end end' is ends is' ends' in
-      subst (λ (e : WalkEnd). OnTail (entries_in wording (bytes_of_rows sensors')) n tries' image (λ plan' c'. named plan (after_names sensors' e plan'))) (sym one.1)
-      (subst (λ (l : List Row). OnTail (entries_in wording (bytes_of_rows l)) n tries' image (λ plan' c'. named plan (after_names l end plan'))) (sym one.0)
-      (tail_map lines n tries' tries' image (λ plan' c'. (plan' ≡ plan) × All (SameText image store) plan.items) (λ plan' c'. named plan (after_names sensors end plan'))
-      (λ plan' calls' same. (ap (after_names sensors end) same.0, first_texts image store _ _ same.1)) on)))
+      subst (λ (e : WalkEnd). OnTail (named_entries detail (bytes_of_rows sensors')) n tries' image (λ plan' c'. named plan (after_names sensors' e plan'))) (sym one.1)
+      (subst (λ (l : List Row). OnTail (named_entries detail (bytes_of_rows l)) n tries' image (λ plan' c'. named plan (after_names l end plan'))) (sym one.0)
+      (tail_map lines n tries' tries' image (λ plan' c'. (plan' ≡ plan) × All (SameText x image store) plan.items) (λ plan' c'. named plan (after_names sensors end plan'))
+      (λ plan' calls' same. (ap (after_names sensors end) same.0, first_texts x image store _ _ same.1)) on)))
       (lines_same lines (Count.Tail n) from entries start known tries tries')
 
   -- all inventories, with the same name of device 0
-  inventories_same : (wording : Wording) (name : Option (List ℕ)) → SameWalk Sdr image store
+  inventories_same : (name : Option (List ℕ)) → SameWalk Sdr image store
       → All (SameInventory image store) (0 ∷ devices_of image.sdr)
       → OnWalk Sdr First store (λ walk end. OnWalk Sdr First image (λ walk' end'.
-      (inventories_plan wording name walk' end' ≡ inventories_plan wording name walk end)
-      × All (SameText image store) (inventories_plan wording name walk end).items))
-  inventories_same wording name walks inventories = λ walk end is ends walk' end' is' ends'.
+      (inventories_plan name walk' end' ≡ inventories_plan name walk end)
+      × All (SameText x image store) (inventories_plan name walk end).items))
+  inventories_same name walks inventories = λ walk end is ends walk' end' is' ends'.
       let one = records_same _ None walks tt (λ row among.
-      locator image store wording (sdr_view_of row.bytes) (λ id is.
+      locator x image store (sdr_view_of row.bytes) (λ id is.
       named (λ (r : Row). device_named (sdr_view_of r.bytes)) (SameInventory image store) image.sdr row id among is
       (All-tail (SameInventory image store) 0 (devices_of image.sdr) inventories))) walk end is ends walk' end' is' ends' in (
         rw (one.0, one.1) refl,
-        inventory_same image store wording 0 name _ (AtInventory 0 ∷ [])
+        inventory_same x image store Detail.Line 0 name _ (AtInventory 0 ∷ [])
             (All-head (SameInventory image store) 0 (devices_of image.sdr) inventories) one.2,
       )
 
   -- all devices, with the name of device 0
-  devices_same : (wording : Wording) → SameWalk Sdr image store
+  devices_same : SameWalk Sdr image store
       → All (SameInventory image store) (0 ∷ devices_of image.sdr) → (tries tries' : Tries)
-      → OnWalk Sdr First store (λ records end. let plan = inventories_plan wording (device_name 0 (bytes_of_rows records)) records end in
-      OnWalk Sdr First image (λ records' end'. let plan' = inventories_plan wording (device_name 0 (bytes_of_rows records')) records' end' in
-      (after_names records' end' plan' ≡ after_names records end plan) × All (SameText image store) (after_names records end plan).items))
-  devices_same wording walks inventories = λ tries tries' records end is ends records' end' is' ends'.
+      → OnWalk Sdr First store (λ records end. let plan = inventories_plan (device_name 0 (bytes_of_rows records)) records end in
+      OnWalk Sdr First image (λ records' end'. let plan' = inventories_plan (device_name 0 (bytes_of_rows records')) records' end' in
+      (after_names records' end' plan' ≡ after_names records end plan) × All (SameText x image store) (after_names records end plan).items))
+  devices_same walks inventories = λ tries tries' records end is ends records' end' is' ends'.
       let one = one_walk Sdr First walks tt records records' end end' is ends is' ends' in
       let name = device_name 0 (bytes_of_rows records) in
-      let plan = inventories_plan wording name records end in
-      let same = inventories_same wording name walks inventories records end is ends records' end' is' ends' in
-      (rw (one.0, one.1) refl, first_texts image store (points_before records end plan) plan.items same.1)
+      let plan = inventories_plan name records end in
+      let same = inventories_same name walks inventories records end is ends records' end' is' ends' in
+      (rw (one.0, one.1) refl, first_texts x image store (points_before records end plan) plan.items same.1)
 
   -- one inventory, and an info
-  inventory_agrees : (wording : Wording) (id : ℕ) → SameInventory image store id
-      → (inventory_plan wording id None ≡ inventory_plan wording id None) × All (SameText image store) (inventory_plan wording id None).items
-  inventory_agrees wording id same =
-      (refl, inventory_same image store wording id None [] (AtInventory id ∷ []) same (All-nil (SameText image store)))
+  inventory_agrees : (id : ℕ) → SameInventory image store id
+      → (inventory_plan Detail.Block id None ≡ inventory_plan Detail.Block id None) × All (SameText x image store) (inventory_plan Detail.Block id None).items
+  inventory_agrees id same =
+      (refl, inventory_same x image store Detail.Block id None [] (AtInventory id ∷ []) same (All-nil (SameText x image store)))
 
-  info_agrees : (wording : Wording) (shelf : Shelf) → info_of shelf image ≡ info_of shelf store
-      → (info_plan wording shelf (info_of shelf image) ≡ info_plan wording shelf (info_of shelf store))
-      × All (SameText image store) (info_plan wording shelf (info_of shelf store)).items
-  info_agrees wording shelf same =
-      (ap (info_plan wording shelf) same, info_same image store wording shelf (info_of shelf store))
+  info_agrees : (shelf : Shelf) → info_of shelf image ≡ info_of shelf store
+      → (info_plan shelf (info_of shelf image) ≡ info_plan shelf (info_of shelf store))
+      × All (SameText x image store) (info_plan shelf (info_of shelf store)).items
+  info_agrees shelf same =
+      (ap (info_plan shelf) same, info_same x image store shelf (info_of shelf store))
 
   info_asked : (shelf : Shelf) → is_info_asked shelf (Task.Info shelf) ≡ true
   info_asked Sdr = refl
   info_asked Sel = refl
 
-  prints_the_same : (wording : Wording) (task : Task) (from : Option ℕ) → HasAsked image store task wording
-      → IsOfCapture image task from → PrintsTheSame image store wording task from
-  prints_the_same Wording.Plain Task.Hex from asked known = λ tries tries'. listing_same _ from (asked.walk Sdr refl) known (λ row among. itself _)
-  prints_the_same Wording.Plain (Task.List kind) from asked known = λ tries tries'. listing_same _ from (asked.walk Sdr refl) known (λ row among. line_same kind asked.readings row among IsSdrLine (fault_is row.id))
-  prints_the_same Wording.Plain (Task.Elist kind) from asked known = λ tries tries'. listing_same _ from (asked.walk Sdr refl) known (λ row among. line_same kind asked.readings row among IsExtendedLine (fault_is row.id))
-  prints_the_same Wording.Plain (Task.Get name) from asked known = λ tries tries'. listing_same _ from (asked.walk Sdr refl) known (block_same Wording.Plain name asked.readings)
-  prints_the_same Wording.Plain (Task.SelList count) from asked known = entries_same count from (asked.walk Sel refl) (same_start count (asked.info Sel)) known
-  prints_the_same Wording.Plain (Task.SelGet id) from asked known = entry_same id from (asked.walk Sel refl) known
-  prints_the_same Wording.Plain (Task.Info shelf) from asked known = λ tries tries'. info_agrees Wording.Plain shelf (asked.info shelf (info_asked shelf))
-  prints_the_same Wording.Plain (Task.Fru None) from asked known = λ tries tries'. inventories_same Wording.Plain None (asked.walk Sdr refl) asked.inventories
-  prints_the_same Wording.Plain (Task.Fru (Some id)) from asked known = λ tries tries'. inventory_agrees Wording.Plain id (All-head (SameInventory image store) id [] asked.inventories)
-  prints_the_same Wording.Plain Task.Rewrite from asked known = absurd known
-  prints_the_same Wording.Descriptive Task.Hex from asked known = λ tries tries'. listing_same _ from (asked.walk Sdr refl) known (λ row among. itself _)
-  prints_the_same Wording.Descriptive (Task.List kind) from asked known = λ tries tries'. listing_same _ from (asked.walk Sdr refl) known (λ row among. line_same kind asked.readings row among IsSensorLine (fault_is row.id))
-  prints_the_same Wording.Descriptive (Task.Elist kind) from asked known = λ tries tries'. listing_same _ from (asked.walk Sdr refl) known (λ row among. line_same kind asked.readings row among IsExtendedLine (fault_is row.id))
-  prints_the_same Wording.Descriptive (Task.Get name) from asked known = λ tries tries'. listing_same _ from (asked.walk Sdr refl) known (block_same Wording.Descriptive name asked.readings)
-  prints_the_same Wording.Descriptive (Task.SelList count) from asked known = events_same Wording.Descriptive count from (asked.walk Sdr refl) (asked.walk Sel refl) (same_start count (asked.info Sel)) known
-  prints_the_same Wording.Descriptive (Task.SelGet id) from asked known = entry_same id from (asked.walk Sel refl) known
-  prints_the_same Wording.Descriptive (Task.Info shelf) from asked known = λ tries tries'. info_agrees Wording.Plain shelf (asked.info shelf (info_asked shelf))
-  prints_the_same Wording.Descriptive (Task.Fru None) from asked known = devices_same Wording.Descriptive (asked.walk Sdr refl) asked.inventories
-  prints_the_same Wording.Descriptive (Task.Fru (Some id)) from asked known = λ tries tries'. inventory_agrees Wording.Plain id (All-head (SameInventory image store) id [] asked.inventories)
-  prints_the_same Wording.Descriptive Task.Rewrite from asked known = absurd known
-  prints_the_same (Wording.Json labels) Task.Hex from asked known = λ tries tries'. listing_same _ from (asked.walk Sdr refl) known (λ row among. itself _)
-  prints_the_same (Wording.Json labels) (Task.List kind) from asked known = objects_same labels kind from (asked.walk Sdr refl) asked.readings known
-  prints_the_same (Wording.Json labels) (Task.Elist kind) from asked known = objects_same labels kind from (asked.walk Sdr refl) asked.readings known
-  prints_the_same (Wording.Json labels) (Task.Get name) from asked known = λ tries tries'. listing_same _ from (asked.walk Sdr refl) known (block_same (Wording.Json labels) name asked.readings)
-  prints_the_same (Wording.Json labels) (Task.SelList count) from asked known = events_same (Wording.Json labels) count from (asked.walk Sdr refl) (asked.walk Sel refl) (same_start count (asked.info Sel)) known
-  prints_the_same (Wording.Json labels) (Task.SelGet id) from asked known = events_same (Wording.Json labels) (Count.First 1) (Some id) (asked.walk Sdr refl) (asked.walk Sel refl) tt known
-  prints_the_same (Wording.Json labels) (Task.Info shelf) from asked known = λ tries tries'. info_agrees (Wording.Json labels) shelf (asked.info shelf (info_asked shelf))
-  prints_the_same (Wording.Json labels) (Task.Fru None) from asked known = devices_same (Wording.Json labels) (asked.walk Sdr refl) asked.inventories
-  prints_the_same (Wording.Json labels) (Task.Fru (Some id)) from asked known = λ tries tries'. inventory_agrees (Wording.Json labels) id (All-head (SameInventory image store) id [] asked.inventories)
-  prints_the_same (Wording.Json labels) Task.Rewrite from asked known = absurd known
+  -- entries, with names or without
+  entries_same : (has : Bool) (detail : Detail) (count : Count) (from : Option ℕ) → (has ≡ true → SameWalk Sdr image store)
+      → SameWalk Sel image store → SameStart count → AreOfCapture image count from
+      → SamePlan x (Some (events_job has detail count from)) image store
+  entries_same true detail Count.All from records entries start known = events_same detail Count.All from (records refl) entries start known
+  entries_same true detail (Count.First n) from records entries start known = events_same detail (Count.First n) from (records refl) entries start known
+  entries_same true detail (Count.Last n) from records entries start known = events_same detail (Count.Last n) from (records refl) entries start known
+  entries_same true detail (Count.Tail n) from records entries start known = events_same detail (Count.Tail n) from (records refl) entries start known
+  entries_same false detail Count.All from records entries start known = lines_same _ Count.All from entries start known
+  entries_same false detail (Count.First n) from records entries start known = lines_same _ (Count.First n) from entries start known
+  entries_same false detail (Count.Last n) from records entries start known = lines_same _ (Count.Last n) from entries start known
+  entries_same false detail (Count.Tail n) from records entries start known = lines_same _ (Count.Tail n) from entries start known
 
-module _ (exists : WalkExists) (unique : WalkIsUnique) (found : FoundIsRow) where
-  pub print_the_same : CapturesPrintTheSame
-  print_the_same = λ image store wording task from is_image is_store capture known.
-      prints_the_same exists unique found image store is_image is_store wording task from
-      (asked_of_capture image store wording task from capture known) known
+  -- all devices, with the name of device 0 or without
+  all_same : (has : Bool) → SameWalk Sdr image store → All (SameInventory image store) (0 ∷ devices_of image.sdr)
+      → SamePlan x (Some (devices_job has)) image store
+  all_same true walks inventories = devices_same walks inventories
+  all_same false walks inventories = λ tries tries'. inventories_same None walks inventories
 
-  pub print_what_they_have : CapturesPrintWhatTheyHave
-  print_what_they_have = λ left image store wording task from is_image is_store capture unneeded known.
-      prints_the_same exists unique found image store is_image is_store wording task from
-      (asked_of_rest left image store wording task from capture unneeded known) known
+  prints_the_same : (task : Task) (from : Option ℕ) → HasAsked x.has_names image store task
+      → IsOfCapture image task from → PrintsTheSame x image store task from
+  prints_the_same Task.Hex from asked known = λ tries tries'. listing_same _ from (asked.walk Sdr refl) known (λ row among. itself _)
+  prints_the_same (Task.List kind) from asked known = λ tries tries'. listing_same _ from (asked.walk Sdr refl) known (record_same Detail.Line kind asked.readings)
+  prints_the_same (Task.Elist kind) from asked known = λ tries tries'. listing_same _ from (asked.walk Sdr refl) known (record_same Detail.Long kind asked.readings)
+  prints_the_same (Task.Get name) from asked known = λ tries tries'. listing_same _ from (asked.walk Sdr refl) known (block_same name asked.readings)
+  prints_the_same (Task.SelList count) from asked known =
+      entries_same (x.has_names Detail.Line) Detail.Line count from (asked.walk Sdr) (asked.walk Sel refl) (same_start count (asked.info Sel)) known
+  prints_the_same (Task.SelGet id) from asked known =
+      entries_same (x.has_names Detail.Block) Detail.Block (Count.First 1) (Some id) (asked.walk Sdr) (asked.walk Sel refl) tt known
+  prints_the_same (Task.Info shelf) from asked known = λ tries tries'. info_agrees shelf (asked.info shelf (info_asked shelf))
+  prints_the_same (Task.Fru None) from asked known = all_same (x.has_names Detail.Line) (asked.walk Sdr refl) asked.inventories
+  prints_the_same (Task.Fru (Some id)) from asked known = λ tries tries'. inventory_agrees id (All-head (SameInventory image store) id [] asked.inventories)
+  prints_the_same Task.Rewrite from asked known = absurd known
+
+module _ (x : Texts) (exists : WalkExists) (unique : WalkIsUnique) (found : FoundIsRow) where
+  pub print_the_same : CapturesPrintTheSame x
+  print_the_same = λ image store task from is_image is_store capture known.
+      prints_the_same x exists unique found image store is_image is_store task from
+      (asked_of_capture x.has_names image store task from capture known) known
+
+  pub print_what_they_have : CapturesPrintWhatTheyHave x
+  print_what_they_have = λ left image store task from is_image is_store capture unneeded known.
+      prints_the_same x exists unique found image store is_image is_store task from
+      (asked_of_rest x.has_names left image store task from capture unneeded known) known

@@ -1,5 +1,5 @@
 -- Putting the readings of marked sensors and the inventories of marked devices into an image, one by one.
-use Rattle.std.proofs.Common.{◌≡◌, ◌≢◌, ℕ, ◌+◌, ◌*◌, ◌<◌, ◌≤◌, Vec, Bool, true, false, cond, IsTrue, ◌&&◌, ◌||◌, ◌==◌, nat_eq, Option, None, Some, Result, Ok, Err, IfErr, IfOk, IfSome, IsSome, OnOk, MatchOption, List, [], ◌∷◌, ◌++◌, length, slice_index_or, ◌⊎◌, inl, inr, All, refl, sym, ap, subst, ◌∙◌, arith}
+use Rattle.std.proofs.Common.{◌≡◌, ℕ, ◌+◌, ◌*◌, ◌<◌, ◌≤◌, Vec, Bool, true, false, cond, IsTrue, ◌&&◌, ◌||◌, ◌==◌, nat_eq, Option, None, Some, Result, Ok, Err, IfOk, IfSome, IsSome, OnOk, MatchOption, List, [], ◌∷◌, ◌++◌, length, slice_index_or, ◌⊎◌, inl, inr, All, refl, sym, ap, subst, ◌∙◌, arith}
 use Rattle.std.specs.Bool.{⊤}
 use Rattle.std.specs.declared.alloc.AllocError.{AllocError}
 use Rattle.std.specs.declared.alloc.Global.{Global}
@@ -11,12 +11,12 @@ use Rattle.std.proofs.lemmas.List.Elements.{All-append, All-cons, All-nil, All-w
 use Rattle.std.proofs.lemmas.List.{append-nil, append_assoc, get_or-append-add, get_or_append_left, length-append}
 use Rattle.ipmi_bus.proofs.HeldLemmas.{held_at_last, held_in_first, keeps_first, keeps_same, keeps_second}
 use Rattle.ipmi_capture.specs.Accounted.{AtSome, IsAbsent, IsListedOrAbsent, IsReadingAccounted}
-use Rattle.ipmi_capture.specs.Below.{as_inventory, AsksAtMost, Cycle, Ended, GaveUp, Malformed, Missing, Refused, Stalled, IsHonest, Inventory, inventory_in, inventory_of, Reading, SensorReading, reading_in, reading_of, FruEnded, InventoryCounts, InventoryIs, Keeps, LastFruCallSays, not_present, ReadsRetryingParts, ReadsValue, Row, Seen, Shelf, stays_refl, stays_trans, StaysHonest, Store, with_inventory, with_reading, WalkEnd, WithinTries}
+use Rattle.ipmi_capture.specs.Below.{as_inventory, AsksAtMost, Cycle, Ended, GaveUp, Malformed, Missing, Refused, Stalled, IsHonest, Inventory, inventory_in, IsPlain, inventory_of, Reading, SensorReading, reading_in, reading_of, FruEnded, InventoryCounts, InventoryIs, Keeps, not_present, ReadsRetryingParts, ReadsValue, Row, Seen, Shelf, stays_refl, stays_trans, StaysHonest, Store, with_inventory, with_reading, WalkEnd, WithinTries}
 use Rattle.ipmi_capture.specs.Capture.{InventoryOrLeft, NoneOrSame, OwnInventories, OwnReadings, ReadingOrLeft}
 use Rattle.ipmi_capture.specs.Left.{AreCounted, CountsGrow, EndIsNoted, LacksInventory, LacksReading, LacksRecords, NotesEnd, PlainLeaves, SameOrLeft, unread_in, unread_of}
 use Rattle.ipmi_capture.specs.Meanwhile.{IsTrueWhile, OfHeld}
 use Rattle.ipmi_capture.specs.Named.{IsSensorKey, sensor_place}
-use Rattle.ipmi_capture.specs.Phases.{Adds, AreInventoriesAccounted, AreReadingsAccounted, AreRowsOf, AreWalk, Captures, HasInventories, HasInventoriesWhile, HasInventory, HasRead, HasReadings, HasReadingsWhile, CutOffIsIn, IsLeftAfter, IsLeftBy, IsNotPlain, IsRefusedAgain, IsUnkept, IsUnread, most_for_inventory, NoneIsLeft}
+use Rattle.ipmi_capture.specs.Phases.{Adds, AreInventoriesAccounted, AreReadingsAccounted, AreRowsOf, AreWalk, Captures, HasInventories, HasInventoriesWhile, HasInventory, HasRead, HasReadings, HasReadingsWhile, IsLeftAfter, IsLeftAgain, IsLeftBy, IsNotPlain, IsUnkept, IsUnread, most_for_inventory, NoneIsLeft}
 use Rattle.ipmi_capture.specs.declared.left.Left.{Left}
 use Rattle.ipmi_capture.specs.declared.left.Unread.{Unread}
 use Rattle.ipmi_capture.proofs.CountLemmas.{counted_after, counted_inventory, counted_nothing, counted_size, counted_then, counted_value, grown_none, grown_parts, grown_then, grown_within, last_state}
@@ -682,7 +682,7 @@ pub keeping_read : {S : Seen → Type 0} {part tries : ℕ} {marks : List Bool} 
     → IsKeeping S id part tries marks s s' left left' old new
     → HasInventory id (inventory_of id more) new more
     → IfSome lacks (λ l. LacksInventory id l × (inventory_of id more ≡ None))
-    → MatchOption lacks (inventory_of id more ≡ None → AtSome S IsAbsent × (s''.last_failure ≢ None)) (λ l. ⊤)
+    → MatchOption lacks (inventory_of id more ≡ None → AtSome S IsAbsent) (λ l. ⊤)
     → s''.calls ≤ s'.calls + most_for_inventory tries → AsksAtMost part s' s''
     → (IsHonest s' → StaysHonest s' s'')
     → (IsHonest s' → Captures S tries s' s'' [] (option_to_list lacks)
@@ -701,7 +701,7 @@ keeping_read {S = S} {tries = tries} {marks = marks} {s = s} {s' = s'} {s'' = s'
       (λ other lt was. listed_more S (LacksInventory other) left' (option_to_list lacks) (inventory_of other more)
       (subst (IsListedOrAbsent S (LacksInventory other) left') (sym (others_kept id new more (inventory_of id more) has other lt)) was))
       (listed_after S (LacksInventory id) left' (option_to_list lacks) (inventory_of id more)
-      (listed_one S (LacksInventory id) (inventory_of id more) lacks none (said lacks absent)));
+      (listed_one S (LacksInventory id) (inventory_of id more) lacks none absent));
   read = λ h.
       let before = so.stays h in
       captures_then before (stays before.honest) (so.read h)
@@ -741,11 +741,6 @@ keeping_read {S = S} {tries = tries} {marks = marks} {s = s} {s' = s'} {s'' = s'
       },
       omega (arith, unkept.1),
     )
-
-    said : (o : Option Left) → MatchOption o (inventory_of id more ≡ None → AtSome S IsAbsent × (s''.last_failure ≢ None)) (λ l. ⊤)
-        → MatchOption o (inventory_of id more ≡ None → AtSome S IsAbsent) (λ l. ⊤)
-    said None absent = λ none. (absent none).0
-    said (Some l) absent = tt
 
     here : (o : Option Left)
         → IfSome o (λ l. LacksInventory id l × (inventory_of id more ≡ None))
@@ -917,18 +912,25 @@ module _ (S : Seen → Type 0) {tries : ℕ} {s s' s'' : Seen} (id : ℕ) (ended
     plain = λ p all. absurd (not_plain (reads.plain p).0);
   }
 
-  told_ended : (i : ℕ) (e : FruEnded) → IsNotPlain e → InventoryCounts id tries reads.last s' (Err e)
+  told_ended : (from to : Seen) (i : ℕ) (e : FruEnded) → IsNotPlain e → InventoryCounts id tries from to (Err e)
       → IsTrueWhile s s'' (Left.Inventory i e)
-  told_ended i FruEnded.Memory not counts = absurd (not tt)
-  told_ended i FruEnded.GaveUp not counts = tt
-  told_ended i (FruEnded.Refused code) not counts = tt
-  told_ended i FruEnded.Stalled not counts = absurd counts
-  told_ended i FruEnded.Words not counts = absurd counts
+  told_ended from to i FruEnded.Memory not counts = absurd (not tt)
+  told_ended from to i FruEnded.GaveUp not counts = tt
+  told_ended from to i (FruEnded.Refused code) not counts = tt
+  told_ended from to i FruEnded.Stalled not counts = absurd counts
+  told_ended from to i FruEnded.Words not counts = absurd counts
 
   -- an inventory that is absent, and did not change, is not cut off
   never_cut : ended ≡ FruEnded.Refused not_present → IsSome (inventory_of id s''.store)
       → Keeps (inventory_of id) s s'' → ⊥
   never_cut is there keeps = no_some (inventory_of id s''.store) there (keeps.0 ∙ (absent is).1 keeps)
+
+  -- CBh was answered, and the store had no such inventory then
+  gone_then : ended ≡ FruEnded.Refused not_present → inventory_of id s'.store ≡ None
+  gone_then is = none_then (rw is at reads.counts)
+    where
+      none_then : InventoryCounts id tries reads.last s' (Err (FruEnded.Refused not_present)) → inventory_of id s'.store ≡ None
+      none_then counts = counts.1
 
   left_cut : ended ≡ FruEnded.Refused not_present → IsSome (inventory_of id s''.store)
       → Captures S tries s s'' [] (Left.CutOff id ∷ []) (InventoryOrLeft (Left.CutOff id ∷ []) image s.store id)
@@ -943,116 +945,130 @@ module _ (S : Seen → Type 0) {tries : ℕ} {s s' s'' : Seen} (id : ℕ) (ended
         absurd (never_cut is there (keeps_same (inventory_of id) s s'' all.store (all.plain_store p)));
   }
     where
-      none_then : InventoryCounts id tries reads.last s' (Err (FruEnded.Refused not_present)) → inventory_of id s'.store ≡ None
-      none_then counts = counts.1
-
       out : OfHeld s s'' (λ store. inventory_of id store ≡ None)
-      out = (s'.store, held_in_first s s' s'' reads.stays.store later.store s'.store (held_at_last s s'), none_then (rw is at reads.counts))
+      out = (s'.store, held_in_first s s' s'' reads.stays.store later.store s'.store (held_at_last s s'), gone_then is)
 
   -- the parts that came before
   before : (lacks : Left) → AreCounted S tries (lacks ∷ []) reads.last s'' → AreCounted S tries (lacks ∷ []) s s''
   before lacks counts = counted_after S tries (lacks ∷ []) s'' (grown_parts reads.is_last) counts
 
-  left_one : (failure : Option ℕ) (lacks : Left) → S s → S s' → S s'' → IsLeftBy id ended failure lacks → IsRefusedAgain s' s'' lacks
-      → CutOffIsIn s''.store lacks
-      → Captures S tries s s'' [] (lacks ∷ []) (InventoryOrLeft (lacks ∷ []) image s.store id)
-  left_one failure (Left.Records shelf e) from to end left again there = absurd left
-  left_one failure (Left.Info shelf unread) from to end left again there = absurd left
-  left_one failure (Left.Reading lun number unread) from to end left again there = absurd left
-  left_one failure (Left.Empty i) from to end left again there = absurd left
-  left_one failure (Left.CutOff i) from to end left again there =
-      subst (λ (x : ℕ). Captures S tries s s'' [] (Left.CutOff x ∷ []) (InventoryOrLeft (Left.CutOff x ∷ []) image s.store id)) (sym left.0)
-      (left_cut left.1 (subst (λ (x : ℕ). IsSome (inventory_of x s''.store)) left.0 there))
-  left_one failure (Left.Size i code) from to end left again there =
-      left_unread (Left.Size i code) left.0 left.1 tt (before (Left.Size i code) (counted_size S tries i id code (last_state from reads.is_last) to end (rw left.2 at left.1) (rw left.2 at reads.counts) again))
-  left_one failure (Left.Inventory i e) from to end left again there =
-      subst (λ (x : FruEnded). Captures S tries s s'' [] (Left.Inventory i x ∷ []) (InventoryOrLeft (Left.Inventory i x ∷ []) image s.store id)) (sym left.2)
-      (left_unread (Left.Inventory i ended) left.0 left.1 (told_ended i ended left.1 reads.counts) (before (Left.Inventory i ended) (counted_inventory S tries i id ended (last_state from reads.is_last) to left.1 reads.counts after)))
+  -- it isn't known whether there is one: its size was given up or refused
+  left_unknown : (e : FruEnded) → IsNotPlain e → S s' → S s'' → ended ≡ FruEnded.Refused not_present
+      → InventoryCounts id tries s' s'' (Err e) → (IsPlain s' → inventory_of id s'.store ≡ None → ⊥)
+      → Captures S tries s s'' [] (Left.Inventory id e ∷ []) (InventoryOrLeft (Left.Inventory id e ∷ []) image s.store id)
+  left_unknown e not to end is counts never = record {
+    more = Left.Inventory id e ∷ [];
+    grows = refl;
+    counts = counted_after S tries (Left.Inventory id e ∷ []) s'' (absent is).0
+        (counted_inventory S tries id id e to end not counts (grown_none s''));
+    fact = λ same. inr (none, any_of_one (LacksInventory id) (Left.Inventory id e) refl);
+    told = one_told s s'' (Left.Inventory id e) (told_ended s' s'' id e not counts);
+    plain = λ p all. absurd (never (record { said = reads.stays.plain p; honest = reads.stays.honest }) (gone_then is));
+  }
 
-pub left_inventory : (S : Seen → Type 0) {tries : ℕ} {s s' s'' : Seen} (id : ℕ) (ended : FruEnded) (failure : Option ℕ)
+  left_one : (lacks : Left) → S s → S s' → S s'' → IsLeftBy id ended s'' lacks → IsLeftAgain ended tries s' s'' lacks
+      → (IsPlain s' → inventory_of id s'.store ≡ None → ended ≡ FruEnded.Refused not_present → ⊥)
+      → Captures S tries s s'' [] (lacks ∷ []) (InventoryOrLeft (lacks ∷ []) image s.store id)
+  left_one (Left.Records shelf e) from to end left again never = absurd left
+  left_one (Left.Info shelf unread) from to end left again never = absurd left
+  left_one (Left.Reading lun number unread) from to end left again never = absurd left
+  left_one (Left.Empty i) from to end left again never = absurd left
+  left_one (Left.CutOff i) from to end left again never =
+      subst (λ (x : ℕ). Captures S tries s s'' [] (Left.CutOff x ∷ []) (InventoryOrLeft (Left.CutOff x ∷ []) image s.store id)) (sym left.0)
+      (left_cut left.1 (subst (λ (x : ℕ). IsSome (inventory_of x s''.store)) left.0 again))
+  left_one (Left.Size i code) from to end left again never =
+      left_unread (Left.Size i code) left.0 left.1 tt (before (Left.Size i code) (counted_size S tries i id code (last_state from reads.is_last) to end (rw left.2 at left.1) (rw left.2 at reads.counts) again))
+  left_one (Left.Inventory i e) from to end left again never =
+      subst (λ (x : ℕ). Captures S tries s s'' [] (Left.Inventory x e ∷ []) (InventoryOrLeft (Left.Inventory x e ∷ []) image s.store id)) (sym left.0)
+      (elim left.2 [
+        | inl same ↦
+            let not : IsNotPlain ended = rw same at left.1 in
+            subst (λ (x : FruEnded). Captures S tries s s'' [] (Left.Inventory id x ∷ []) (InventoryOrLeft (Left.Inventory id x ∷ []) image s.store id)) (sym same)
+            (left_unread (Left.Inventory id ended) refl not (told_ended reads.last s' id ended not reads.counts) (before (Left.Inventory id ended) (counted_inventory S tries id id ended (last_state from reads.is_last) to not reads.counts after)))
+        | inr other ↦
+            left_unknown e left.1 to end other.0 (subst (λ (x : ℕ). InventoryCounts x tries s' s'' (Err e)) left.0 (again other.0)) (λ plain gone. never plain gone other.0)
+      ])
+
+pub left_inventory : (S : Seen → Type 0) {tries : ℕ} {s s' s'' : Seen} (id : ℕ) (ended : FruEnded)
     (result : Result (Option Left) AllocError) (image : Store) → S s → S s' → S s'' → inventory_of id image ≡ None
     → ReadsRetryingParts S id tries s s' (Err ended) → StaysHonest s' s'' → CountsGrow s' s''
-    → IfOk result (λ o. MatchOption o (ended ≡ FruEnded.Refused not_present) (IsLeftBy id ended failure))
-    → IfOk result (λ o. IfSome o (IsRefusedAgain s' s'')) → IfOk result (λ o. IfSome o (CutOffIsIn s''.store))
+    → IfOk result (λ o. MatchOption o ((ended ≡ FruEnded.Refused not_present) × IsAbsent s'') (IsLeftBy id ended s''))
+    → IfOk result (λ o. IfSome o (IsLeftAgain ended tries s' s''))
+    → (IsPlain s' → inventory_of id s'.store ≡ None → ended ≡ FruEnded.Refused not_present → result ≡ Ok None)
     → IfOk result (λ o. Captures S tries s s'' [] (option_to_list o)
     (InventoryOrLeft (option_to_list o) image s.store id))
-left_inventory S id ended failure (Err e) image from to end none reads later after left again there = tt
-left_inventory S {s = s} {s' = s'} {s'' = s''} id ended failure (Ok None) image from to end none reads later after left again there =
-    let gone = absent S id ended image none reads later after left in
+left_inventory S id ended (Err e) image from to end none reads later after left again plain = tt
+left_inventory S {s = s} {s' = s'} {s'' = s''} id ended (Ok None) image from to end none reads later after left again plain =
+    let gone = absent S id ended image none reads later after left.0 in
     nothing_left [] (grown_then gone.0 after) (λ same. inl (none ∙ sym (gone.1 (keeps_same (inventory_of id) s s'' (stays_trans s s' s'' reads.stays later).store same))))
-left_inventory S id ended failure (Ok (Some lacks)) image from to end none reads later after left again there =
-    left_one S id ended image none reads later after failure lacks from to end left again there
+left_inventory S id ended (Ok (Some lacks)) image from to end none reads later after left again plain =
+    left_one S id ended image none reads later after lacks from to end left again (λ is gone same. let never = plain is gone same in cc)
 
-lacks_by : (id : ℕ) (ended : FruEnded) (failure : Option ℕ) (l : Left) → IsLeftBy id ended failure l → LacksInventory id l
-lacks_by id ended failure (Left.Records shelf e) left = absurd left
-lacks_by id ended failure (Left.Info shelf unread) left = absurd left
-lacks_by id ended failure (Left.Reading lun number unread) left = absurd left
-lacks_by id ended failure (Left.Size i code) left = left.0
-lacks_by id ended failure (Left.Empty i) left = absurd left
-lacks_by id ended failure (Left.CutOff i) left = left.0
-lacks_by id ended failure (Left.Inventory i e) left = left.0
+lacks_by : (id : ℕ) (ended : FruEnded) (seen : Seen) (l : Left) → IsLeftBy id ended seen l → LacksInventory id l
+lacks_by id ended seen (Left.Records shelf e) left = absurd left
+lacks_by id ended seen (Left.Info shelf unread) left = absurd left
+lacks_by id ended seen (Left.Reading lun number unread) left = absurd left
+lacks_by id ended seen (Left.Size i code) left = left.0
+lacks_by id ended seen (Left.Empty i) left = absurd left
+lacks_by id ended seen (Left.CutOff i) left = left.0
+lacks_by id ended seen (Left.Inventory i e) left = left.0
 
 -- it is left out, or there is none
-pub left_inventory_while : {S : Seen → Type 0} {tries : ℕ} {s s' s'' : Seen} (id : ℕ) (ended : FruEnded) (failure : Option ℕ)
+pub left_inventory_while : {S : Seen → Type 0} {tries : ℕ} {s s' s'' : Seen} (id : ℕ) (ended : FruEnded)
     (result : Result (Option Left) AllocError) (image : Store) → inventory_of id image ≡ None
     → ReadsRetryingParts S id tries s s' (Err ended) → StaysHonest s' s''
-    → IfOk result (λ o. MatchOption o (ended ≡ FruEnded.Refused not_present) (IsLeftBy id ended failure))
+    → IfOk result (λ o. MatchOption o ((ended ≡ FruEnded.Refused not_present) × IsAbsent s'') (IsLeftBy id ended s''))
     → IfOk result (λ o. Keeps (inventory_of id) s s'' → InventoryOrLeft (option_to_list o) image s.store id)
-left_inventory_while id ended failure (Err e) image none reads later left = tt
-left_inventory_while {S} {tries} {s} {s'} {s''} id ended failure (Ok None) image none reads later left = λ keeps.
+left_inventory_while id ended (Err e) image none reads later left = tt
+left_inventory_while {S} {tries} {s} {s'} {s''} id ended (Ok None) image none reads later left = λ keeps.
     let first = keeps_first (inventory_of id) s s' s'' reads.stays.store later.store keeps in
-    inl (none ∙ sym (sym (reads.kept first) ∙ lacks (rw left at (reads.is first))))
+    inl (none ∙ sym (sym (reads.kept first) ∙ lacks (rw left.0 at (reads.is first))))
   where
     lacks : InventoryIs id tries reads.last s' (Err (FruEnded.Refused not_present)) → inventory_of id reads.last.store ≡ None
     lacks is = is.1
-left_inventory_while id ended failure (Ok (Some l)) image none reads later left = λ keeps.
-    inr (none, any_of_one (LacksInventory id) l (lacks_by id ended failure l left))
+left_inventory_while {s'' = s''} id ended (Ok (Some l)) image none reads later left = λ keeps.
+    inr (none, any_of_one (LacksInventory id) l (lacks_by id ended s'' l left))
 
 -- what an inventory that was not read leaves out
-pub left_after : (id : ℕ) (ended : FruEnded) (failure : Option ℕ) (result : Result (Option Left) AllocError)
+pub left_after : (id : ℕ) (ended : FruEnded) (seen : Seen) (result : Result (Option Left) AllocError)
     (image : Store) → inventory_of id image ≡ None
-    → IfOk result (λ o. MatchOption o (ended ≡ FruEnded.Refused not_present) (IsLeftBy id ended failure))
-    → IfOk result (λ o. MatchOption o (failure ≢ None) (λ l. ⊤))
-    → IfOk result (λ o. MatchOption o (NoneIsLeft (Err ended) failure (inventory_of id image))
-    (λ l. IsLeftAfter id (Err ended) failure l × (inventory_of id image ≡ None)))
-left_after id ended failure (Err e) image none left failed = tt
-left_after id ended failure (Ok None) image none left failed = (left, failed)
-left_after id ended failure (Ok (Some l)) image none left failed = (left, none)
+    → IfOk result (λ o. MatchOption o ((ended ≡ FruEnded.Refused not_present) × IsAbsent seen) (IsLeftBy id ended seen))
+    → IfOk result (λ o. MatchOption o (NoneIsLeft (Err ended) seen (inventory_of id image))
+    (λ l. IsLeftAfter id (Err ended) seen l × (inventory_of id image ≡ None)))
+left_after id ended seen (Err e) image none left = tt
+left_after id ended seen (Ok None) image none left = left
+left_after id ended seen (Ok (Some l)) image none left = (left, none)
 
 -- the item left out is of this device, and is not in the image
-module _ (read : Result (Vec ℕ Global) FruEnded) (failure : Option ℕ) (result : Result (Option Left) AllocError) (value : Option (List ℕ)) where
-  pub lacks_after : (id : ℕ) → IfOk result (λ o. MatchOption o (NoneIsLeft (as_inventory read) failure value)
-      (λ l. IsLeftAfter id (as_inventory read) failure l × (value ≡ None)))
+module _ (read : Result (Vec ℕ Global) FruEnded) (seen : Seen) (result : Result (Option Left) AllocError) (value : Option (List ℕ)) where
+  pub lacks_after : (id : ℕ) → IfOk result (λ o. MatchOption o (NoneIsLeft (as_inventory read) seen value)
+      (λ l. IsLeftAfter id (as_inventory read) seen l × (value ≡ None)))
       → IfOk result (λ o. IfSome o (λ l. LacksInventory id l × (value ≡ None)))
   lacks_after id left = by read result left
     where
       by : (r : Result (Vec ℕ Global) FruEnded) (out : Result (Option Left) AllocError)
-          → IfOk out (λ o. MatchOption o (NoneIsLeft (as_inventory r) failure value)
-          (λ l. IsLeftAfter id (as_inventory r) failure l × (value ≡ None)))
+          → IfOk out (λ o. MatchOption o (NoneIsLeft (as_inventory r) seen value)
+          (λ l. IsLeftAfter id (as_inventory r) seen l × (value ≡ None)))
           → IfOk out (λ o. IfSome o (λ l. LacksInventory id l × (value ≡ None)))
       by r (Err e) left = tt
       by r (Ok None) left = tt
       by (Ok bytes) (Ok (Some l)) left = (subst (LacksInventory id) (sym left.0.0) refl, left.1)
-      by (Err ended) (Ok (Some l)) left = (lacks_by id ended failure l left.0, left.1)
+      by (Err ended) (Ok (Some l)) left = (lacks_by id ended seen l left.0, left.1)
 
-  -- nothing is left out, and the image lacks it: a call said that it is absent
-  pub absent_after : (S : Seen → Type 0) (s : Seen) (id : ℕ) → S s → IfErr read (λ ended. LastFruCallSays ended s)
-      → IfOk result (λ o. MatchOption o (NoneIsLeft (as_inventory read) failure value)
-      (λ l. IsLeftAfter id (as_inventory read) failure l × (value ≡ None)))
-      → IfOk result (λ o. MatchOption o (value ≡ None → AtSome S IsAbsent × (failure ≢ None)) (λ l. ⊤))
-  absent_after S s id at says left = by read result says left
+  -- nothing is left out, and the image lacks it: the last call said that it is absent
+  pub absent_after : (id : ℕ) → IfOk result (λ o. MatchOption o (NoneIsLeft (as_inventory read) seen value)
+      (λ l. IsLeftAfter id (as_inventory read) seen l × (value ≡ None)))
+      → IfOk result (λ o. MatchOption o (value ≡ None → IsAbsent seen) (λ l. ⊤))
+  absent_after id left = by read result left
     where
-      absent : LastFruCallSays (FruEnded.Refused not_present) s → IsAbsent s
-      absent says = rw says.0 refl
-
-      by : (r : Result (Vec ℕ Global) FruEnded) (out : Result (Option Left) AllocError) → IfErr r (λ ended. LastFruCallSays ended s)
-          → IfOk out (λ o. MatchOption o (NoneIsLeft (as_inventory r) failure value)
-          (λ l. IsLeftAfter id (as_inventory r) failure l × (value ≡ None)))
-          → IfOk out (λ o. MatchOption o (value ≡ None → AtSome S IsAbsent × (failure ≢ None)) (λ l. ⊤))
-      by r (Err e) says left = tt
-      by r (Ok (Some l)) says left = tt
-      by (Ok bytes) (Ok None) says left = λ none. absurd (none-some bytes.items (sym none ∙ left))
-      by (Err ended) (Ok None) says left = λ none. ((s, at, absent (rw left.0 at says)), left.1)
+      by : (r : Result (Vec ℕ Global) FruEnded) (out : Result (Option Left) AllocError)
+          → IfOk out (λ o. MatchOption o (NoneIsLeft (as_inventory r) seen value)
+          (λ l. IsLeftAfter id (as_inventory r) seen l × (value ≡ None)))
+          → IfOk out (λ o. MatchOption o (value ≡ None → IsAbsent seen) (λ l. ⊤))
+      by r (Err e) left = tt
+      by r (Ok (Some l)) left = tt
+      by (Ok bytes) (Ok None) left = λ none. absurd (none-some bytes.items (sym none ∙ left))
+      by (Err ended) (Ok None) left = λ none. left.1
 
 -- ---- all phases
 

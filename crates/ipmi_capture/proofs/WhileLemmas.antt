@@ -6,7 +6,7 @@ use Rattle.ipmi_bus.proofs.HeldLemmas.{keeps_first, keeps_second}
 use Rattle.ipmi_capture.specs.Below.{Done, Ended, EndsBy, First, info_of, inventory_of, IsHonest, IsStore, IsWalk, Keeps, OnGrowing, reading_in, reading_of, Row, rows_of, Sdr, Seen, Sel, SensorReading, Shelf, stays_refl, stays_trans, StaysHonest, Store, WasLog, with_info, with_rows}
 use Rattle.ipmi_capture.specs.Capture.{devices_of, HasWalk, InventoryOrLeft, NoneOrSame, ReadingOrLeft, sensors_of}
 use Rattle.ipmi_capture.specs.Left.{LacksInfo, LacksInventory, LacksReading, LacksRecords, SameOrLeft}
-use Rattle.ipmi_capture.specs.Meanwhile.{IsCaptureWhile, LogOrLeft, OfHeld}
+use Rattle.ipmi_capture.specs.Meanwhile.{IsCaptureWhile, IsShelfWhile, LogOrLeft, OfHeld}
 use Rattle.ipmi_capture.specs.Named.{Names}
 use Rattle.ipmi_capture.specs.Phases.{Adds, AreRowsOf, CameOfLog, HasInventoriesWhile, HasLog, HasReadingsWhile, WalksWhile}
 use Rattle.ipmi_capture.specs.declared.left.Left.{Left}
@@ -130,26 +130,62 @@ module _ {a b c d : Seen} (first : StaysHonest a b) (this : StaysHonest b c) (re
 
 -- ---- all phases
 
+-- the info of a shelf, and then its records, which were read from the state `between` on
+pub record InfoThenRows (shelf : Shelf) (i1 i2 : Store) (left : List Left) (s s' : Seen) : Type 0 where
+  between : Seen
+  first : StaysHonest s between
+  later : StaysHonest between s'
+  info : OfHeld s between (λ store. SameOrLeft (LacksInfo shelf) left (info_of shelf i1) (info_of shelf store))
+  rows : HasLog shelf left between s' (rows_of shelf i2)
+
+-- they were read one after the other, from b to c and from c to d
+module _ {a b c d e : Seen} (before : StaysHonest a b) (read : StaysHonest b c) (walked : StaysHonest c d) (rest : StaysHonest d e)
+    (honest : IsHonest c) where
+  info_then_rows : (shelf : Shelf) (i1 i2 : Store) (l1 l2 l3 : List Left) → Begins l1 l3 → Begins l2 l3
+      → OfHeld b c (λ store. SameOrLeft (LacksInfo shelf) l1 (info_of shelf i1) (info_of shelf store))
+      → HasLog shelf l2 c d (rows_of shelf i2) → InfoThenRows shelf i1 i2 l3 a e
+  info_then_rows shelf i1 i2 l1 l2 l3 begins1 begins2 info rows = record {
+    between = c;
+    first = stays_trans a b c before read;
+    later = stays_trans c d e walked rest;
+    info = over_value before read (stays_refl c honest) l1 l3 begins1 (LacksInfo shelf) (info_of shelf) (info_of shelf i1) info;
+    rows = over_log (stays_refl c honest) walked rest l2 l3 begins2 shelf (rows_of shelf i2) rows;
+  }
+
+-- later phases keep both
+kept_shelf : (shelf : Shelf) (left : List Left) (image i1 i2 : Store) (s s' : Seen) → rows_of shelf image ≡ rows_of shelf i2
+    → info_of shelf image ≡ info_of shelf i1 → InfoThenRows shelf i1 i2 left s s' → IsShelfWhile shelf left image s s'
+kept_shelf shelf left image i1 i2 s s' rows info has =
+    let log : HasLog shelf left has.between s' (rows_of shelf image) = rw rows has.rows in
+    record {
+      between = has.between;
+      first = has.first;
+      later = has.later;
+      info = rw info has.info;
+      rows = λ keeps. same_walk shelf left image has.between.store (log.kept keeps);
+      grown = same_log shelf left image has.between s' log;
+      own = log.own;
+    }
+
 -- the effect of each phase on the image of the phase before it
 pub record PartsWhile (sensors devices : List Bool) (i1 i2 i3 i4 i5 i6 : Store) (left : List Left) (s s' : Seen) : Type 0 where
-  sdr : HasLog Sdr left s s' (rows_of Sdr i1)
-  sel : HasLog Sel left s s' (rows_of Sel i2)
-  sdr_info : OfHeld s s' (λ store. SameOrLeft (LacksInfo Sdr) left (info_of Sdr i3) (info_of Sdr store))
-  sel_info : OfHeld s s' (λ store. SameOrLeft (LacksInfo Sel) left (info_of Sel i4) (info_of Sel store))
+  sdr : InfoThenRows Sdr i1 i2 left s s'
+  sel : InfoThenRows Sel i3 i4 left s s'
   readings : HasReadingsWhile sensors left i5 s s'
   inventories : HasInventoriesWhile devices left i6 s s'
 
-pub parts_while : {s0 s1 s2 s3 s4 s5 s6 : Seen} {l1 l2 l3 l4 l5 l6 : List Left} (i1 i2 i3 i4 i5 i6 : Store) (sensors devices : List Bool)
+pub parts_while : {s0 s1 s2 s3 s4 s5 s6 : Seen} {l2 l3 l4 l5 l6 : List Left} (l1 : List Left) (i1 i2 i3 i4 i5 i6 : Store) (sensors devices : List Bool)
     → (IsHonest s0 → StaysHonest s0 s1) → (IsHonest s1 → StaysHonest s1 s2)
     → (IsHonest s2 → StaysHonest s2 s3) → (IsHonest s3 → StaysHonest s3 s4)
     → (IsHonest s4 → StaysHonest s4 s5) → (IsHonest s5 → StaysHonest s5 s6)
     → Begins l1 l2 → Begins l2 l3 → Begins l3 l4 → Begins l4 l5 → Begins l5 l6
-    → (IsHonest s0 → HasLog Sdr l1 s0 s1 (rows_of Sdr i1)) → (IsHonest s1 → HasLog Sel l2 s1 s2 (rows_of Sel i2))
-    → (IsHonest s2 → OfHeld s2 s3 (λ store. SameOrLeft (LacksInfo Sdr) l3 (info_of Sdr i3) (info_of Sdr store)))
-    → (IsHonest s3 → OfHeld s3 s4 (λ store. SameOrLeft (LacksInfo Sel) l4 (info_of Sel i4) (info_of Sel store)))
+    → (IsHonest s0 → OfHeld s0 s1 (λ store. SameOrLeft (LacksInfo Sdr) l1 (info_of Sdr i1) (info_of Sdr store)))
+    → (IsHonest s1 → HasLog Sdr l2 s1 s2 (rows_of Sdr i2))
+    → (IsHonest s2 → OfHeld s2 s3 (λ store. SameOrLeft (LacksInfo Sel) l3 (info_of Sel i3) (info_of Sel store)))
+    → (IsHonest s3 → HasLog Sel l4 s3 s4 (rows_of Sel i4))
     → (IsHonest s4 → HasReadingsWhile sensors l5 i5 s4 s5) → (IsHonest s5 → HasInventoriesWhile devices l6 i6 s5 s6)
     → IsHonest s0 → PartsWhile sensors devices i1 i2 i3 i4 i5 i6 l6 s0 s6
-parts_while {s0} {s1} {s2} {s3} {s4} {s5} {s6} {l1} {l2} {l3} {l4} {l5} {l6} i1 i2 i3 i4 i5 i6 sensors devices stays1 stays2 stays3 stays4 stays5 stays6 g2 g3 g4 g5 g6 a b c d e f h =
+parts_while {s0} {s1} {s2} {s3} {s4} {s5} {s6} {l2} {l3} {l4} {l5} {l6} l1 i1 i2 i3 i4 i5 i6 sensors devices stays1 stays2 stays3 stays4 stays5 stays6 g2 g3 g4 g5 g6 a b c d e f h =
     let k1 = stays1 h in
     let k2 = stays2 k1.honest in
     let k3 = stays3 k2.honest in
@@ -163,50 +199,40 @@ parts_while {s0} {s1} {s2} {s3} {s4} {s5} {s6} {l1} {l2} {l3} {l4} {l5} {l6} i1 
     let from4 = stays_trans s4 s5 s6 k5 k6 in
     let from3 = stays_trans s3 s4 s6 k4 from4 in
     let from2 = stays_trans s2 s3 s6 k3 from3 in
-    let from1 = stays_trans s1 s2 s6 k2 from2 in
     let l46 = begins_then l4 l5 l6 g5 g6 in
     let l36 = begins_then l3 l4 l6 g4 l46 in
     let l26 = begins_then l2 l3 l6 g3 l36 in
     let l16 = begins_then l1 l2 l6 g2 l26 in
     record {
-      sdr = over_log (stays_refl s0 h) k1 from1 l1 l6 l16 Sdr (rows_of Sdr i1) (a h);
-      sel = over_log k1 k2 from2 l2 l6 l26 Sel (rows_of Sel i2) (b k1.honest);
-      sdr_info = over_value to2 k3 from3 l3 l6 l36 (LacksInfo Sdr) (info_of Sdr) (info_of Sdr i3) (c k2.honest);
-      sel_info = over_value to3 k4 from4 l4 l6 l46 (LacksInfo Sel) (info_of Sel) (info_of Sel i4) (d k3.honest);
+      sdr = info_then_rows (stays_refl s0 h) k1 k2 from2 k1.honest Sdr i1 i2 l1 l2 l6 l16 l26 (a h) (b k1.honest);
+      sel = info_then_rows to2 k3 k4 from4 k3.honest Sel i3 i4 l3 l4 l6 l36 l46 (c k2.honest) (d k3.honest);
       readings = over_readings to4 k5 k6 l5 l6 g6 sensors i5 (e k4.honest);
       inventories = over_inventories to5 k6 (stays_refl s6 k6.honest) l6 l6 ([], sym (append-nil l6)) devices i6 (f k5.honest);
     }
 
 -- later phases keep what was put into the image
-pub assemble_while : (left : List Left) (s s' : Seen) (i0 i1 i2 i3 i4 i5 i6 : Store) → i1 ≡ with_rows Sdr (rows_of Sdr i1) i0
-    → i2 ≡ with_rows Sel (rows_of Sel i2) i1 → i3 ≡ with_info Sdr (info_of Sdr i3) i2
-    → i4 ≡ with_info Sel (info_of Sel i4) i3 → i5 ≡ record i4 { readings = i5.readings }
+pub assemble_while : (left : List Left) (s s' : Seen) (i0 i1 i2 i3 i4 i5 i6 : Store) → i1 ≡ with_info Sdr (info_of Sdr i1) i0
+    → i2 ≡ with_rows Sdr (rows_of Sdr i2) i1 → i3 ≡ with_info Sel (info_of Sel i3) i2
+    → i4 ≡ with_rows Sel (rows_of Sel i4) i3 → i5 ≡ record i4 { readings = i5.readings }
     → i6 ≡ record i5 { inventories = i6.inventories } → IsStore i6 → IsHonest s
     → (sensors devices : List Bool) → Names i4.sdr sensors devices
     → PartsWhile sensors devices i1 i2 i3 i4 i5 i6 left s s' → IsCaptureWhile left i6 s s'
 assemble_while left s s' i0 i1 i2 i3 i4 i5 i6 e1 e2 e3 e4 e5 e6 is_image h sensors devices names parts =
     let sdr_four : i6.sdr ≡ i4.sdr = ap (λ (x : Store). x.sdr) e6 ∙ ap (λ (x : Store). x.sdr) e5 in
-    let sdr_one : i6.sdr ≡ i1.sdr = sdr_four ∙ ap (λ (x : Store). x.sdr) e4 ∙ ap (λ (x : Store). x.sdr) e3 ∙ ap (λ (x : Store). x.sdr) e2 in
-    let sel_two : i6.sel ≡ i2.sel = ap (λ (x : Store). x.sel) e6 ∙ ap (λ (x : Store). x.sel) e5 ∙ ap (λ (x : Store). x.sel) e4 ∙ ap (λ (x : Store). x.sel) e3 in
-    let sdr_info : i6.sdr_info ≡ i3.sdr_info = ap (λ (x : Store). x.sdr_info) e6 ∙ ap (λ (x : Store). x.sdr_info) e5 ∙ ap (λ (x : Store). x.sdr_info) e4 in
-    let sel_info : i6.sel_info ≡ i4.sel_info = ap (λ (x : Store). x.sel_info) e6 ∙ ap (λ (x : Store). x.sel_info) e5 in
+    let sdr_two : i6.sdr ≡ i2.sdr = sdr_four ∙ ap (λ (x : Store). x.sdr) e4 ∙ ap (λ (x : Store). x.sdr) e3 in
+    let sel_four : i6.sel ≡ i4.sel = ap (λ (x : Store). x.sel) e6 ∙ ap (λ (x : Store). x.sel) e5 in
+    let sel_info : i6.sel_info ≡ i3.sel_info = ap (λ (x : Store). x.sel_info) e6 ∙ ap (λ (x : Store). x.sel_info) e5 ∙ ap (λ (x : Store). x.sel_info) e4 in
+    let sdr_info : i6.sdr_info ≡ i1.sdr_info = ap (λ (x : Store). x.sdr_info) e6 ∙ ap (λ (x : Store). x.sdr_info) e5 ∙ ap (λ (x : Store). x.sdr_info) e4
+    ∙ ap (λ (x : Store). x.sdr_info) e3 ∙ ap (λ (x : Store). x.sdr_info) e2 in
     let readings : i5.readings ≡ i6.readings = sym (ap (λ (x : Store). x.readings) e6) in
     let named : Names i6.sdr sensors devices = rw sdr_four names in
-    let sdr : HasLog Sdr left s s' i6.sdr = rw sdr_one parts.sdr in
-    let sel : HasLog Sel left s s' i6.sel = rw sel_two parts.sel in
     record {
-      sdr = λ keeps. same_walk Sdr left i6 s.store (sdr.kept keeps);
-      sel = λ keeps. same_walk Sel left i6 s.store (sel.kept keeps);
-      grown_sdr = same_log Sdr left i6 s s' sdr;
-      grown_sel = same_log Sel left i6 s s' sel;
-      sdr_info = subst (λ (o : _). OfHeld s s' (λ store. SameOrLeft (LacksInfo Sdr) left o (info_of Sdr store))) (sym sdr_info) parts.sdr_info;
-      sel_info = subst (λ (o : _). OfHeld s s' (λ store. SameOrLeft (LacksInfo Sel) left o (info_of Sel store))) (sym sel_info) parts.sel_info;
+      sdr = kept_shelf Sdr left i6 i1 i2 s s' sdr_two sdr_info parts.sdr;
+      sel = kept_shelf Sel left i6 i3 i4 s s' sel_four sel_info parts.sel;
       readings = named_readings (λ key. OfHeld s s' (λ store. ReadingOrLeft left i6 store key)) sensors (sensors_of i6.sdr) named.keys named.sensors_are
           (λ key is mark. subst (λ (l : List SensorReading). OfHeld s s' (λ store. SameOrLeft (LacksReading key.0 key.1) left (reading_in l key.0 key.1) (reading_of key.0 key.1 store))) readings (parts.readings.named key is mark));
       inventories = named_inventories (λ id. Keeps (inventory_of id) s s' → InventoryOrLeft left i6 s.store id) devices (devices_of i6.sdr) named.ids named.devices_are
           parts.inventories.named (λ keeps. inl (neither i6 s.store is_image h.store));
-      own_sdr = sdr.own;
-      own_sel = sel.own;
       own_readings = λ lun number. subst (λ (l : List SensorReading). OfHeld s s' (λ store. NoneOrSame (reading_in l lun number) (reading_of lun number store))) readings (parts.readings.own lun number);
       own_inventories = parts.inventories.own;
     }

@@ -11,6 +11,8 @@ pub use Rattle.ipmi_bus.specs.Grown.{OnlyGrew}
 pub use Rattle.ipmi_bus.specs.Growth.{AllFollowOrStop, FollowsOrStops, IsLog, OnGrowing, WasLog}
 pub use Rattle.ipmi_bus.specs.Held.{AllGive, Keeps, WasHeld}
 pub use Rattle.ipmi_bus.specs.Readers.{as_inventory, InventoryCounts, InventoryIs, IsLastPart, PartsCame, PlainMayAnswer, ReadsRetryingParts, ReadsValue, ValueIs}
+pub use Rattle.ipmi_bus.specs.Code.{class_of}
+pub use Rattle.ipmi_bus.specs.FruRetrieval.{SizeFails}
 pub use Rattle.ipmi_bus.specs.Seen.{AsksAtMost, IsHonest, IsPlain, IsRefused, IsStateOf, Seen, stays_refl, stays_trans, StaysHonest}
 pub use Rattle.ipmi_bus.specs.Shelf.{DistinctIds, first_row, FoundIsRow, id_in, IsShelf, largest_len, LacksId, look, Row, row_with_id, whole_len}
 pub use Rattle.ipmi_bus.specs.Standing.{StandsAt, WalkStep}

@@ -5,9 +5,10 @@ use Rattle.ipmi_capture.specs.Below.{EndsBy, First, has_id, Id, info_of, IsStore
 use Rattle.ipmi_capture.specs.Capture.{devices_of, IsCaptureBut, IsCaptureOf, sensors_of}
 use Rattle.ipmi_capture.specs.Left.{LacksInfo, LacksInventory, LacksReading, LacksRecords}
 use Rattle.ipmi_capture.specs.declared.left.Left.{Left}
-use Rattle.ipmi_commands.specs.Job.{job_in}
+use Rattle.ipmi_commands.specs.Format.{Texts}
+use Rattle.ipmi_commands.specs.Job.{job_of}
 use Rattle.ipmi_commands.specs.declared.job.Job.{Job}
-use Rattle.ipmi_commands.specs.declared.job.Wording.{Wording}
+use Rattle.ipmi_commands.specs.declared.format.Detail.{Detail}
 use Rattle.ipmi_commands.specs.declared.limits.Tries.{Tries}
 use Rattle.ipmi_commands.specs.Plan.{Item, view_has_name}
 use Rattle.ipmi_commands.specs.Run.{FollowsPlan}
@@ -44,43 +45,41 @@ IsOfCapture image Task.Rewrite from = ⊥
 IsOfCapture image task from = IsKnownPlace Sdr image (start_of from)
 
 -- the texts of the item over one store are its texts over the other
-abbrev pub SameText : Store → Store → Item → Type 0
-SameText image store item = (text : List ℕ)
-    → (IsTextOver image item.subject text → IsTextOver store item.subject text)
-    × (IsTextOver store item.subject text → IsTextOver image item.subject text)
+abbrev pub SameText : Texts → Store → Store → Item → Type 0
+SameText x image store item = (text : List ℕ)
+    → (IsTextOver x image item.subject text → IsTextOver x store item.subject text)
+    × (IsTextOver x store item.subject text → IsTextOver x image item.subject text)
 
 -- There is a job, which has the same plan over both stores, and each item has the same texts. So runs that stop at the same item
 -- print the same. The tries may differ, as they affect only the number of calls.
-abbrev pub SamePlan : Option Job → Store → Store → Type 0
-SamePlan (Some job) image store = (tries tries' : Tries)
+abbrev pub SamePlan : Texts → Option Job → Store → Store → Type 0
+SamePlan x (Some job) image store = (tries tries' : Tries)
     → FollowsPlan job tries store (λ plan calls. FollowsPlan job tries' image (λ plan' calls'.
-    (plan' ≡ plan) × All (SameText image store) plan.items))
-SamePlan None image store = ⊥
+    (plan' ≡ plan) × All (SameText x image store) plan.items))
+SamePlan x None image store = ⊥
 
--- so does the job of a command
-abbrev pub PrintsTheSame : Store → Store → Wording → Task → Option ℕ → Type 0
-PrintsTheSame image store wording task from = SamePlan (job_in wording task from) image store
+-- so does the job of a command, in a form of output with these texts
+abbrev pub PrintsTheSame : Texts → Store → Store → Task → Option ℕ → Type 0
+PrintsTheSame x image store task from = SamePlan x (job_of x.has_names task from) image store
 
-abbrev pub CapturesPrintTheSame : Type 0
-CapturesPrintTheSame = (image store : Store) (wording : Wording) (task : Task) (from : Option ℕ)
+abbrev pub CapturesPrintTheSame : Texts → Type 0
+CapturesPrintTheSame x = (image store : Store) (task : Task) (from : Option ℕ)
     → IsStore image → IsStore store → IsCaptureOf image store → IsOfCapture image task from
-    → PrintsTheSame image store wording task from
+    → PrintsTheSame x image store task from
 
 -- ---- a capture that lacks something
 
--- whether a command walks the shelf: to list records or entries, to list all inventories, or for the names of sensors of events
--- in words and as objects
-abbrev pub is_walked : Shelf → Task → Wording → Bool
-is_walked Sel (Task.SelList count) wording = true
-is_walked Sel (Task.SelGet id) wording = true
-is_walked Sel task wording = false
-is_walked Sdr (Task.SelList count) Wording.Plain = false
-is_walked Sdr (Task.SelList count) wording = true
-is_walked Sdr (Task.SelGet id) (Wording.Json labels) = true
-is_walked Sdr (Task.SelGet id) wording = false
-is_walked Sdr (Task.Info shelf) wording = false
-is_walked Sdr (Task.Fru (Some id)) wording = false
-is_walked Sdr task wording = true
+-- whether a command walks the shelf: to list records or entries, to list all inventories, or for names, if the form of output has
+-- names in these details
+abbrev pub is_walked : Shelf → (Detail → Bool) → Task → Bool
+is_walked Sel has_names (Task.SelList count) = true
+is_walked Sel has_names (Task.SelGet id) = true
+is_walked Sel has_names task = false
+is_walked Sdr has_names (Task.SelList count) = has_names Detail.Line
+is_walked Sdr has_names (Task.SelGet id) = has_names Detail.Block
+is_walked Sdr has_names (Task.Info shelf) = false
+is_walked Sdr has_names (Task.Fru (Some id)) = false
+is_walked Sdr has_names task = true
 
 -- whether a command asks for the info of the shelf
 abbrev pub is_info_asked : Shelf → Task → Bool
@@ -104,17 +103,17 @@ devices_asked (Task.Fru (Some id)) rows = id ∷ []
 devices_asked task rows = []
 
 -- a command does not need the item left out
-pub record IsUnneeded (image : Store) (wording : Wording) (task : Task) (left : Left) : Type 0 where
-  pub records : (shelf : Shelf) → LacksRecords shelf left → is_walked shelf task wording ≡ false
+pub record IsUnneeded (has_names : Detail → Bool) (image : Store) (task : Task) (left : Left) : Type 0 where
+  pub records : (shelf : Shelf) → LacksRecords shelf left → is_walked shelf has_names task ≡ false
   pub info : (shelf : Shelf) → LacksInfo shelf left → is_info_asked shelf task ≡ false
   pub reading : (lun number : ℕ) → LacksReading lun number left
       → ¬ Contains (sensors_asked task image.sdr) (lun, number)
   pub inventory : (id : ℕ) → LacksInventory id left → ¬ Contains (devices_asked task image.sdr) id
 
 -- the same over a capture that lacks only items that the command does not need
-abbrev pub CapturesPrintWhatTheyHave : Type 0
-CapturesPrintWhatTheyHave =
-    (left : List Left) (image store : Store) (wording : Wording) (task : Task) (from : Option ℕ)
+abbrev pub CapturesPrintWhatTheyHave : Texts → Type 0
+CapturesPrintWhatTheyHave x =
+    (left : List Left) (image store : Store) (task : Task) (from : Option ℕ)
     → IsStore image → IsStore store → IsCaptureBut left image store
-    → All (IsUnneeded image wording task) left → IsOfCapture image task from
-    → PrintsTheSame image store wording task from
+    → All (IsUnneeded x.has_names image task) left → IsOfCapture image task from
+    → PrintsTheSame x image store task from

@@ -1,7 +1,7 @@
 -- What an image has of a controller whose store may change during the capture.
 use Rattle.std.specs.Prelude.{◌≡◌, ℕ, IsSome, None, Some, List, [], ◌∷◌, All, length, take, ◌⊎◌}
 use Rattle.std.specs.List.{Any}
-use Rattle.ipmi_capture.specs.Below.{Cycle, CycleAt, Done, First, FruEnded, info_of, inventory_of, IsLog, Keeps, Malformed, Missing, MissingAt, OnGrowing, OnlyGrew, reading_of, Row, row_with_id, rows_of, Sdr, Seen, Sel, Shelf, Stalled, Store, WalkEnd, WasHeld}
+use Rattle.ipmi_capture.specs.Below.{Cycle, CycleAt, Done, First, FruEnded, info_of, inventory_of, IsLog, Keeps, Malformed, Missing, MissingAt, OnGrowing, OnlyGrew, reading_of, Row, row_with_id, rows_of, Sdr, Seen, Sel, Shelf, Stalled, StaysHonest, Store, WalkEnd, WasHeld}
 use Rattle.ipmi_capture.specs.Capture.{devices_of, HasWalk, InventoryOrLeft, NoneOrSame, ReadingOrLeft, sensors_of, WalkOrLeft}
 use Rattle.ipmi_capture.specs.Left.{LacksInfo, LacksRecords, SameOrLeft, WalkEndsBy}
 use Rattle.ipmi_capture.specs.declared.left.Left.{Left}
@@ -22,20 +22,25 @@ abbrev pub OwnRows : Shelf → List Row → Seen → Seen → Type 0
 OwnRows shelf rows s s' =
     All (λ row. OfHeld s s' (λ store. row_with_id row.id (rows_of shelf store) ≡ Some row)) rows
 
--- Each record is that of a store held meanwhile, and so is each info and reading, unless it was left out. A shelf or an inventory
--- that did not change is exact, unless it was left out, whatever else changed. Of a shelf that changed otherwise than by growing
--- only single records are known, and of an inventory that changed nothing.
+-- The info of the shelf was read before its records: it is that of a store held up to a state, or was left out, and each record is
+-- that of a store held from this state on. A shelf that did not change since then is exact, or was left out, whatever else changed. Of
+-- one that changed otherwise than by growing only single records are known.
+pub record IsShelfWhile (shelf : Shelf) (left : List Left) (image : Store) (s s' : Seen) : Type 0 where
+  pub between : Seen
+  pub first : StaysHonest s between
+  pub later : StaysHonest between s'
+  pub info : OfHeld s between (λ store. SameOrLeft (LacksInfo shelf) left (info_of shelf image) (info_of shelf store))
+  pub rows : Keeps (rows_of shelf) between s' → WalkOrLeft shelf left image between.store
+  pub grown : LogOrLeft shelf left image between s'
+  pub own : OwnRows shelf (rows_of shelf image) between s'
+
+-- Each record is that of a store held meanwhile, and so is each info and reading, unless it was left out. An inventory that did not
+-- change is exact, unless it was left out; of one that changed nothing is known.
 pub record IsCaptureWhile (left : List Left) (image : Store) (s s' : Seen) : Type 0 where
-  pub sdr : Keeps (rows_of Sdr) s s' → WalkOrLeft Sdr left image s.store
-  pub sel : Keeps (rows_of Sel) s s' → WalkOrLeft Sel left image s.store
-  pub grown_sdr : LogOrLeft Sdr left image s s'
-  pub grown_sel : LogOrLeft Sel left image s s'
-  pub sdr_info : OfHeld s s' (λ store. SameOrLeft (LacksInfo Sdr) left (info_of Sdr image) (info_of Sdr store))
-  pub sel_info : OfHeld s s' (λ store. SameOrLeft (LacksInfo Sel) left (info_of Sel image) (info_of Sel store))
+  pub sdr : IsShelfWhile Sdr left image s s'
+  pub sel : IsShelfWhile Sel left image s s'
   pub readings : All (λ key. OfHeld s s' (λ store. ReadingOrLeft left image store key)) (sensors_of image.sdr)
   pub inventories : All (λ id. Keeps (inventory_of id) s s' → InventoryOrLeft left image s.store id) (0 ∷ devices_of image.sdr)
-  pub own_sdr : OwnRows Sdr image.sdr s s'
-  pub own_sel : OwnRows Sel image.sel s s'
   pub own_readings : (lun number : ℕ)
       → OfHeld s s' (λ store. NoneOrSame (reading_of lun number image) (reading_of lun number store))
   pub own_inventories : (id : ℕ) → Keeps (inventory_of id) s s'

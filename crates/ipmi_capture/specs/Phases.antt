@@ -1,9 +1,9 @@
 -- The effect of each phase of a capture, for the contracts of private functions.
-use Rattle.std.specs.Prelude.{◌≡◌, ◌≢◌, ℕ, ◌+◌, ◌*◌, ◌<◌, ◌==◌, ◌||◌, IsSome, IsTrue, Bool, false, true, Option, Some, None, Result, Ok, Err, List, [], ◌++◌, All, map, take, length, slice_index_or, ◌⊎◌}
+use Rattle.std.specs.Prelude.{◌≡◌, ℕ, ◌+◌, ◌*◌, ◌<◌, ◌==◌, ◌||◌, IsSome, IsTrue, Bool, false, true, Option, Some, None, Result, Ok, Err, List, [], ◌++◌, All, map, take, length, slice_index_or, ◌⊎◌}
 use Rattle.std.specs.List.{Any}
 use Rattle.std.specs.Option.{option_to_list}
-use Rattle.ipmi_capture.specs.Accounted.{IsListedOrAbsent, IsReadingAccounted}
-use Rattle.ipmi_capture.specs.Below.{Code, Cycle, CycleAt, Done, Ended, EndsBy, First, FruEnded, inventory_of, IsRefused, IsWalk, Keeps, largest_len, Malformed, Missing, MissingAt, not_present, OnGrowing, PlainMayAnswer, Reading, reading_of, retrying_call_bound, Row, rows_of, Sdr, Seen, Sel, Shelf, Stalled, step_call_bound, Store, WalkEnd, with_inventory, with_reading}
+use Rattle.ipmi_capture.specs.Accounted.{IsAbsent, IsListedOrAbsent, IsReadingAccounted}
+use Rattle.ipmi_capture.specs.Below.{Code, Cycle, CycleAt, Done, Ended, EndsBy, First, FruEnded, inventory_of, InventoryCounts, IsRefusedWith, IsWalk, Keeps, largest_len, LastFruCallSays, Malformed, Missing, MissingAt, not_present, OnGrowing, PlainMayAnswer, Reading, reading_of, retrying_call_bound, Row, rows_of, Sdr, Seen, Sel, Shelf, Stalled, StaysHonest, step_call_bound, Store, WalkEnd, with_inventory, with_reading}
 use Rattle.ipmi_capture.specs.Capture.{InventoryOrLeft, NoneOrSame, OwnInventories, OwnReadings, ReadingOrLeft}
 use Rattle.ipmi_capture.specs.Left.{AreCounted, EndIsNoted, EndsAs, LacksInventory, LacksReading, LacksRecords, PlainLeaves}
 use Rattle.ipmi_capture.specs.Meanwhile.{IsTrueWhile, OfHeld, OwnRows}
@@ -170,39 +170,58 @@ pub record HasLog (shelf : Shelf) (left : List Left) (s s' : Seen) (rows : List 
 abbrev pub IsNotPlain : FruEnded → Type 0
 IsNotPlain ended = PlainMayAnswer (Err ended) → ⊥
 
--- The item left out if reading the inventory ended this way, and the failure of the last call. After a refusal the size was
--- requested again: it is refused if that call failed with the same code, and after CBh the inventory is cut off if it succeeded.
-abbrev pub IsLeftBy : ℕ → FruEnded → Option ℕ → Left → Type 0
-IsLeftBy id ended failure (Left.Size i code) =
-    (i ≡ id) × IsNotPlain ended × (ended ≡ FruEnded.Refused code) × (failure ≡ Some code.0)
-IsLeftBy id ended failure (Left.CutOff i) = (i ≡ id) × (ended ≡ FruEnded.Refused not_present) × (failure ≡ None)
-IsLeftBy id ended failure (Left.Inventory i e) = (i ≡ id) × IsNotPlain ended × (e ≡ ended)
-IsLeftBy id ended failure left = ⊥
+-- the last call agrees with how a request for a size ended: it was given, given up or refused
+abbrev pub SizeSays : Result (Unit {0}) FruEnded → Seen → Type 0
+SizeSays (Ok u) seen = seen.last_failure ≡ None
+SizeSays (Err FruEnded.GaveUp) seen = LastFruCallSays FruEnded.GaveUp seen
+SizeSays (Err (FruEnded.Refused code)) seen = LastFruCallSays (FruEnded.Refused code) seen
+SizeSays (Err ended) seen = ⊥
+
+-- a size that was given counts as an inventory that was read
+abbrev as_read : Result (Unit {0}) FruEnded → Result (List ℕ) FruEnded
+as_read (Ok u) = Ok []
+as_read (Err ended) = Err ended
+
+-- the size of an inventory was requested, with tries of its own; a plain controller says at once that there is no inventory
+pub record SizeCame (id tries : ℕ) (s s' : Seen) (result : Result (Unit {0}) FruEnded) : Type 0 where
+  pub stays : StaysHonest s s'
+  pub counts : InventoryCounts id tries s s' (as_read result)
+  pub plain : IsTrue s.plain → inventory_of id s.store ≡ None → result ≡ Err (FruEnded.Refused not_present)
+
+-- The item left out if reading the inventory ended this way, by the last call. After a refusal the size was requested again. If it was
+-- refused with the same code, the size is left out. After CBh the inventory is cut off if the size was given; if that was given up, or
+-- refused with another code, it isn't known whether there is an inventory, and it is left out with this reason.
+abbrev pub IsLeftBy : ℕ → FruEnded → Seen → Left → Type 0
+IsLeftBy id ended seen (Left.Size i code) =
+    (i ≡ id) × IsNotPlain ended × (ended ≡ FruEnded.Refused code) × (seen.last_failure ≡ Some code.0)
+IsLeftBy id ended seen (Left.CutOff i) = (i ≡ id) × (ended ≡ FruEnded.Refused not_present) × (seen.last_failure ≡ None)
+IsLeftBy id ended seen (Left.Inventory i e) = (i ≡ id) × IsNotPlain e
+    × ((e ≡ ended) ⊎ ((ended ≡ FruEnded.Refused not_present) × LastFruCallSays e seen))
+IsLeftBy id ended seen left = ⊥
 
 -- the item left out of what was read: an inventory without bytes; or if it was not read, as above
-abbrev pub IsLeftAfter : ℕ → Result (List ℕ) FruEnded → Option ℕ → Left → Type 0
-IsLeftAfter id (Ok bytes) failure left = (left ≡ Left.Empty id) × (bytes ≡ [])
-IsLeftAfter id (Err ended) failure left = IsLeftBy id ended failure left
+abbrev pub IsLeftAfter : ℕ → Result (List ℕ) FruEnded → Seen → Left → Type 0
+IsLeftAfter id (Ok bytes) seen left = (left ≡ Left.Empty id) × (bytes ≡ [])
+IsLeftAfter id (Err ended) seen left = IsLeftBy id ended seen left
 
--- nothing is left out: the image has the bytes; or CBh was answered, and the last call failed
-abbrev pub NoneIsLeft : Result (List ℕ) FruEnded → Option ℕ → Option (List ℕ) → Type 0
-NoneIsLeft (Ok bytes) failure of_image = of_image ≡ Some bytes
-NoneIsLeft (Err ended) failure of_image = (ended ≡ FruEnded.Refused not_present) × (failure ≢ None)
+-- nothing is left out: the image has the bytes; or CBh was answered, and again to the last call, for the size
+abbrev pub NoneIsLeft : Result (List ℕ) FruEnded → Seen → Option (List ℕ) → Type 0
+NoneIsLeft (Ok bytes) seen of_image = of_image ≡ Some bytes
+NoneIsLeft (Err ended) seen of_image = (ended ≡ FruEnded.Refused not_present) × IsAbsent seen
 
 -- the inventory was refused with this code, and its size was not
-abbrev pub IsNotSize : Code → Option ℕ → Left → Type 0
-IsNotSize code failure (Left.Inventory id ended) = failure ≢ Some code.0
-IsNotSize code failure left = Unit {0}
+abbrev pub IsNotSize : Code → Seen → Left → Type 0
+IsNotSize code seen (Left.Inventory id ended) = LastFruCallSays (FruEnded.Refused code) seen → ⊥
+IsNotSize code seen left = Unit {0}
 
--- a size was refused once more, with the same code
-abbrev pub IsRefusedAgain : Seen → Seen → Left → Type 0
-IsRefusedAgain s s' (Left.Size id code) = IsRefused code.0 s s'
-IsRefusedAgain s s' left = Unit {0}
-
--- an inventory that is cut off is in the store
-abbrev pub CutOffIsIn : Store → Left → Type 0
-CutOffIsIn store (Left.CutOff id) = IsSome (inventory_of id store)
-CutOffIsIn store left = Unit {0}
+-- What the request for the size says of the item, over an honest controller: a size was refused with this code; an inventory that is
+-- cut off is in the store; and one that isn't known to be absent was given up or refused.
+abbrev pub IsLeftAgain : FruEnded → ℕ → Seen → Seen → Left → Type 0
+IsLeftAgain ended tries s s' (Left.Size id code) = IsRefusedWith tries code.0 s s'
+IsLeftAgain ended tries s s' (Left.CutOff id) = IsSome (inventory_of id s'.store)
+IsLeftAgain ended tries s s' (Left.Inventory id e) =
+    ended ≡ FruEnded.Refused not_present → InventoryCounts id tries s s' (Err e)
+IsLeftAgain ended tries s s' left = Unit {0}
 
 -- ---- calls, over any controller
 
@@ -216,7 +235,7 @@ most_on_shelf shelf tries = 4 * most_on_walk shelf tries
 
 -- for an inventory, and once more for its size
 abbrev pub most_for_inventory : ℕ → ℕ
-most_for_inventory tries = retrying_call_bound tries 65535 + 1
+most_for_inventory tries = retrying_call_bound tries 65535 + (tries + 1)
 
 -- for both shelves, both infos, 1024 readings and 255 inventories
 abbrev pub most_calls : ℕ → ℕ

@@ -125,17 +125,17 @@ fn capture_into<C: Controller, P: Progress>(
     ensures plain { IsPlain (C.seen ctl.old) →
         OnOk result (All (PlainLeaves (C.seen ctl.old).store) left.new.items) }
 {
-    note_shelf(asking, ctl, Shelf::Sdr, image, left, progress)?;
-    note_shelf(asking, ctl, Shelf::Sel, image, left, progress)?;
     note_info(asking, ctl, Shelf::Sdr, image, left)?;
+    note_shelf(asking, ctl, Shelf::Sdr, image, left, progress)?;
     note_info(asking, ctl, Shelf::Sel, image, left)?;
+    note_shelf(asking, ctl, Shelf::Sel, image, left, progress)?;
     let named = Named::of(asking.alloc, image)?;
     capture_readings(asking, ctl, &named, image, left, progress)?;
     capture_inventories(asking, ctl, &named, image, left, progress)?;
     Ok(())
 }
 
-/// Reads the contents of the controller: the records of both shelves along their next ids, both infos, the inventory of
+/// Reads the contents of the controller: of each shelf the info and then the records along their next ids; the inventory of
 /// device 0, and once each the readings of the sensors and the inventories of the devices that records name. A request is
 /// for at most `part` bytes. Each item may have `tries` troubles, and so may each part of an inventory. After a refusal it continues
 /// with the next item.
@@ -151,12 +151,13 @@ fn capture_into<C: Controller, P: Progress>(
 /// image is a capture. Over a plain controller only inventories without bytes are left out.
 ///
 /// Whatever stores it adds meanwhile, each record, info and reading of the image is that of a store that the controller held during
-/// the capture. A walk and an inventory are the controller's, except those left out, if the rows of the shelf, or that inventory, did
-/// not change. If the walk of a shelf ended with FFFFh at first and then only grew, the image has the whole walk of one such store,
-/// which begins with all records of the first walk; or it has the first records of it, and the others were given up or refused. An
-/// end that is noted is true of the shelf, unless its rows changed otherwise than by growing. An inventory noted as empty was there,
-/// and is empty unless it changed; one is cut off only if it was there and at another time was not. Nothing stalls, is malformed, or
-/// uses words.
+/// the capture. The info of a shelf is that of a store held up to some state, and the records are those of stores held from then on, so
+/// an info is never newer than a record. A walk and an inventory are the controller's, except those left out, if the rows of the shelf
+/// did not change from that state on, or that inventory did not change. If the walk of a shelf ended with FFFFh then and only grew, the
+/// image has the whole walk of one such store, which begins with all records of that walk; or it has the first records of it, and
+/// the others were given up or refused. An end that is noted is true of the shelf, unless its rows changed otherwise than by growing.
+/// An inventory noted as empty was there, and is empty unless it changed; one is cut off only if it was there and at another time was
+/// not. Nothing stalls, is malformed, or uses words.
 pub fn capture<C: Controller, P: Progress>(
     alloc: Global,
     ctl: &mut C,

@@ -61,7 +61,7 @@ pub enum Left {
     Empty(u8),
     /// The inventory of the FRU device with this id: the controller answered that there is none, and then gave its size.
     CutOff(u8),
-    /// The inventory of the FRU device with this id.
+    /// The inventory of the FRU device with this id; or after an answer that there is none, its size, so that this isn't known.
     Inventory(u8, FruEnded),
 }
 

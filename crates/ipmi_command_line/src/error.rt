@@ -31,6 +31,8 @@ pub enum Hint<'a> {
     Kind(&'a str),
     /// An option whose first dash is typographic. What follows the dash.
     Dash(&'a str),
+    /// A command of stock `ipmitool` that this program will not have: the words before, and this one.
+    Ipmitool(&'static [&'static str], &'a str),
 }
 
 /// Why a command line is refused. It displays as one line, in which control characters of the user are escaped.
@@ -171,6 +173,19 @@ impl fmt::Display for Operand {
     }
 }
 
+/// Writes which command of stock `ipmitool` the words are.
+fn write_ipmitool<W: fmt::Write>(
+    f: &mut fmt::Formatter<W>,
+    after: &'static [&'static str],
+    word: &str,
+) -> fmt::Result {
+    f.write_str(": this program only reads; write ipmitool")?;
+    for word in after {
+        write!(f, " {word}")?;
+    }
+    write!(f, " {}", Escaped(word))
+}
+
 impl fmt::Display for Hint<'_> {
     fn fmt<W: fmt::Write>(&self, f: &mut fmt::Formatter<W>) -> fmt::Result {
         match self {
@@ -209,6 +224,7 @@ impl fmt::Display for Hint<'_> {
                 ": an option begins with two plain dashes, as --{}",
                 Escaped(rest)
             ),
+            Hint::Ipmitool(after, word) => write_ipmitool(f, after, word),
         }
     }
 }

@@ -158,13 +158,71 @@ fn is_file(word: &str) -> bool {
     word == "-" || word.contains('.') || word.contains('/')
 }
 
+/// Words of stock `ipmitool` that no command has and none will have after these: what they do is more than to read sensors,
+/// events and inventories.
+const IPMITOOL: [(&[&str], &[&str]); 5] = [
+    (
+        &[],
+        &[
+            "channel",
+            "chassis",
+            "dcmi",
+            "delloem",
+            "ekanalyzer",
+            "event",
+            "exec",
+            "firewall",
+            "fwum",
+            "gendev",
+            "hpm",
+            "i2c",
+            "ime",
+            "isol",
+            "kontronoem",
+            "lan",
+            "lan6",
+            "nm",
+            "pef",
+            "picmg",
+            "power",
+            "raw",
+            "session",
+            "set",
+            "shell",
+            "sol",
+            "spd",
+            "sunoem",
+            "tsol",
+            "user",
+            "vita",
+        ],
+    ),
+    (&["fru"], &["edit", "internaluse", "upgEkey", "write"]),
+    (&["sdr"], &["fill"]),
+    (&["sel"], &["add", "clear", "delete"]),
+    (&["sensor"], &["thresh"]),
+];
+
+/// Whether the word is one of stock `ipmitool` after these.
+fn is_of_ipmitool(word: &str, after: &[&str]) -> bool {
+    for (before, words) in &IPMITOOL {
+        if *before == after {
+            return words.contains(&word);
+        }
+    }
+    false
+}
+
 /// What the word means by itself that no command has after these.
-fn hint_of_word<'a>(word: &'a str, after: &[&str]) -> Hint<'a> {
+fn hint_of_word<'a>(word: &'a str, after: &'static [&'static str]) -> Hint<'a> {
     if let Some(rest) = after_dash(word) {
         return Hint::Dash(rest);
     }
     if is_file(word) {
         return Hint::File;
+    }
+    if is_of_ipmitool(word, after) {
+        return Hint::Ipmitool(after, word);
     }
     match (after, option_named(word)) {
         ([], Some(option)) => Hint::Word(option),

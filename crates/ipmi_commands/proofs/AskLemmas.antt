@@ -39,13 +39,13 @@ refuses_record asked class refuses = grind arith
 -- an item that was not found is a possible end of a listing
 pub unread_ends : (form : Form) (unread : ReadError) (seen : Seen) → PieceErrorIsTrue form unread seen
     → EndsListing form seen (Err (failure_of unread))
-unread_ends (Form.Device wording) (ReadError.Inventory id ended) seen lacks = (wording, (refl, lacks))
+unread_ends Form.Device (ReadError.Inventory id ended) seen lacks = (refl, lacks)
 unread_ends form unread seen lacks = grind (arith, refuses_record)
 
 -- and so is the end after the last record
 pub end_ends : {T : Type 0} (form : Form) (wrote : Bool) (value : T) (seen : Seen)
     → EndsListing form seen (ending_of (end_of form wrote value))
-end_ends (Form.Block wording name) false value seen = (wording, refl)
+end_ends (Form.Block name) false value seen = refl
 end_ends form wrote value seen = grind arith
 
 -- and so is a record that was not read
@@ -61,8 +61,8 @@ step_ends_listing form {now} {next} ended shelf step = (step.says, rw (← shelf
 -- a listing that reached its limit or the end of the shelf
 pub reaches_end : (form : Form) (wrote : Bool) (count : ℕ) (most : Option ℕ) (now : CursorState)
     → (most ≡ Some count) ⊎ (now.place ≡ End) → ReachesEnd most now (end_of form wrote count)
-reaches_end (Form.Block wording name) false count most now (inl limit) = inl (rw limit refl)
-reaches_end (Form.Block wording name) false count most now (inr end) = inr end
+reaches_end (Form.Block name) false count most now (inl limit) = inl (rw limit refl)
+reaches_end (Form.Block name) false count most now (inr end) = inr end
 reaches_end form wrote count most now at = grind arith
 
 pub unread_reaches : (unread : ReadError) (most : Option ℕ) (now : CursorState) → ReachesEnd most now (Err (failure_of unread))

@@ -7,14 +7,15 @@ use Rattle.std.proofs.lemmas.List.Folds.{list_any_at}
 use Rattle.ipmi_records.specs.Sdr.{name_of}
 use Rattle.ipmi_commands.specs.Below.{Done, Failure, Place, place_after, Row, SdrFault, SdrView, sdr_view_of, Store}
 use Rattle.ipmi_commands.specs.Output.{and_then, no_output, Output, piece_of}
-use Rattle.ipmi_commands.specs.Prelude.{AreTexts, Form, IfChosen, IsBlockIn, IsBlockOfName, is_name, IsPieceOver, reading_for, row_items, rows_end, some_has_name, Wording, WritesPiece}
+use Rattle.ipmi_commands.specs.Prelude.{AreTexts, Detail, Form, IfChosen, IsTextOfRecord, IsBlockOfName, is_name, IsPieceOver, reading_for, row_items, rows_end, some_has_name, WritesPiece}
 use Rattle.ipmi_commands.specs.Sensors.{AreBlocks, BlocksAreOfListing, Found, found_among, found_row, has_one_of, IsBlockOfFound, IsPieceOfFound, reading_in, PrintsBlocks, PrintsFirst, PrintsFound}
 use Rattle.ipmi_commands.proofs.NameLemmas.{HasItems, name_counted}
 use Rattle.ipmi_commands.proofs.OutputLemmas.{nothing_then, then_assoc, then_nothing}
+use Rattle.ipmi_commands.specs.Format.{Texts}
 
-module _ (wording : Wording) (name : List ℕ) where
-  blocks_more : (done : List Found) (found : Found) (text piece : Output) → AreBlocks wording name done text
-      → IsPieceOfFound wording name found piece → AreBlocks wording name (done ++ found ∷ []) (and_then text piece)
+module _ (x : Texts) (name : List ℕ) where
+  blocks_more : (done : List Found) (found : Found) (text piece : Output) → AreBlocks x name done text
+      → IsPieceOfFound x name found piece → AreBlocks x name (done ++ found ∷ []) (and_then text piece)
   blocks_more [] found text piece are is = record {
     first = piece;
     rest = no_output;
@@ -33,29 +34,29 @@ module _ (wording : Wording) (name : List ℕ) where
   -- the blocks of the first k of all, and the next one
   module _ (all items : List Found) (same : items ≡ all) (k : ℕ) (there : k < length items) (next : Found)
       (next_is : next ≡ get_or items k next) {old now : Output}
-      (printed : PrintsBlocks wording name (take k all) old now) where
+      (printed : PrintsBlocks x name (take k all) old now) where
     there_all : k < length all
     there_all = subst (λ (l : List Found). k < length l) same there
 
     next_all : get_or all k next ≡ next
     next_all = sym (subst (λ (l : List Found). next ≡ get_or l k next) same next_is)
 
-    abbrev pub first_blocks : PrintsFirst wording name all old now
+    abbrev pub first_blocks : PrintsFirst x name all old now
     first_blocks = record { done = take k all; rest = drop k all; are = sym (take-append-drop k all); printed = printed }
 
-    module _ (text : List ℕ) (is_text : IsBlockOfFound wording name next (sdr_view_of next.bytes) text) where
-      is_piece : IsPieceOfFound wording name next (piece_of text false)
+    module _ (text : List ℕ) (is_text : IsBlockOfFound x name next (sdr_view_of next.bytes) text) where
+      is_piece : IsPieceOfFound x name next (piece_of text false)
       is_piece = record { is_text = is_text; counted = refl }
 
       -- the next block was not written
       pub block_cut : (new : Output) (failure : Failure)
-          → WritesPiece (piece_of text false) now new (Err failure) → PrintsFound wording name all old new (Err failure)
+          → WritesPiece (piece_of text false) now new (Err failure) → PrintsFound x name all old new (Err failure)
       block_cut new Failure.WriteFault writes = record {
         whole = now;
         first = first_blocks;
         next = next;
         later = drop (k + 1) all;
-        rest_is = at_drop_more (λ (l : List Found). l) all k next there_all ∙ ap (λ (x : Found). x ∷ drop (k + 1) all) next_all;
+        rest_is = at_drop_more (λ (l : List Found). l) all k next there_all ∙ ap (λ (x' : Found). x' ∷ drop (k + 1) all) next_all;
         block = piece_of text false;
         is_block = is_piece;
         some = writes.0;
@@ -64,10 +65,10 @@ module _ (wording : Wording) (name : List ℕ) where
       block_cut new _ writes = absurd writes
 
       -- it was written
-      pub block_more : {new : Output} → new ≡ and_then now (piece_of text false) → PrintsBlocks wording name (take (k + 1) all) old new
+      pub block_more : {new : Output} → new ≡ and_then now (piece_of text false) → PrintsBlocks x name (take (k + 1) all) old new
       block_more is =
           let more : take (k + 1) all ≡ take k all ++ next ∷ [] =
-          take_more all k next there_all ∙ ap (λ (x : Found). take k all ++ x ∷ []) next_all in
+          take_more all k next there_all ∙ ap (λ (x' : Found). take k all ++ x' ∷ []) next_all in
           rw more (record {
             text = and_then printed.text (piece_of text false);
             are = blocks_more (take k all) next printed.text (piece_of text false) printed.are is_piece;
@@ -76,21 +77,21 @@ module _ (wording : Wording) (name : List ℕ) where
 
 -- ---- the blocks of what is found along a walk
 
-module _ (wording : Wording) (names : List (List ℕ)) (name : List ℕ) (among : Contains names name) (store : Store) where
+module _ (x : Texts) (names : List (List ℕ)) (name : List ℕ) (among : Contains names name) (store : Store) where
   -- the text of a row that is found
   found_text : (id : ℕ) (bytes : List ℕ) (view : Result SdrView SdrFault) (text : List ℕ)
-      → IsBlockOfFound wording name (record { id = id; bytes = bytes; reading = reading_in store view }) view text
-      → IsBlockOfName wording name store id view text
+      → IsBlockOfFound x name (record { id = id; bytes = bytes; reading = reading_in store view }) view text
+      → IsBlockOfName x name store id view text
   found_text id bytes (Ok view) text is = is
   found_text id bytes (Err fault) text is = is
 
   -- a row that is not found has no text
   no_text : (id : ℕ) (view : Result SdrView SdrFault) → has_one_of names view ≡ false
-      → IsBlockOfName wording name store id view []
+      → IsBlockOfName x name store id view []
   no_text id (Ok view) none = not_chosen (is_name name (name_of view)) refl
     where
       not_chosen : (b : Bool) → is_name name (name_of view) ≡ b
-          → IfChosen b (λ t. IsBlockIn wording id view (reading_for store view) t) []
+          → IfChosen b (λ t. IsTextOfRecord x Detail.Block id view (reading_for store view) t) []
       not_chosen false is = refl
       not_chosen true is =
           let one = list_any_at (λ n. is_name n (name_of view)) names among.0 name among.1 (ap (λ (n : List ℕ). is_name n (name_of view)) among.2 ∙ is) in
@@ -99,11 +100,11 @@ module _ (wording : Wording) (names : List (List ℕ)) (name : List ℕ) (among 
 
   -- one row, and the rest
   row_texts : (start : Place) (row : Row) (walk : List Row)
-      → ((text : Output) → AreBlocks wording name (found_among names store walk) text
-      → AreTexts (IsPieceOver store) (row_items (Form.Block wording name) (place_after row.next) walk) text)
+      → ((text : Output) → AreBlocks x name (found_among names store walk) text
+      → AreTexts (IsPieceOver x store) (row_items (Form.Block name) (place_after row.next) walk) text)
       → (one : Bool) → has_one_of names (sdr_view_of row.bytes) ≡ one → (text : Output)
-      → AreBlocks wording name (cond one (found_row store row ∷ []) [] ++ found_among names store walk) text
-      → AreTexts (IsPieceOver store) (row_items (Form.Block wording name) start (row ∷ walk)) text
+      → AreBlocks x name (cond one (found_row store row ∷ []) [] ++ found_among names store walk) text
+      → AreTexts (IsPieceOver x store) (row_items (Form.Block name) start (row ∷ walk)) text
   row_texts start row walk more true is text are = record {
     first = are.first;
     rest = are.rest;
@@ -119,21 +120,21 @@ module _ (wording : Wording) (names : List (List ℕ)) (name : List ℕ) (among 
     joined = sym (nothing_then text);
   }
 
-  texts_of_blocks : (start : Place) (walk : List Row) (text : Output) → AreBlocks wording name (found_among names store walk) text
-      → AreTexts (IsPieceOver store) (row_items (Form.Block wording name) start walk) text
+  texts_of_blocks : (start : Place) (walk : List Row) (text : Output) → AreBlocks x name (found_among names store walk) text
+      → AreTexts (IsPieceOver x store) (row_items (Form.Block name) start walk) text
   texts_of_blocks start [] text are = are
   texts_of_blocks start (row ∷ walk) text are =
       row_texts start row walk (λ rest. texts_of_blocks (place_after row.next) walk rest) (has_one_of names (sdr_view_of row.bytes)) refl text are
 
 -- whether anything was counted decides the end
-end_by_count : (wording : Wording) (name : List ℕ) (walk : List Row) (old new text : Output) → new ≡ and_then old text
+end_by_count : (name : List ℕ) (walk : List Row) (old new text : Output) → new ≡ and_then old text
     → HasItems (some_has_name name walk) text.pieces
-    → cond (new.pieces == old.pieces) (Err (Failure.NoName name)) (Ok tt) ≡ rows_end (Form.Block wording name) walk Done
-end_by_count wording name walk old new text is has = grind (arith, nat_tests, ap (λ (o : Output). o.pieces) is)
+    → cond (new.pieces == old.pieces) (Err (Failure.NoName name)) (Ok tt) ≡ rows_end (Form.Block name) walk Done
+end_by_count name walk old new text is has = grind (arith, nat_tests, ap (λ (o : Output). o.pieces) is)
 
-pub blocks_of_listing : BlocksAreOfListing
-blocks_of_listing wording names name store start walk old new among printed =
-    let texts = texts_of_blocks wording names name among store start walk printed.text printed.are in (
+pub blocks_of_listing : (x : Texts) → BlocksAreOfListing x
+blocks_of_listing x names name store start walk old new among printed =
+    let texts = texts_of_blocks x names name among store start walk printed.text printed.are in (
       record { text = printed.text; are = texts; new_is = printed.new_is },
-      end_by_count wording name walk old new printed.text printed.new_is (name_counted wording name store start walk printed.text texts),
+      end_by_count name walk old new printed.text printed.new_is (name_counted x name store start walk printed.text texts),
     )

@@ -5,7 +5,7 @@ use Rattle.ipmi_commands.specs.Run.{EndsInventory}
 use Rattle.ipmi_commands.specs.Named.{listed_end, PrintsDevices, PrintsLocated, PrintsLocator, PrintsPlan}
 use Rattle.ipmi_commands.specs.declared.named.RecordsEnd.{RecordsEnd}
 use Rattle.ipmi_commands.specs.declared.piece.Piece.{Piece}
-use Rattle.ipmi_commands.specs.Prelude.{Change, LacksInventory, NameLookup, EndsNamed, OfInventory, AtEnd, AtInventory, AtRecord, calls_for_devices, calls_for_point, calls_for_points, cause_of, change, failure_of, FindsLocator, Form, inventories_plan, inventory_plan, IsAmong, IsPieceOver, IsTextWhile, Item, Job, locator_points, next_points, OfRow, Plan, points_at_walk_end, ReadError, ReadPoint, row_items, Runs, shown, Subject, text_plan, Wording, WritesPiece}
+use Rattle.ipmi_commands.specs.Prelude.{Change, LacksInventory, NameLookup, EndsNamed, OfInventory, AtEnd, AtInventory, AtRecord, calls_for_devices, calls_for_point, calls_for_points, cause_of, change, failure_of, FindsLocator, Form, inventories_plan, inventory_plan, IsAmong, IsPieceOver, IsTextWhile, Item, Job, locator_points, next_points, OfRow, Plan, points_at_walk_end, ReadError, ReadPoint, row_items, Runs, shown, Subject, text_plan, WritesPiece}
 use Rattle.ipmi_commands.specs.Output.{Output}
 use Rattle.ipmi_commands.specs.declared.limits.Tries.{Tries}
 use Rattle.ipmi_commands.proofs.CountLemmas.{between, ends_here, ends_since}
@@ -14,48 +14,50 @@ use Rattle.ipmi_commands.proofs.ItemLemmas.{leaves_joined, leaves_longer, leaves
 use Rattle.ipmi_commands.proofs.LastLemmas.{leaves_wide}
 use Rattle.ipmi_commands.proofs.MeanwhileLemmas.{keeps_at_same, keeps_inventory, locator_keeps, while_first, while_last, while_second}
 use Rattle.ipmi_commands.proofs.PerformLemmas.{none_leaves, text_ends, text_leaves}
+use Rattle.ipmi_commands.specs.Format.{Texts}
+use Rattle.ipmi_commands.specs.declared.format.Detail.{Detail}
 
 -- ---- one record
 
-pub locator_found : (wording : Wording) (tries : Tries) (bytes : List ℕ) (s s' : Seen) (old new : Output) (piece : Piece) (ending : Ending)
-    → FindsLocator wording bytes tries s s' (Ok piece) → WritesPiece (shown piece) old new ending
-    → PrintsLocator wording tries bytes (change s s' old new) ending
-locator_found wording tries bytes s s' old new piece ending finds writes = λ row is.
+pub locator_found : (x : Texts) → (tries : Tries) (bytes : List ℕ) (s s' : Seen) (old new : Output) (piece : Piece) (ending : Ending)
+    → FindsLocator x bytes tries s s' (Ok piece) → WritesPiece (shown piece) old new ending
+    → PrintsLocator x tries bytes (change s s' old new) ending
+locator_found x tries bytes s s' old new piece ending finds writes = λ row is.
     let found = finds row.id row.next in
     let points = locator_points (sdr_view_of bytes) in
-    let subject = OfRow (Form.Device wording) row in
+    let subject = OfRow Form.Device row in
     record {
       ends = text_ends tries (IsTrue s.plain) s s' (shown piece) old new ending found.asks.ends writes;
       prints = λ keeps.
           let text = found.is (locator_keeps (sdr_view_of bytes) s s' keeps) in
-          let of_row : IsPieceOver s'.store subject (shown piece) = subst (λ (b : List ℕ). IsPieceOver s'.store (OfRow (Form.Device wording) (record { id = row.id; next = row.next; bytes = b })) (shown piece)) (sym is) text in
-          leaves_map (IsPieceOver s'.store) (IsTextWhile s s') (while_last s s') (text_plan subject points) old new ending (cause_of ending)
-          (text_leaves (IsPieceOver s'.store) subject points old new (shown piece) ending of_row writes);
+          let of_row : IsPieceOver x s'.store subject (shown piece) = subst (λ (b : List ℕ). IsPieceOver x s'.store (OfRow Form.Device (record { id = row.id; next = row.next; bytes = b })) (shown piece)) (sym is) text in
+          leaves_map (IsPieceOver x s'.store) (IsTextWhile x s s') (while_last x s s') (text_plan subject points) old new ending (cause_of ending)
+          (text_leaves (IsPieceOver x s'.store) subject points old new (shown piece) ending of_row writes);
       calls_are = λ same. found.asks.calls (keeps_at_same points s s' found.asks.ends.stays.store same);
     }
 
-pub locator_unread : (wording : Wording) (tries : Tries) (bytes : List ℕ) (s s' : Seen) (text : Output) (unread : ReadError)
-    → FindsLocator wording bytes tries s s' (Err unread)
-    → PrintsLocator wording tries bytes (change s s' text text) (Err (failure_of unread))
-locator_unread wording tries bytes s s' text unread finds = λ row is.
+pub locator_unread : (x : Texts) → (tries : Tries) (bytes : List ℕ) (s s' : Seen) (text : Output) (unread : ReadError)
+    → FindsLocator x bytes tries s s' (Err unread)
+    → PrintsLocator x tries bytes (change s s' text text) (Err (failure_of unread))
+locator_unread x tries bytes s s' text unread finds = λ row is.
     let none = finds row.id row.next in
     let points = locator_points (sdr_view_of bytes) in
     record {
       ends = none.asks.ends;
-      prints = λ keeps. none_leaves (IsTextWhile s s') (text_plan (OfRow (Form.Device wording) row) points) text (Err (failure_of unread)) none.there;
+      prints = λ keeps. none_leaves (IsTextWhile x s s') (text_plan (OfRow Form.Device row) points) text (Err (failure_of unread)) none.there;
       calls_are = λ same. none.asks.calls (keeps_at_same points s s' none.asks.ends.stays.store same);
     }
 
 -- ---- a text, then the rest of a plan
 
-module _ (tries : Tries) (subject : Subject) (points more : List ReadPoint) (p : Plan) (first rest : Store → ℕ) where
+module _ (x : Texts) (tries : Tries) (subject : Subject) (points more : List ReadPoint) (p : Plan) (first rest : Store → ℕ) where
   abbrev longer : Plan
   longer = record { items = record { subject = subject; points = more } ∷ p.items; end = p.end; end_points = p.end_points }
 
   pub then_plan : (s s' s'' : Seen) (old text new : Output) (ending : Ending)
-      → PrintsPlan tries (text_plan subject points) first (change s s' old text) (Ok tt)
-      → PrintsPlan tries p rest (change s' s'' text new) ending
-      → PrintsPlan tries longer (λ store. first store + rest store) (change s s'' old new) ending
+      → PrintsPlan x tries (text_plan subject points) first (change s s' old text) (Ok tt)
+      → PrintsPlan x tries p rest (change s' s'' text new) ending
+      → PrintsPlan x tries longer (λ store. first store + rest store) (change s s'' old new) ending
   then_plan s s' s'' old text new ending a b =
       let one = a.ends.stays in
       let two = b.ends.stays in
@@ -63,11 +65,11 @@ module _ (tries : Tries) (subject : Subject) (points more : List ReadPoint) (p :
       record {
         ends = ends_since a.ends one.plain b.ends;
         prints = λ keeps.
-            let printed = printed_map (IsTextWhile s s') (IsTextWhile s s'') (while_first s s' s'' one.store two.store) _ old text
+            let printed = printed_map (IsTextWhile x s s') (IsTextWhile x s s'') (while_first x s s' s'' one.store two.store) _ old text
             (a.prints (keeps_first of s s' s'' one.store two.store keeps)).0 in
-            leaves_joined (IsTextWhile s s'') (record { subject = subject; points = more } ∷ []) p old text new ending (cause_of ending)
+            leaves_joined (IsTextWhile x s s'') (record { subject = subject; points = more } ∷ []) p old text new ending (cause_of ending)
             (record { text = printed.text; are = printed.are; new_is = printed.new_is })
-            (leaves_map (IsTextWhile s' s'') (IsTextWhile s s'') (while_second s s' s'' one.store two.store) p text new ending (cause_of ending)
+            (leaves_map (IsTextWhile x s' s'') (IsTextWhile x s s'') (while_second x s s' s'' one.store two.store) p text new ending (cause_of ending)
             (b.prints (keeps_second of s s' s'' one.store two.store keeps)));
         calls_are = λ same.
             let since = between s s' s'' one two same in
@@ -77,12 +79,12 @@ module _ (tries : Tries) (subject : Subject) (points more : List ReadPoint) (p :
   -- the text was not finished
   pub stops_plan : ((point : ReadPoint) → IsAmong points point → IsAmong more point)
       → (s s' : Seen) (old new : Output) (failure : Failure)
-      → PrintsPlan tries (text_plan subject points) first (change s s' old new) (Err failure)
-      → PrintsPlan tries longer (λ store. first store + rest store) (change s s' old new) (Err failure)
+      → PrintsPlan x tries (text_plan subject points) first (change s s' old new) (Err failure)
+      → PrintsPlan x tries longer (λ store. first store + rest store) (change s s' old new) (Err failure)
   stops_plan wide s s' old new failure a = record {
     ends = a.ends;
     prints = λ keeps.
-        let W = IsTextWhile s s' in
+        let W = IsTextWhile x s s' in
         leaves_longer W (text_plan subject more) longer p.items refl later old new (Err failure) (cause_of (Err failure)) (λ is all. cc all.1)
         (leaves_wide W more (text_plan subject points) [] (Ok tt) refl wide old new (Err failure) (Err failure) (cause_of (Err failure)) (λ is. is) (a.prints keeps));
     calls_are = λ same. omega (arith, a.calls_are same);
@@ -105,7 +107,7 @@ fewer_calls left after bytes each calls calls' most is before more =
     let size : length left ≡ length after + 1 = omega (arith, ap length is) in
     omega (arith, rw size at before, one, more)
 
-module _ (wording : Wording) (walked : RecordsEnd) (tries : Tries) where
+module _ (x : Texts) (walked : RecordsEnd) (tries : Tries) where
   listed_cause : (walked : RecordsEnd) → cause_of (listed_end walked) ≡ AtEnd
   listed_cause RecordsEnd.Whole = refl
   listed_cause (RecordsEnd.Cycle n) = refl
@@ -113,10 +115,10 @@ module _ (wording : Wording) (walked : RecordsEnd) (tries : Tries) where
 
   -- no record is left
   pub none_located : (s : Seen) (text : Output) → IsHonest s
-      → PrintsLocated wording walked tries [] (change s s text text) (listed_end walked)
+      → PrintsLocated x walked tries [] (change s s text text) (listed_end walked)
   none_located s text h [] start points is = record {
     ends = rw (listed_cause walked) (ends_here h refl tt);
-    prints = λ keeps. rw (listed_cause walked) (none_printed (IsTextWhile s s) text text refl, refl);
+    prints = λ keeps. rw (listed_cause walked) (none_printed (IsTextWhile x s s) text text refl, refl);
     calls_are = λ same. omega arith;
   }
   none_located s text h (row ∷ rows) start points is = cc is
@@ -124,45 +126,45 @@ module _ (wording : Wording) (walked : RecordsEnd) (tries : Tries) where
   -- what is printed of the records that are left leads to what is printed of all of them
   abbrev pub LeadsLocated : List (List ℕ) → List (List ℕ) → Seen → Seen → Output → Output → Type 0
   LeadsLocated all left s s' old text = (s'' : Seen) (new : Output) (ending : Ending)
-      → PrintsLocated wording walked tries left (change s' s'' text new) ending
-      → PrintsLocated wording walked tries all (change s s'' old new) ending
+      → PrintsLocated x walked tries left (change s' s'' text new) ending
+      → PrintsLocated x walked tries all (change s s'' old new) ending
 
   module _ (bytes : List ℕ) (records : List (List ℕ)) where
     -- the plan of a record with these bytes, in the words of the record
     of_row : (row : Row) (s s' : Seen) (old new : Output) (ending : Ending) → row.bytes ≡ bytes
-        → PrintsLocator wording tries bytes (change s s' old new) ending
-        → PrintsPlan tries (text_plan (OfRow (Form.Device wording) row) (locator_points (sdr_view_of row.bytes)))
+        → PrintsLocator x tries bytes (change s s' old new) ending
+        → PrintsPlan x tries (text_plan (OfRow Form.Device row) (locator_points (sdr_view_of row.bytes)))
         (λ store. calls_for_points tries store (locator_points (sdr_view_of row.bytes))) (change s s' old new) ending
     of_row row s s' old new ending is first =
-        subst (λ (b : List ℕ). PrintsPlan tries (text_plan (OfRow (Form.Device wording) row) (locator_points (sdr_view_of b)))
+        subst (λ (b : List ℕ). PrintsPlan x tries (text_plan (OfRow Form.Device row) (locator_points (sdr_view_of b)))
         (λ store. calls_for_points tries store (locator_points (sdr_view_of b))) (change s s' old new) ending) (sym is) (first row is)
 
     pub more_located : (s s' s'' : Seen) (old text new : Output) (ending : Ending)
-        → PrintsLocator wording tries bytes (change s s' old text) (Ok tt)
-        → PrintsLocated wording walked tries records (change s' s'' text new) ending
-        → PrintsLocated wording walked tries (bytes ∷ records) (change s s'' old new) ending
+        → PrintsLocator x tries bytes (change s s' old text) (Ok tt)
+        → PrintsLocated x walked tries records (change s' s'' text new) ending
+        → PrintsLocated x walked tries (bytes ∷ records) (change s s'' old new) ending
     more_located s s' s'' old text new ending first rest [] start points is = cc is
     more_located s s' s'' old text new ending first rest (row ∷ rows) start points is =
         let here = locator_points (sdr_view_of row.bytes) in
-        then_plan tries (OfRow (Form.Device wording) row) here (AtRecord (asked_at start) ∷ here)
-        (record { items = row_items (Form.Device wording) (place_after row.next) rows; end = listed_end walked; end_points = points })
+        then_plan x tries (OfRow Form.Device row) here (AtRecord (asked_at start) ∷ here)
+        (record { items = row_items Form.Device (place_after row.next) rows; end = listed_end walked; end_points = points })
         (λ store. calls_for_points tries store here) (λ store. calls_for_devices tries store rows) s s' s'' old text new ending
         (of_row row s s' old text (Ok tt) (cc is) first) (rest rows (place_after row.next) points (cc is))
 
     pub not_located : (s s' : Seen) (old new : Output) (failure : Failure)
-        → PrintsLocator wording tries bytes (change s s' old new) (Err failure)
-        → PrintsLocated wording walked tries (bytes ∷ records) (change s s' old new) (Err failure)
+        → PrintsLocator x tries bytes (change s s' old new) (Err failure)
+        → PrintsLocated x walked tries (bytes ∷ records) (change s s' old new) (Err failure)
     not_located s s' old new failure first [] start points is = cc is
     not_located s s' old new failure first (row ∷ rows) start points is =
         let here = locator_points (sdr_view_of row.bytes) in
-        stops_plan tries (OfRow (Form.Device wording) row) here (AtRecord (asked_at start) ∷ here)
-        (record { items = row_items (Form.Device wording) (place_after row.next) rows; end = listed_end walked; end_points = points })
+        stops_plan x tries (OfRow Form.Device row) here (AtRecord (asked_at start) ∷ here)
+        (record { items = row_items Form.Device (place_after row.next) rows; end = listed_end walked; end_points = points })
         (λ store. calls_for_points tries store here) (λ store. calls_for_devices tries store rows) (λ point among. grind arith) s s' old new failure
         (of_row row s s' old new (Err failure) (cc is) first)
 
     -- one record fewer is left
     pub leads_on : {all left : List (List ℕ)} {s s' s'' : Seen} {old text new : Output} → left ≡ bytes ∷ records
-        → LeadsLocated all left s s' old text → PrintsLocator wording tries bytes (change s' s'' text new) (Ok tt)
+        → LeadsLocated all left s s' old text → PrintsLocator x tries bytes (change s' s'' text new) (Ok tt)
         → IsHonest s'' × LeadsLocated all records s s'' old new
     leads_on {s' = s'} {s'' = s''} {text = text} {new = new} is leads first = (
       (first (row_with bytes) refl).ends.stays.honest,
@@ -170,20 +172,20 @@ module _ (wording : Wording) (walked : RecordsEnd) (tries : Tries) where
     )
 
     pub leads_no_further : {all left : List (List ℕ)} {s s' s'' : Seen} {old text new : Output} (failure : Failure) → left ≡ bytes ∷ records
-        → LeadsLocated all left s s' old text → PrintsLocator wording tries bytes (change s' s'' text new) (Err failure)
-        → PrintsLocated wording walked tries all (change s s'' old new) (Err failure)
+        → LeadsLocated all left s s' old text → PrintsLocator x tries bytes (change s' s'' text new) (Err failure)
+        → PrintsLocated x walked tries all (change s s'' old new) (Err failure)
     leads_no_further {s' = s'} {s'' = s''} {text = text} {new = new} failure is leads first =
         (rw is at leads) s'' new (Err failure) (not_located s' s'' text new failure first)
 
   pub leads_to_end : {all left : List (List ℕ)} {s s' : Seen} {old text : Output} → left ≡ [] → IsHonest s'
-      → LeadsLocated all left s s' old text → PrintsLocated wording walked tries all (change s s' old text) (listed_end walked)
+      → LeadsLocated all left s s' old text → PrintsLocated x walked tries all (change s s' old text) (listed_end walked)
   leads_to_end {s' = s'} {text = text} is h leads = (rw is at leads) s' text (listed_end walked) (none_located s' text h)
 
   -- ---- device 0, then those of the records
 
   device_0 : (name : Option (List ℕ)) (s s' : Seen) (old new : Output) (ending : Ending) → IsHonest s
-      → Runs (Job.Inventory wording 0 name) tries (change s s' old new) ending
-      → PrintsPlan tries (inventory_plan wording 0 name) (λ store. calls_for_point tries store (AtInventory 0)) (change s s' old new) ending
+      → Runs x (Job.Inventory Detail.Line 0 name) tries (change s s' old new) ending
+      → PrintsPlan x tries (inventory_plan Detail.Line 0 name) (λ store. calls_for_point tries store (AtInventory 0)) (change s s' old new) ending
   device_0 name s s' old new ending h runs = record {
     ends = runs.why h;
     prints = λ keeps. runs.grows h (keeps_inventory 0 s s' keeps);
@@ -192,52 +194,52 @@ module _ (wording : Wording) (walked : RecordsEnd) (tries : Tries) where
 
   pub devices_stopped : (name : Option (List ℕ)) (records : List (List ℕ)) → name ≡ device_name 0 records
       → (s s' : Seen) (old new : Output) (failure : Failure) → IsHonest s
-      → Runs (Job.Inventory wording 0 name) tries (change s s' old new) (Err failure)
-      → PrintsDevices wording walked tries records (change s s' old new) (Err failure)
+      → Runs x (Job.Inventory Detail.Line 0 name) tries (change s s' old new) (Err failure)
+      → PrintsDevices x walked tries records (change s s' old new) (Err failure)
   devices_stopped name records name_is s s' old new failure h runs = λ rows end are end_is.
-      rw (← name_is, ← end_is) (stops_plan tries (OfInventory wording 0 name) (AtInventory 0 ∷ []) (AtInventory 0 ∷ [])
-      (record { items = row_items (Form.Device wording) First rows; end = listed_end walked; end_points = points_at_walk_end First rows end })
+      rw (← name_is, ← end_is) (stops_plan x tries (OfInventory Detail.Line 0 name) (AtInventory 0 ∷ []) (AtInventory 0 ∷ [])
+      (record { items = row_items Form.Device First rows; end = listed_end walked; end_points = points_at_walk_end First rows end })
       (λ store. calls_for_point tries store (AtInventory 0)) (λ store. calls_for_devices tries store rows) (λ point among. among) s s' old new failure
       (device_0 name s s' old new (Err failure) h runs))
 
   pub devices_printed : (name : Option (List ℕ)) (records : List (List ℕ)) → name ≡ device_name 0 records
       → (s s' s'' : Seen) (old text new : Output) (ending : Ending) → IsHonest s
-      → Runs (Job.Inventory wording 0 name) tries (change s s' old text) (Ok tt)
-      → (IsHonest s' → PrintsLocated wording walked tries records (change s' s'' text new) ending)
-      → PrintsDevices wording walked tries records (change s s'' old new) ending
+      → Runs x (Job.Inventory Detail.Line 0 name) tries (change s s' old text) (Ok tt)
+      → (IsHonest s' → PrintsLocated x walked tries records (change s' s'' text new) ending)
+      → PrintsDevices x walked tries records (change s s'' old new) ending
   devices_printed name records name_is s s' s'' old text new ending h runs rest = λ rows end are end_is.
       let first = device_0 name s s' old text (Ok tt) h runs in
       let points = points_at_walk_end First rows end in
-      rw (← name_is, ← end_is) (then_plan tries (OfInventory wording 0 name) (AtInventory 0 ∷ []) (AtInventory 0 ∷ [])
-      (record { items = row_items (Form.Device wording) First rows; end = listed_end walked; end_points = points })
+      rw (← name_is, ← end_is) (then_plan x tries (OfInventory Detail.Line 0 name) (AtInventory 0 ∷ []) (AtInventory 0 ∷ [])
+      (record { items = row_items Form.Device First rows; end = listed_end walked; end_points = points })
       (λ store. calls_for_point tries store (AtInventory 0)) (λ store. calls_for_devices tries store rows) s s' s'' old text new ending
       first (rest first.ends.stays.honest rows First points are))
 
   -- there is no memory for the name of device 0
   pub devices_without_memory : (records : List (List ℕ)) (s : Seen) (text : Output) → IsHonest s
-      → PrintsDevices wording walked tries records (change s s text text) (Err Failure.OutOfMemory)
+      → PrintsDevices x walked tries records (change s s text text) (Err Failure.OutOfMemory)
   devices_without_memory records s text h = λ rows end are end_is. record {
     ends = ends_here h refl tt;
-    prints = λ keeps. no_items (IsTextWhile s s) (inventories_plan wording (device_name 0 records) rows end) text text refl;
+    prints = λ keeps. no_items (IsTextWhile x s s) (inventories_plan (device_name 0 records) rows end) text text refl;
     calls_are = λ same. omega arith;
   }
 
 -- ---- over any controller
 
 -- the ends of one inventory are ends of them all
-pub inventory_ends : (wording : Wording) (id : ℕ) (name : Option (List ℕ)) (c : Change) (ending : Ending)
-    → EndsInventory wording id name c ending → EndsNamed wording NameLookup.Devices c.seen' ending
-inventory_ends wording id name c (Ok done) ends = tt
-inventory_ends wording id name c (Err (Failure.Inventory device ended)) ends = (wording, (refl, ends.0))
-inventory_ends wording id name c (Err Failure.OutOfMemory) ends = tt
-inventory_ends wording id name c (Err Failure.WriteFault) ends = tt
-inventory_ends wording id name c (Err _) ends = absurd ends.writes
+pub inventory_ends : (x : Texts) → (detail : Detail) (id : ℕ) (name : Option (List ℕ)) (c : Change) (ending : Ending)
+    → EndsInventory x detail id name c ending → EndsNamed NameLookup.Devices c.seen' ending
+inventory_ends x detail id name c (Ok done) ends = tt
+inventory_ends x detail id name c (Err (Failure.Inventory device ended)) ends = (refl, ends.0)
+inventory_ends x detail id name c (Err Failure.OutOfMemory) ends = tt
+inventory_ends x detail id name c (Err Failure.WriteFault) ends = tt
+inventory_ends x detail id name c (Err _) ends = absurd ends.writes
 
-pub locator_ends : (wording : Wording) (unread : ReadError) (seen : Seen) → LacksInventory unread seen
-    → EndsNamed wording NameLookup.Devices seen (Err (failure_of unread))
-locator_ends wording unread seen lacks = grind arith
+pub locator_ends : (unread : ReadError) (seen : Seen) → LacksInventory unread seen
+    → EndsNamed NameLookup.Devices seen (Err (failure_of unread))
+locator_ends unread seen lacks = grind arith
 
-pub listed_ends : (wording : Wording) (walked : RecordsEnd) (seen : Seen) → EndsNamed wording NameLookup.Devices seen (listed_end walked)
-listed_ends wording RecordsEnd.Whole seen = tt
-listed_ends wording (RecordsEnd.Cycle n) seen = (tt, tt)
-listed_ends wording (RecordsEnd.Missing n) seen = tt
+pub listed_ends : (walked : RecordsEnd) (seen : Seen) → EndsNamed NameLookup.Devices seen (listed_end walked)
+listed_ends RecordsEnd.Whole seen = tt
+listed_ends (RecordsEnd.Cycle n) seen = (tt, tt)
+listed_ends (RecordsEnd.Missing n) seen = tt

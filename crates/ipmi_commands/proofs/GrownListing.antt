@@ -15,6 +15,7 @@ use Rattle.ipmi_commands.proofs.MeanwhileLemmas.{steps_printed, text_while}
 use Rattle.ipmi_commands.proofs.NameLemmas.{while_found, while_none}
 use Rattle.ipmi_commands.proofs.PointLemmas.{asked_first, points_at_walk_end-joined}
 use Rattle.ipmi_commands.proofs.TraceLemmas.{handed_joined}
+use Rattle.ipmi_commands.specs.Format.{Texts}
 
 -- ---- steps, and more steps
 
@@ -84,21 +85,21 @@ whole_used (Some n) rows within = take_all n rows within
 
 -- the rows returned before it, and those that it returned, are the first ones of the log as it was meanwhile; if the cursor is at
 -- the end, they are all
-pub record ListsGrown (shelf : Shelf) (start : Place) (first : List Row) (s : Seen) (hp hs : List Row) (form : Form)
+pub record ListsGrown (x : Texts) (shelf : Shelf) (start : Place) (first : List Row) (s : Seen) (hp hs : List Row) (form : Form)
     (most : Option ℕ) (now : CursorState) (c : Change) (result : Result ℕ Failure) : Type 0 where
   pub log : List Row
   pub was : WasLog shelf start s c.seen' first log
   pub before : hp ≡ take (length hp) log
   pub enough : length hp ≤ length log
   pub whole : now.place ≡ End → hs ≡ drop (length hp) log
-  pub allowed : IsAllowed (IsTextWhile c.seen c.seen') (listing_plan (listing form (place_after_rows start hp) most) (drop (length hp) log) Done) c.old c.new (ending_of result)
+  pub allowed : IsAllowed (IsTextWhile x c.seen c.seen') (listing_plan (listing form (place_after_rows start hp) most) (drop (length hp) log) Done) c.old c.new (ending_of result)
 
-module _ (begun : CursorState) (s : Seen) (start : Place) (first : List Row) (honest : IsHonest s)
+module _ (x : Texts) (begun : CursorState) (s : Seen) (start : Place) (first : List Row) (honest : IsHonest s)
     (log : IsLog begun.shelf start s.store first)
     (stands : StandsAt (rows_of begun.shelf s.store) start first 0 begun)
     (pre : List Stepped) (made : AreSteps begun s pre) (form : Form) (most : Option ℕ) (now : CursorState) (c : Change)
     (since : StaysHonest (seen_after s pre) c.seen) (result : Result ℕ Failure)
-    (trace : TracesListing form most (cursor_after begun pre) now c result)
+    (trace : TracesListing x form most (cursor_after begun pre) now c result)
     (grew : OnlyGrew begun.shelf start s c.seen') (keeps : KeepsFor form c.seen c.seen') where
   abbrev all : List Stepped
   all = pre ++ trace.steps
@@ -165,7 +166,7 @@ module _ (begun : CursorState) (s : Seen) (start : Place) (first : List Row) (ho
   p = listing_plan (listing form place most) left Done
 
   abbrev W : Subject → Output → Type 0
-  W = IsTextWhile c.seen c.seen'
+  W = IsTextWhile x c.seen c.seen'
 
   abbrev Allowed : Type 0
   Allowed = IsAllowed W p c.old c.new (ending_of result)
@@ -178,11 +179,11 @@ module _ (begun : CursorState) (s : Seen) (start : Place) (first : List Row) (ho
 
   -- ---- all rows within the limit were listed
 
-  all_used : (count : ℕ) → IsListed form most now trace.steps c count → used ≡ hs
+  all_used : (count : ℕ) → IsListed x form most now trace.steps c count → used ≡ hs
   all_used count listed = elim listed.done [
     | inl limit ↦ ap (λ (o : Option ℕ). first_rows o left) limit ∙ ap (λ (n : ℕ). take n left) listed.count_is ∙ sym hs_is
     | inr at_end ↦
-        let whole : hp ++ hs ≡ m.rows = sym handed_is ∙ m.whole (ap (λ (x : CursorState). x.place) now_is ∙ at_end) in
+        let whole : hp ++ hs ≡ m.rows = sym handed_is ∙ m.whole (ap (λ (x' : CursorState). x'.place) now_is ∙ at_end) in
         let left_is : left ≡ hs = ap (drop (length hp)) (sym whole) ∙ drop-append_seam hp hs in
         ap (first_rows most) left_is ∙ whole_used most hs (subst (IsWithin most) listed.count_is listed.within)
   ]
@@ -190,11 +191,11 @@ module _ (begun : CursorState) (s : Seen) (start : Place) (first : List Row) (ho
   stays : StaysHonest c.seen c.seen'
   stays = stays_trans c.seen (seen_after c.seen trace.steps) c.seen' (steps_stay (cursor_after begun pre) c.seen trace.steps since.honest trace.traced.are) trace.traced.stays
 
-  printed_hs : PrintsSteps form trace.steps c.seen' c.old c.new → Printed W (row_items form place hs) c.old c.new
-  printed_hs printed = steps_printed form c.seen c.seen' keeps (cursor_after begun pre) c.seen trace.steps place c.seen' c.old c.new
+  printed_hs : PrintsSteps x form trace.steps c.seen' c.old c.new → Printed W (row_items form place hs) c.old c.new
+  printed_hs printed = steps_printed x form c.seen c.seen' keeps (cursor_after begun pre) c.seen trace.steps place c.seen' c.old c.new
       (stays_refl c.seen since.honest) trace.traced.are trace.traced.stays (stays_refl c.seen' stays.honest) printed
 
-  whole_allowed : (count : ℕ) → IsListed form most now trace.steps c count → (ending : Ending)
+  whole_allowed : (count : ℕ) → IsListed x form most now trace.steps c count → (ending : Ending)
       → cause_of ending ≡ AtEnd → ending ≡ rows_end form hs Done → IsAllowed W p c.old c.new ending
   whole_allowed count listed ending cause is =
       let same = all_used count listed in
@@ -209,7 +210,7 @@ module _ (begun : CursorState) (s : Seen) (start : Place) (first : List Row) (ho
 
   now_place : now.place ≢ End → now.place ≡ place_after_rows place hs
   now_place open_ =
-      let at : (cursor_after begun all).place ≡ now.place = ap (λ (x : CursorState). x.place) now_is in
+      let at : (cursor_after begun all).place ≡ now.place = ap (λ (x' : CursorState). x'.place) now_is in
       sym at ∙ m.there (λ e. open_ (sym at ∙ e)) ∙ ap (place_after_rows start) handed_is ∙ place_after_rows-append start hp hs
 
   rows_are : hp ++ left ≡ m.rows
@@ -235,7 +236,7 @@ module _ (begun : CursorState) (s : Seen) (start : Place) (first : List Row) (ho
       by None w = tt
       by (Some n) w = omega (arith, w)
 
-  stops : IsWithin most (length hs + 1) → PrintsSteps form trace.steps c.seen' c.old c.new → (n : ℕ)
+  stops : IsWithin most (length hs + 1) → PrintsSteps x form trace.steps c.seen' c.old c.new → (n : ℕ)
       → (n ≡ asked_at now.place) × (now.place ≢ End) → StopsAt (AtRecord n) W p c.old c.new
   stops within printed n at = record {
     first = record { done = row_items form place hs; rest = row_items form (place_after_rows place hs) rest; items_are = items_hs (less within); printed = printed_hs printed };
@@ -260,9 +261,9 @@ module _ (begun : CursorState) (s : Seen) (start : Place) (first : List Row) (ho
       let made = split_last begun_here c.seen done step (subst (AreSteps begun_here c.seen) are trace.traced.are) in
       let at : step.cursor ≡ now = sym (cursor_joined begun_here done (step ∷ [])) ∙ ap (cursor_after begun_here) (sym are) ∙ trace.traced.cursor in
       let leaves = subst (λ (r : Result (Option Row) Ended). StepLeaves (cursor_after begun_here done) step.cursor r) is made.2.leaves in
-      subst (λ (x : CursorState). (n ≡ asked_at x.place) × (x.place ≢ End)) at (stops_there (cursor_after begun_here done) step.cursor n (fails (cursor_after begun_here done) leaves))
+      subst (λ (x' : CursorState). (n ≡ asked_at x'.place) × (x'.place ≢ End)) at (stops_there (cursor_after begun_here done) step.cursor n (fails (cursor_after begun_here done) leaves))
 
-  step_fails : (done : List Stepped) (step : Stepped) (ended : Ended) → IsWithin most (length hs + 1) → PrintsSteps form trace.steps c.seen' c.old c.new
+  step_fails : (done : List Stepped) (step : Stepped) (ended : Ended) → IsWithin most (length hs + 1) → PrintsSteps x form trace.steps c.seen' c.old c.new
       → trace.steps ≡ done ++ step ∷ [] → step.result ≡ Err ended → IsAllowed W p c.old c.new (Err (Failure.Ended ended))
   step_fails done step (Ended.GaveUp n) within printed are is = stops within printed n (failed_there done step n (Ended.GaveUp n) are is (λ old leaves. leaves.1))
   step_fails done step (Ended.Refused n code) within printed are is = stops within printed n (failed_there done step n (Ended.Refused n code) are is (λ old leaves. leaves.1))
@@ -294,7 +295,7 @@ module _ (begun : CursorState) (s : Seen) (start : Place) (first : List Row) (ho
     parts = split_last (cursor_after begun pre) c.seen done step (subst (AreSteps (cursor_after begun pre) c.seen) last.are trace.traced.are)
 
     to_step : StaysHonest step.seen c.seen'
-    to_step = subst (λ (x : Seen). StaysHonest x c.seen') (ap (seen_after c.seen) last.are ∙ seen_last c.seen done step) trace.traced.stays
+    to_step = subst (λ (x' : Seen). StaysHonest x' c.seen') (ap (seen_after c.seen) last.are ∙ seen_last c.seen done step) trace.traced.stays
 
     made_step : StaysHonest step.before step.seen
     made_step = (parts.2.honest parts.1.honest).stays
@@ -302,17 +303,17 @@ module _ (begun : CursorState) (s : Seen) (start : Place) (first : List Row) (ho
     from_here : StaysHonest c.seen step.seen
     from_here = stays_trans c.seen step.before step.seen (stays_trans c.seen (seen_after c.seen done) step.before (steps_stay (cursor_after begun pre) c.seen done since.honest parts.0) parts.1) made_step
 
-    abbrev before_it : (text : Output) → PrintsSteps form done step.before c.old text → HasFirstItems W p c.old text
+    abbrev before_it : (text : Output) → PrintsSteps x form done step.before c.old text → HasFirstItems W p c.old text
     before_it text printed = record {
       done = row_items form place hd;
       rest = item ∷ row_items form (place_after row.next) rest;
       items_are = items_last;
-      printed = steps_printed form c.seen c.seen' keeps (cursor_after begun pre) c.seen done place step.before c.old text
+      printed = steps_printed x form c.seen c.seen' keeps (cursor_after begun pre) c.seen done place step.before c.old text
           (stays_refl c.seen since.honest) parts.0 parts.1 (stays_trans step.before step.seen c.seen' made_step to_step) printed;
     }
 
-  prints : (r : Result ℕ Failure) → EndsTrace form most now trace.steps c r → IsAllowed W p c.old c.new (ending_of r)
-  prints (Ok count) ends = whole_allowed count ends.0 (Ok tt) refl (while_found form c.seen c.seen' place hs c.old c.new (printed_hs ends.0.printed) ends.1)
+  prints : (r : Result ℕ Failure) → EndsTrace x form most now trace.steps c r → IsAllowed W p c.old c.new (ending_of r)
+  prints (Ok count) ends = whole_allowed count ends.0 (Ok tt) refl (while_found x form c.seen c.seen' place hs c.old c.new (printed_hs ends.0.printed) ends.1)
   prints (Err failure) (inl fails) =
       subst (λ (f : Failure). IsAllowed W p c.old c.new (Err f)) (sym fails.is) (step_fails fails.done fails.step fails.ended fails.within fails.printed fails.are fails.returned)
   prints (Err failure) (inr (inl lost)) =
@@ -322,45 +323,45 @@ module _ (begun : CursorState) (s : Seen) (start : Place) (first : List Row) (ho
       subst (λ (f : Failure). IsAllowed W p c.old c.new (Err f)) (sym cut.is)
       (cut_after W p c.old cut.before c.new (Err Failure.WriteFault) (before_it cut.done cut.step cut.row cut.last cut.before cut.printed)
       (item cut.done cut.step cut.row cut.last) _ cut.text refl
-      (text_while form c.seen c.seen' keeps cut.row cut.step.seen c.seen' cut.text (from_here cut.done cut.step cut.row cut.last) (to_step cut.done cut.step cut.row cut.last) (stays_refl c.seen' stays.honest) cut.is_text)
+      (text_while x form c.seen c.seen' keeps cut.row cut.step.seen c.seen' cut.text (from_here cut.done cut.step cut.row cut.last) (to_step cut.done cut.step cut.row cut.last) (stays_refl c.seen' stays.honest) cut.is_text)
       cut.some cut.part)
   prints (Err failure) (inr (inr (inr none))) =
       subst (λ (f : Failure). IsAllowed W p c.old c.new (Err f)) (sym none.is)
       (whole_allowed none.count none.listed (Err (Failure.NoName none.name)) refl
       (subst (λ (f : Form). Err (Failure.NoName none.name) ≡ rows_end f hs Done) (sym none.searched)
-      (while_none none.wording none.name c.seen c.seen' place hs c.old c.new
+      (while_none x none.name c.seen c.seen' place hs c.old c.new
       (subst (λ (f : Form). Printed W (row_items f place hs) c.old c.new) none.searched (printed_hs none.listed.printed)) none.nothing)))
 
-  pub grown_listing : ListsGrown begun.shelf start first s hp hs form most now c result
+  pub grown_listing : ListsGrown x begun.shelf start first s hp hs form most now c result
   grown_listing = record {
     log = m.rows;
     was = m.was;
     before = hp_is;
     enough = enough;
     whole = λ at_end.
-        let whole : hp ++ hs ≡ m.rows = sym handed_is ∙ m.whole (ap (λ (x : CursorState). x.place) now_is ∙ at_end) in
+        let whole : hp ++ hs ≡ m.rows = sym handed_is ∙ m.whole (ap (λ (x' : CursorState). x'.place) now_is ∙ at_end) in
         sym (drop-append_seam hp hs) ∙ ap (drop (length hp)) whole;
     allowed = prints result trace.ends;
   }
 
 -- ---- a new cursor
 
-module _ {limits : RequestLimits} {form : Form} {from : Option ℕ} {most : Option ℕ} {begun now : CursorState} {c : Change}
+module _ (x : Texts) {limits : RequestLimits} {form : Form} {from : Option ℕ} {most : Option ℕ} {begun now : CursorState} {c : Change}
     {result : Result ℕ Failure} (fresh : IsFresh limits form from begun)
-    (trace : TracesListing form most begun now c result) (honest : IsHonest c.seen) where
+    (trace : TracesListing x form most begun now c result) (honest : IsHonest c.seen) where
   shelf_is : begun.shelf ≡ shelf_of form
-  shelf_is = ap (λ (x : CursorState). x.shelf) fresh.is
+  shelf_is = ap (λ (x' : CursorState). x'.shelf) fresh.is
 
   pub fresh_grown : (first : List Row) → IsLog (shelf_of form) (start_of from) c.seen.store first
       → OnlyGrew (shelf_of form) (start_of from) c.seen c.seen' → KeepsFor form c.seen c.seen'
-      → ListsGrown (shelf_of form) (start_of from) first c.seen [] (handed_out trace.steps) form most now c result
+      → ListsGrown x (shelf_of form) (start_of from) first c.seen [] (handed_out trace.steps) form most now c result
   fresh_grown first log grew keeps =
-      let on = subst (λ (x : Shelf). IsLog x (start_of from) c.seen.store first) (sym shelf_is) log in
-      let only = subst (λ (x : Shelf). OnlyGrew x (start_of from) c.seen c.seen') (sym shelf_is) grew in
-      let g = grown_listing begun c.seen (start_of from) first honest on (fresh.stands (rows_of begun.shelf c.seen.store) first) [] tt form most now c (stays_refl c.seen honest) result trace only keeps in
+      let on = subst (λ (x' : Shelf). IsLog x' (start_of from) c.seen.store first) (sym shelf_is) log in
+      let only = subst (λ (x' : Shelf). OnlyGrew x' (start_of from) c.seen c.seen') (sym shelf_is) grew in
+      let g = grown_listing x begun c.seen (start_of from) first honest on (fresh.stands (rows_of begun.shelf c.seen.store) first) [] tt form most now c (stays_refl c.seen honest) result trace only keeps in
       record {
         log = g.log;
-        was = subst (λ (x : Shelf). WasLog x (start_of from) c.seen c.seen' first g.log) shelf_is g.was;
+        was = subst (λ (x' : Shelf). WasLog x' (start_of from) c.seen c.seen' first g.log) shelf_is g.was;
         before = g.before;
         enough = g.enough;
         whole = g.whole;
@@ -368,11 +369,11 @@ module _ {limits : RequestLimits} {form : Form} {from : Option ℕ} {most : Opti
       }
 
   pub fresh_grows : OnGrowingListing (listing form (start_of from) most) c.seen c.seen'
-      (λ plan. IsAllowed (IsTextWhile c.seen c.seen') plan c.old c.new (ending_of result))
+      (λ plan. IsAllowed (IsTextWhile x c.seen c.seen') plan c.old c.new (ending_of result))
   fresh_grows = λ keeps first log grew. let g = fresh_grown first log grew keeps in (g.log, g.was, g.allowed)
 
   pub fresh_traces : (paged : Result Place Failure) → ending_of paged ≡ ending_of result → IfOk paged (λ place. place ≡ now.place)
-      → Traces form (start_of from) most c paged
+      → Traces x form (start_of from) most c paged
   fresh_traces paged ending next = inr (record {
     begun = begun;
     now = now;
@@ -380,7 +381,7 @@ module _ {limits : RequestLimits} {form : Form} {from : Option ℕ} {most : Opti
     ending = ending;
     next = next;
     shelf = shelf_is;
-    place = ap (λ (x : CursorState). x.place) fresh.is;
-    ids = ap (λ (x : CursorState). x.ids) fresh.is;
+    place = ap (λ (x' : CursorState). x'.place) fresh.is;
+    ids = ap (λ (x' : CursorState). x'.ids) fresh.is;
     traces = trace;
   })

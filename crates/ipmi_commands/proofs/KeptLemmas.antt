@@ -10,7 +10,7 @@ use Rattle.ipmi_commands.specs.declared.kept.KeptEntry.{KeptEntry}
 use Rattle.ipmi_commands.specs.declared.limits.RequestLimits.{RequestLimits}
 use Rattle.ipmi_commands.specs.Kept.{kept_row, kept_rows, Keeps, KeepsByCursor, KeepsEntries, last_of, PrintsKept}
 use Rattle.ipmi_commands.specs.Output.{Output, piece_of}
-use Rattle.ipmi_commands.specs.Prelude.{AtEnd, cause_of, change, ending_of, EndsFor, EndsListing, EndsPrinting, Entries, FindsIt, Change, Form, IsAllowed, IsAmong, IsEntryLine, IsFresh, IsPieceOver, IsTextWhile, Item, Job, last_plan, last_rows, ListsHonestly, most_on_walk, next_points, OfRow, OnWalk, Plan, points_at_walk_end, PrintsAfter, ReadError, ReadPoint, row_items, Runs, TracesListing, walk_call_bound, WritesPiece}
+use Rattle.ipmi_commands.specs.Prelude.{AtEnd, cause_of, change, ending_of, EndsFor, EndsListing, EndsPrinting, EntryText, FindsIt, Change, Form, IsAllowed, IsAmong, IsFresh, IsPieceOver, IsTextWhile, Item, Job, last_plan, last_rows, ListsHonestly, most_on_walk, next_points, OfRow, OnWalk, Plan, points_at_walk_end, PrintsAfter, ReadError, ReadPoint, row_items, Runs, TracesListing, walk_call_bound, WritesPiece}
 use Rattle.ipmi_commands.specs.declared.limits.Tries.{Tries}
 use Rattle.ipmi_commands.proofs.AskLemmas.{asks_nothing, no_memory}
 use Rattle.ipmi_commands.proofs.CountLemmas.{between, ends_as, ends_here}
@@ -21,6 +21,7 @@ use Rattle.ipmi_commands.proofs.ListingLemmas.{fresh_along, fresh_ends, listing_
 use Rattle.ipmi_commands.proofs.MeanwhileLemmas.{log_now, while_last}
 use Rattle.ipmi_commands.proofs.OutputLemmas.{then_nothing}
 use Rattle.ipmi_commands.proofs.TraceLemmas.{traced_none}
+use Rattle.ipmi_commands.specs.Format.{Texts}
 
 -- ---- the last n of some items
 
@@ -49,16 +50,16 @@ last_of-pushed n items item some =
 -- ---- a walk by a cursor
 
 -- the entries returned so far are skipped, and the last of them are kept
-pub record Keeping (n : ℕ) (tries : Tries) (begun now : CursorState) (s s' : Seen) (text : Output) (kept : List KeptEntry) : Type 0 where
+pub record Keeping (x : Texts) (n : ℕ) (tries : Tries) (begun now : CursorState) (s s' : Seen) (text : Output) (kept : List KeptEntry) : Type 0 where
   pub count : ℕ
-  pub listed : Listed Form.Skipped tries None count false begun now (change s s' text text)
+  pub listed : Listed x Form.Skipped tries None count false begun now (change s s' text text)
   pub kept_are : (h : IsHonest s) → kept ≡ last_of n (kept_rows (handed_out (listed.went h).tracing.steps))
 
-pub keeping_begun : (n : ℕ) (tries : Tries) (begun : CursorState) (s : Seen) (text : Output) (kept : List KeptEntry) → kept ≡ []
+pub keeping_begun : (x : Texts) → (n : ℕ) (tries : Tries) (begun : CursorState) (s : Seen) (text : Output) (kept : List KeptEntry) → kept ≡ []
     → begun.shelf ≡ Sel → begun.tries ≡ tries.count → set.len begun.ids ≤ 65536
-    → Keeping n tries begun begun s s text kept
+    → Keeping x n tries begun begun s s text kept
 unfolding traced_none
-keeping_begun n tries begun s text kept none shelf tries_are room = record {
+keeping_begun x n tries begun s text kept none shelf tries_are room = record {
   count = 0;
   listed = record {
     shelf = shelf;
@@ -75,58 +76,58 @@ keeping_begun n tries begun s text kept none shelf tries_are room = record {
       holds = λ plain held. held;
       along = λ same start walk end k on. record {
         along = record { stands = let here : k ≡ k + 0 = omega arith in rw here at on.stands; calls = omega arith };
-        are_printed = none_printed (IsPieceOver s.store) text text refl;
+        are_printed = none_printed (IsPieceOver x s.store) text text refl;
       };
-      tracing = traced_none Form.Skipped begun s text h;
+      tracing = traced_none x Form.Skipped begun s text h;
     };
   };
   kept_are = λ h. none ∙ sym (drop-nil (0 - n));
 }
 
-module _ {n : ℕ} {tries : Tries} {begun now : CursorState} {s s' : Seen} {text : Output} {kept : List KeptEntry}
-    (k : Keeping n tries begun now s s' text kept) {next : CursorState} {s'' : Seen} where
+module _ (x : Texts) {n : ℕ} {tries : Tries} {begun now : CursorState} {s s' : Seen} {text : Output} {kept : List KeptEntry}
+    (k : Keeping x n tries begun now s s' text kept) {next : CursorState} {s'' : Seen} where
   -- the next entry was kept
   pub keeping_more : {row : Row} → IsStep now next s' s'' (Ok (Some row)) → (kept' : List KeptEntry)
-      → kept' ≡ last_of n (kept ++ kept_row row ∷ []) → Keeping n tries begun next s s'' text kept'
+      → kept' ≡ last_of n (kept ++ kept_row row ∷ []) → Keeping x n tries begun next s s'' text kept'
   keeping_more {row} step kept' is =
       let asked : s''.calls ≤ s''.calls + 0 = omega arith in
-      let finds : IsHonest s'' → FindsIt (λ store. IsPieceOver store (OfRow Form.Skipped row) (piece_of [] false)) [] tries s'' s'' = λ h.
+      let finds : IsHonest s'' → FindsIt (λ store. IsPieceOver x store (OfRow Form.Skipped row) (piece_of [] false)) [] tries s'' s'' = λ h.
       record { asks = asks_nothing [] tries s'' h; is = λ keeps. record { is_text = refl; counted = refl } } in
       record {
         count = k.count + 1;
-        listed = listing_more k.listed refl step asked [] false finds text (sym (then_nothing text));
+        listed = listing_more x k.listed refl step asked [] false finds text (sym (then_nothing text));
         kept_are = λ h.
             let rows = handed_out (k.listed.went h).tracing.steps in
             is ∙ ap (λ (l : List KeptEntry). last_of n (l ++ kept_row row ∷ [])) (k.kept_are h) ∙ last_of-more n (kept_rows rows) (kept_row row)
             ∙ ap (last_of n) (sym (map-append kept_row rows (row ∷ [])))
-            ∙ ap (λ (all : List Row). last_of n (kept_rows all)) (sym (listing_more-handed k.listed refl step asked [] false finds text (sym (then_nothing text)) h));
+            ∙ ap (λ (all : List Row). last_of n (kept_rows all)) (sym (listing_more-handed x k.listed refl step asked [] false finds text (sym (then_nothing text)) h));
       }
 
   -- there was no memory for it
   pub keeps_lost : {row : Row} → IsStep now next s' s'' (Ok (Some row)) → (kept' : List KeptEntry)
-      → KeepsByCursor n tries begun next s s'' text kept' (Err Failure.OutOfMemory)
+      → KeepsByCursor x n tries begun next s s'' text kept' (Err Failure.OutOfMemory)
   keeps_lost step kept' = record {
     listed = Err Failure.OutOfMemory;
     is = refl;
-    lists = listing_none k.listed refl step (omega arith) ReadError.Memory (λ h. no_memory h);
+    lists = listing_none x k.listed refl step (omega arith) ReadError.Memory (λ h. no_memory h);
     kept_are = λ h. tt;
   }
 
   -- there are no more entries
-  pub keeps_done : IsStep now next s' s'' (Ok None) → KeepsByCursor n tries begun next s s'' text kept (Ok tt)
+  pub keeps_done : IsStep now next s' s'' (Ok None) → KeepsByCursor x n tries begun next s s'' text kept (Ok tt)
   keeps_done step = record {
     listed = Ok k.count;
     is = refl;
-    lists = listing_done k.listed refl step;
-    kept_are = λ h. k.kept_are h ∙ ap (λ (rows : List Row). last_of n (kept_rows rows)) (sym (listing_done-handed k.listed refl step h));
+    lists = listing_done x k.listed refl step;
+    kept_are = λ h. k.kept_are h ∙ ap (λ (rows : List Row). last_of n (kept_rows rows)) (sym (listing_done-handed x k.listed refl step h));
   }
 
   pub keeps_ended : (ended : Ended) → IsStep now next s' s'' (Err ended)
-      → KeepsByCursor n tries begun next s s'' text kept (Err (Failure.Ended ended))
+      → KeepsByCursor x n tries begun next s s'' text kept (Err (Failure.Ended ended))
   keeps_ended ended step = record {
     listed = Err (Failure.Ended ended);
     is = refl;
-    lists = listing_ended k.listed refl ended step;
+    lists = listing_ended x k.listed refl ended step;
     kept_are = λ h. tt;
   }
 
@@ -135,58 +136,58 @@ module _ {n : ℕ} {tries : Tries} {begun now : CursorState} {s s' : Seen} {text
 pub tries_are : {limits : RequestLimits} {from : Option ℕ} {begun : CursorState} → IsFresh limits Form.Skipped from begun → begun.tries ≡ limits.tries.count
 tries_are fresh = ap (λ (x : CursorState). x.tries) fresh.is
 
-module _ {limits : RequestLimits} {from : Option ℕ} {begun now : CursorState} {s s' : Seen} {text : Output}
+module _ (x : Texts) {limits : RequestLimits} {from : Option ℕ} {begun now : CursorState} {s s' : Seen} {text : Output}
     (fresh : IsFresh limits Form.Skipped from begun) where
-  pub keeps_calls : {n : ℕ} {kept : List KeptEntry} {ending : Ending} → KeepsByCursor n limits.tries begun now s s' text kept ending
+  pub keeps_calls : {n : ℕ} {kept : List KeptEntry} {ending : Ending} → KeepsByCursor x n limits.tries begun now s s' text kept ending
       → s'.calls ≤ s.calls + most_on_walk Form.Skipped limits.tries
   keeps_calls k = omega (arith, k.lists.calls.all fresh.some, fresh.falls)
 
   -- all entries of the walk were returned
-  all_handed : (h : IsHonest s) (count : ℕ) (trace : TracesListing Form.Skipped None begun now (change s s' text text) (Ok count))
+  all_handed : (h : IsHonest s) (count : ℕ) (trace : TracesListing x Form.Skipped None begun now (change s s' text text) (Ok count))
       → s'.stores_added ≡ s.stores_added → (walk : List Row) (end : WalkEnd) → IsWalk (rows_of Sel s.store) (start_of from) walk
       → EndsBy (rows_of Sel s.store) (start_of from) walk end → count ≡ length walk → handed_out trace.steps ≡ walk
   all_handed h count trace same walk end w ends whole =
-      let shelf_is : begun.shelf ≡ Sel = ap (λ (x : CursorState). x.shelf) fresh.is in
+      let shelf_is : begun.shelf ≡ Sel = ap (λ (x' : CursorState). x'.shelf) fresh.is in
       let stays = steps_stay begun s trace.steps h trace.traced.are in
       let since = between s (seen_after s trace.steps) s' stays trace.traced.stays same in
       let follows = steps_follow begun s trace.steps (start_of from) walk end h
-      (subst (λ (x : Shelf). IsWalk (rows_of x s.store) (start_of from) walk) (sym shelf_is) w)
-      (subst (λ (x : Shelf). EndsBy (rows_of x s.store) (start_of from) walk end) (sym shelf_is) ends)
+      (subst (λ (x' : Shelf). IsWalk (rows_of x' s.store) (start_of from) walk) (sym shelf_is) w)
+      (subst (λ (x' : Shelf). EndsBy (rows_of x' s.store) (start_of from) walk end) (sym shelf_is) ends)
       (fresh.stands (rows_of begun.shelf s.store) walk) trace.traced.are since.0 in
       follows.1 ∙ take_all follows.0 walk (omega (arith, whole, trace.ends.0.count_is, ap (length {A = Row}) follows.1, length-take follows.0 walk))
 
-  keeps_along : (n : ℕ) (tries : Tries) (kept : List KeptEntry) → IsHonest s → (result : Result ℕ Failure) (lists : ListsHonestly Form.Skipped tries None begun now (change s s' text text) result)
+  keeps_along : (n : ℕ) (tries : Tries) (kept : List KeptEntry) → IsHonest s → (result : Result ℕ Failure) (lists : ListsHonestly x Form.Skipped tries None begun now (change s s' text text) result)
       → IfOk result (λ count. kept ≡ last_of n (kept_rows (handed_out lists.traces.steps)))
       → s'.stores_added ≡ s.stores_added → OnWalk Sel (start_of from) s.store (λ walk end.
-      Keeps n (IsPieceOver s.store) (start_of from) walk end text kept (ending_of result)
+      Keeps n (IsPieceOver x s.store) (start_of from) walk end text kept (ending_of result)
       × (s'.calls ≤ s.calls + walk_call_bound Form.Skipped s.store tries walk))
   keeps_along n tries kept h (Ok count) lists kept_are same = λ walk end w ends.
-      let along = fresh_along fresh lists same walk end w ends in
-      let counted = counts fresh (Ok count) walk end along.0 in
+      let along = fresh_along x fresh lists same walk end w ends in
+      let counted = counts x fresh (Ok count) walk end along.0 in
       ((counted.1, kept_are ∙ ap (λ (rows : List Row). last_of n (kept_rows rows)) (all_handed h count lists.traces same walk end w ends counted.0)), along.1)
   keeps_along n tries kept h (Err failure) lists kept_are same = λ walk end w ends.
-      let along = fresh_along fresh lists same walk end w ends in
-      let counted = counts fresh (Err failure) walk end along.0 in
+      let along = fresh_along x fresh lists same walk end w ends in
+      let counted = counts x fresh (Err failure) walk end along.0 in
       (counted, along.1)
 
-  keeps_grown : (n : ℕ) (tries : Tries) (kept : List KeptEntry) → IsHonest s → (result : Result ℕ Failure) (lists : ListsHonestly Form.Skipped tries None begun now (change s s' text text) result)
+  keeps_grown : (n : ℕ) (tries : Tries) (kept : List KeptEntry) → IsHonest s → (result : Result ℕ Failure) (lists : ListsHonestly x Form.Skipped tries None begun now (change s s' text text) result)
       → IfOk result (λ count. kept ≡ last_of n (kept_rows (handed_out lists.traces.steps)))
-      → OnGrowing Sel (start_of from) s s' (λ log. Keeps n (IsTextWhile s s') (start_of from) log Done text kept (ending_of result))
+      → OnGrowing Sel (start_of from) s s' (λ log. Keeps n (IsTextWhile x s s') (start_of from) log Done text kept (ending_of result))
   keeps_grown n tries kept h (Ok count) lists kept_are = λ first log grew.
-      let g = fresh_grown fresh lists.traces h first log grew tt in
+      let g = fresh_grown x fresh lists.traces h first log grew tt in
       let all : handed_out lists.traces.steps ≡ g.log = g.whole (elim lists.traces.ends.0.done [ inl limit ↦ cc limit | inr at_end ↦ at_end ]) in
       (g.log, g.was, (refl, kept_are ∙ ap (λ (rows : List Row). last_of n (kept_rows rows)) all))
   keeps_grown n tries kept h (Err failure) lists kept_are = λ first log grew.
-      let g = fresh_grown fresh lists.traces h first log grew tt in
-      let counted = counts_grown from (Err failure) lists.traces first g lists.traces.ends in
+      let g = fresh_grown x fresh lists.traces h first log grew tt in
+      let counted = counts_grown x from (Err failure) lists.traces first g lists.traces.ends in
       (g.log, g.was, counted)
 
-  pub keeps_entries : (n : ℕ) (kept : List KeptEntry) (ending : Ending) → IsHonest s → KeepsByCursor n limits.tries begun now s s' text kept ending
-      → KeepsEntries n (start_of from) limits.tries s s' text kept ending
+  pub keeps_entries : (n : ℕ) (kept : List KeptEntry) (ending : Ending) → IsHonest s → KeepsByCursor x n limits.tries begun now s s' text kept ending
+      → KeepsEntries x n (start_of from) limits.tries s s' text kept ending
   keeps_entries n kept ending h k =
       let lists = k.lists.honest h in
-      let keeps : KeepsEntries n (start_of from) limits.tries s s' text kept (ending_of k.listed) = record {
-        ends = fresh_ends fresh lists;
+      let keeps : KeepsEntries x n (start_of from) limits.tries s s' text kept (ending_of k.listed) = record {
+        ends = fresh_ends x fresh lists;
         along = keeps_along n limits.tries kept h k.listed lists (k.kept_are h);
         grows = keeps_grown n limits.tries kept h k.listed lists (k.kept_are h);
         traces = inr (record {
@@ -194,100 +195,100 @@ module _ {limits : RequestLimits} {from : Option ℕ} {begun now : CursorState} 
           now = now;
           walked = k.listed;
           is = refl;
-          shelf = ap (λ (x : CursorState). x.shelf) fresh.is;
-          place = ap (λ (x : CursorState). x.place) fresh.is;
-          ids = ap (λ (x : CursorState). x.ids) fresh.is;
+          shelf = ap (λ (x' : CursorState). x'.shelf) fresh.is;
+          place = ap (λ (x' : CursorState). x'.place) fresh.is;
+          ids = ap (λ (x' : CursorState). x'.ids) fresh.is;
           walk = lists.traces;
           kept_are = k.kept_are h;
         });
       } in
-      subst (λ (e : Ending). KeepsEntries n (start_of from) limits.tries s s' text kept e) (sym k.is) keeps
+      subst (λ (e : Ending). KeepsEntries x n (start_of from) limits.tries s s' text kept e) (sym k.is) keeps
 
-pub keeps_without_memory : (n : ℕ) (tries : Tries) (start : Place) (s : Seen) (text : Output) (kept : List KeptEntry) → IsHonest s
-    → KeepsEntries n start tries s s text kept (Err Failure.OutOfMemory)
-keeps_without_memory n tries start s text kept h = record {
+pub keeps_without_memory : (x : Texts) → (n : ℕ) (tries : Tries) (start : Place) (s : Seen) (text : Output) (kept : List KeptEntry) → IsHonest s
+    → KeepsEntries x n start tries s s text kept (Err Failure.OutOfMemory)
+keeps_without_memory x n tries start s text kept h = record {
   ends = ends_here h refl tt;
-  along = λ same walk end w ends. (λ entries most. no_items (IsPieceOver s.store) (last_plan entries most start walk end) text text refl, omega arith);
+  along = λ same walk end w ends. (λ entries most. no_items (IsPieceOver x s.store) (last_plan entries most start walk end) text text refl, omega arith);
   grows = λ first log grew.
-      (first, log_now s s (stays_refl s h).store h first log, λ entries most. no_items (IsTextWhile s s) (last_plan entries most start first Done) text text refl);
+      (first, log_now s s (stays_refl s h).store h first log, λ entries most. no_items (IsTextWhile x s s) (last_plan entries most start first Done) text text refl);
   traces = inl (refl, refl);
 }
 
 -- ---- printing
 
-abbrev rows_plan : Entries → Place → List Row → List ReadPoint → Plan
-rows_plan entries start rows points = record { items = row_items (Form.EntryLine entries) start rows; end = Ok tt; end_points = points }
+abbrev rows_plan : EntryText → Place → List Row → List ReadPoint → Plan
+rows_plan entries start rows points = record { items = row_items (Form.Entry entries) start rows; end = Ok tt; end_points = points }
 
-module _ (entries : Entries) where
-  pub kept_none : (text : Output) → PrintsKept entries [] text text (Ok tt)
-  kept_none text store [] start points is = (none_printed (IsPieceOver store) text text refl, refl)
+module _ (x : Texts) (entries : EntryText) where
+  pub kept_none : (text : Output) → PrintsKept x entries [] text text (Ok tt)
+  kept_none text store [] start points is = (none_printed (IsPieceOver x store) text text refl, refl)
   kept_none text store (row ∷ rows) start points is = cc is
 
   -- there is no memory for the line
-  pub line_lost : (kept : List KeptEntry) (text : Output) → PrintsKept entries kept text text (Err Failure.OutOfMemory)
-  line_lost kept text store rows start points is = no_items (IsPieceOver store) (rows_plan entries start rows points) text text refl
+  pub line_lost : (kept : List KeptEntry) (text : Output) → PrintsKept x entries kept text text (Err Failure.OutOfMemory)
+  line_lost kept text store rows start points is = no_items (IsPieceOver x store) (rows_plan entries start rows points) text text refl
 
   -- one line, or a part of it
   pub line_printed : (entry : KeptEntry) (line : List ℕ) (old new : Output) (ending : Ending)
-      → IsEntryLine entries entry.id (sel_view_of entry.bytes) line → WritesPiece (piece_of line false) old new ending
-      → PrintsKept entries (entry ∷ []) old new ending
+      → x.IsEntry entries.detail entry.id (sel_view_of entry.bytes) entries.sensors line → WritesPiece (piece_of line false) old new ending
+      → PrintsKept x entries (entry ∷ []) old new ending
   line_printed entry line old new ending is_line writes store [] start points is = cc is
   line_printed entry line old new ending is_line writes store (row ∷ (other ∷ rows)) start points is = cc is
   line_printed entry line old new ending is_line writes store (row ∷ []) start points is =
       let same : kept_row row ≡ entry = cc is in
-      let text : IsPieceOver store (OfRow (Form.EntryLine entries) row) (piece_of line false) =
-      record { is_text = subst (λ (e : KeptEntry). IsEntryLine entries e.id (sel_view_of e.bytes) line) (sym same) is_line; counted = refl } in
+      let text : IsPieceOver x store (OfRow (Form.Entry entries) row) (piece_of line false) =
+      record { is_text = subst (λ (e : KeptEntry). x.IsEntry entries.detail e.id (sel_view_of e.bytes) entries.sensors line) (sym same) is_line; counted = refl } in
       by ending writes text
     where
       by : (e : Ending) → WritesPiece (piece_of line false) old new e
-          → IsPieceOver store (OfRow (Form.EntryLine entries) row) (piece_of line false) → IsAllowed (IsPieceOver store) (rows_plan entries start (row ∷ []) points) old new e
-      by (Ok done) w text = (one_printed (IsPieceOver store) (row_item (Form.EntryLine entries) start row) (piece_of line false) old new text w, refl)
+          → IsPieceOver x store (OfRow (Form.Entry entries) row) (piece_of line false) → IsAllowed (IsPieceOver x store) (rows_plan entries start (row ∷ []) points) old new e
+      by (Ok done) w text = (one_printed (IsPieceOver x store) (row_item (Form.Entry entries) start row) (piece_of line false) old new text w, refl)
       by (Err Failure.WriteFault) w text =
           let p = rows_plan entries start (row ∷ []) points in
-          cut_after (IsPieceOver store) p old old new (Err Failure.WriteFault) (no_items (IsPieceOver store) p old old refl) _ [] (piece_of line false) refl text w.0 w.1
+          cut_after (IsPieceOver x store) p old old new (Err Failure.WriteFault) (no_items (IsPieceOver x store) p old old refl) _ [] (piece_of line false) refl text w.0 w.1
       by (Err _) w text = absurd w
 
   -- one line, then the others
   pub lines_more : (entry : KeptEntry) (rest : List KeptEntry) (old text new : Output) (ending : Ending)
-      → PrintsKept entries (entry ∷ []) old text (Ok tt) → PrintsKept entries rest text new ending
-      → PrintsKept entries (entry ∷ rest) old new ending
+      → PrintsKept x entries (entry ∷ []) old text (Ok tt) → PrintsKept x entries rest text new ending
+      → PrintsKept x entries (entry ∷ rest) old new ending
   lines_more entry rest old text new ending first later store [] start points is = cc is
   lines_more entry rest old text new ending first later store (row ∷ rows) start points is =
-      leaves_joined (IsPieceOver store) (row_item (Form.EntryLine entries) start row ∷ []) (rows_plan entries (place_after row.next) rows points) old text new ending (cause_of ending)
+      leaves_joined (IsPieceOver x store) (row_item (Form.Entry entries) start row ∷ []) (rows_plan entries (place_after row.next) rows points) old text new ending (cause_of ending)
       (first store (row ∷ []) start [] (cc is)).0 (later store rows (place_after row.next) points (cc is))
 
   -- the others were not begun
   pub lines_stopped : (entry : KeptEntry) (rest : List KeptEntry) (old new : Output) (failure : Failure)
-      → PrintsKept entries (entry ∷ []) old new (Err failure) → PrintsKept entries (entry ∷ rest) old new (Err failure)
+      → PrintsKept x entries (entry ∷ []) old new (Err failure) → PrintsKept x entries (entry ∷ rest) old new (Err failure)
   lines_stopped entry rest old new failure first store [] start points is = cc is
   lines_stopped entry rest old new failure first store (row ∷ rows) start points is =
-      leaves_longer (IsPieceOver store) (rows_plan entries start (row ∷ []) []) (rows_plan entries start (row ∷ rows) points) (row_items (Form.EntryLine entries) (place_after row.next) rows) refl there
+      leaves_longer (IsPieceOver x store) (rows_plan entries start (row ∷ []) []) (rows_plan entries start (row ∷ rows) points) (row_items (Form.Entry entries) (place_after row.next) rows) refl there
       old new (Err failure) (cause_of (Err failure)) (λ is all. cc all.1) (first store (row ∷ []) start [] (cc is))
     where
       there : (point : ReadPoint) (items : List Item) → IsAmong (next_points items []) point
-          → IsAmong (next_points (items ++ row_items (Form.EntryLine entries) (place_after row.next) rows) points) point
+          → IsAmong (next_points (items ++ row_items (Form.Entry entries) (place_after row.next) rows) points) point
       there point items among = grind arith
 
   -- what is printed of the entries that are left leads to what is printed of all
   abbrev pub LeadsKept : List KeptEntry → List KeptEntry → Output → Output → Type 0
-  LeadsKept all left old text = (new : Output) (ending : Ending) → PrintsKept entries left text new ending → PrintsKept entries all old new ending
+  LeadsKept all left old text = (new : Output) (ending : Ending) → PrintsKept x entries left text new ending → PrintsKept x entries all old new ending
 
   module _ {all left : List KeptEntry} {old text : Output} (leads : LeadsKept all left old text) where
     -- one entry fewer is left
     pub leads_on : (entry : KeptEntry) (rest : List KeptEntry) (new : Output) → left ≡ entry ∷ rest
-        → PrintsKept entries (entry ∷ []) text new (Ok tt) → LeadsKept all rest old new
+        → PrintsKept x entries (entry ∷ []) text new (Ok tt) → LeadsKept all rest old new
     leads_on entry rest new is first = λ last ending later. leads last ending (rw is (lines_more entry rest text new last ending first later))
 
     pub leads_no_further : (entry : KeptEntry) (rest : List KeptEntry) (new : Output) (failure : Failure) → left ≡ entry ∷ rest
-        → PrintsKept entries (entry ∷ []) text new (Err failure) → PrintsKept entries all old new (Err failure)
+        → PrintsKept x entries (entry ∷ []) text new (Err failure) → PrintsKept x entries all old new (Err failure)
     leads_no_further entry rest new failure is first = leads new (Err failure) (rw is (lines_stopped entry rest text new failure first))
 
-    pub leads_to_end : left ≡ [] → PrintsKept entries all old text (Ok tt)
+    pub leads_to_end : left ≡ [] → PrintsKept x entries all old text (Ok tt)
     leads_to_end is = leads text (Ok tt) (rw is (kept_none text))
 
 -- ---- the whole run
 
-printing_ends : (entries : Entries) (seen : Seen) (ending : Ending) → EndsPrinting ending → EndsListing (Form.EntryLine entries) seen ending
+printing_ends : (entries : EntryText) (seen : Seen) (ending : Ending) → EndsPrinting ending → EndsListing (Form.Entry entries) seen ending
 printing_ends entries seen (Ok done) ends = tt
 printing_ends entries seen (Err Failure.OutOfMemory) ends = tt
 printing_ends entries seen (Err Failure.WriteFault) ends = tt
@@ -300,18 +301,18 @@ printing_for tries IsPlain s s' (Err Failure.OutOfMemory) for ends = ends_as for
 printing_for tries IsPlain s s' (Err Failure.WriteFault) for ends = ends_as for for.counts tt
 printing_for tries IsPlain s s' (Err _) for ends = absurd ends
 
-module _ (entries : Entries) (n : ℕ) (from : Option ℕ) (tries : Tries) (s s' : Seen) (kept : List KeptEntry)
+module _ (x : Texts) (entries : EntryText) (n : ℕ) (from : Option ℕ) (tries : Tries) (s s' : Seen) (kept : List KeptEntry)
     (calls : s'.calls ≤ s.calls + most_on_walk Form.Skipped tries) where
   -- the walk failed, and nothing was printed
   not_printed : (rows : List Row) (c : Change) (failure : Failure) (walked : Result ℕ Failure) → Err failure ≡ ending_of walked → c.new ≡ c.old
-      → PrintsAfter entries rows walked c (Err failure)
+      → PrintsAfter x entries rows walked c (Err failure)
   not_printed rows c failure (Ok count) is same = cc is
   not_printed rows c failure (Err other) is same = (is, same)
 
   -- the walk failed, or there was no memory for an entry
   pub kept_failed : (text : Output) (failure : Failure) → EndsListing Form.Skipped s' (Err failure)
-      → (IsHonest s → KeepsEntries n (start_of from) tries s s' text kept (Err failure))
-      → Runs (Job.LastKept entries n from) tries (change s s' text text) (Err failure)
+      → (IsHonest s → KeepsEntries x n (start_of from) tries s s' text kept (Err failure))
+      → Runs x (Job.LastKept entries n from) tries (change s s' text text) (Err failure)
   kept_failed text failure may keeps = record {
     calls = calls;
     ends = passed_ends entries s' (Err failure) may;
@@ -333,7 +334,7 @@ module _ (entries : Entries) (n : ℕ) (from : Option ℕ) (tries : Tries) (s s'
     ];
   }
 
-  module _ (old new : Output) (ending : Ending) (prints : PrintsKept entries kept old new ending) where
+  module _ (old new : Output) (ending : Ending) (prints : PrintsKept x entries kept old new ending) where
     -- the last entries of a walk were kept
     last_kept : (walk : List Row) → kept ≡ last_of n (kept_rows walk) → kept_rows (drop (length walk - n) walk) ≡ kept
     last_kept walk is =
@@ -341,22 +342,22 @@ module _ (entries : Entries) (n : ℕ) (from : Option ℕ) (tries : Tries) (s s'
         sym (drop-map kept_row k walk) ∙ ap (λ (m : ℕ). drop (m - n) (kept_rows walk)) (sym (length-map walk kept_row)) ∙ sym is
 
     printed_after : EndsPrinting ending → {begun now : CursorState} (walked : Result ℕ Failure)
-        (walk : TracesListing Form.Skipped None begun now (change s s' old old) walked) → Ok tt ≡ ending_of walked
+        (walk : TracesListing x Form.Skipped None begun now (change s s' old old) walked) → Ok tt ≡ ending_of walked
         → IfOk walked (λ count. kept ≡ last_of n (kept_rows (handed_out walk.steps)))
-        → PrintsAfter entries (last_rows n (handed_out walk.steps) Done) walked (change s s' old new) ending
+        → PrintsAfter x entries (last_rows n (handed_out walk.steps) Done) walked (change s s' old new) ending
     printed_after may (Ok count) walk is are = (may, prints s'.store _ First [] (last_kept (handed_out walk.steps) are))
     printed_after may (Err failure) walk is are = cc is
 
     -- and printed
     last_printed : (store : Store) (start : Place) (walk : List Row) → kept ≡ last_of n (kept_rows walk)
-        → IsAllowed (IsPieceOver store) (last_plan entries n start walk Done) old new ending
+        → IsAllowed (IsPieceOver x store) (last_plan entries n start walk Done) old new ending
     last_printed store start walk is =
         let k = length walk - n in
         let place = place_after_rows start (take k walk) in
-        last_leaves (IsPieceOver store) entries n k start walk old new ending refl (prints store (drop k walk) place (points_at_walk_end place (drop k walk) Done) (last_kept walk is))
+        last_leaves (IsPieceOver x store) entries n k start walk old new ending refl (prints store (drop k walk) place (points_at_walk_end place (drop k walk) Done) (last_kept walk is))
 
-    pub kept_run : EndsPrinting ending → (IsHonest s → KeepsEntries n (start_of from) tries s s' old kept (Ok tt))
-        → Runs (Job.LastKept entries n from) tries (change s s' old new) ending
+    pub kept_run : EndsPrinting ending → (IsHonest s → KeepsEntries x n (start_of from) tries s s' old kept (Ok tt))
+        → Runs x (Job.LastKept entries n from) tries (change s s' old new) ending
     kept_run may keeps = record {
       calls = calls;
       ends = printing_ends entries s' ending may;
@@ -368,7 +369,7 @@ module _ (entries : Entries) (n : ℕ) (from : Option ℕ) (tries : Tries) (s s'
           let g = (keeps h).grows first log grew in (
             g.0,
             g.1,
-            leaves_map (IsPieceOver s'.store) (IsTextWhile s s') (while_last s s') (last_plan entries n (start_of from) g.0 Done) old new ending (cause_of ending)
+            leaves_map (IsPieceOver x s'.store) (IsTextWhile x s s') (while_last x s s') (last_plan entries n (start_of from) g.0 Done) old new ending (cause_of ending)
                 (last_printed s'.store (start_of from) g.0 g.2.1),
           );
       traces = λ h. elim (keeps h).traces [

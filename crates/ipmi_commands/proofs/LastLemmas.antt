@@ -5,7 +5,7 @@ use Rattle.std.proofs.Math.Seq.{drop-nil}
 use Rattle.ipmi_commands.specs.Below.{handed_out, IsLog, OnlyGrew, Shelf, stays_refl, WasLog, Place, Sel, Row, Store, rows_of, WalkEnd, Done, place_after, place_after_rows, Seen, IsHonest, StaysHonest, CursorState, StandsAt, start_of, Ending, Failure}
 use Rattle.ipmi_commands.specs.Traced.{EndsTrace}
 use Rattle.ipmi_commands.specs.declared.limits.RequestLimits.{RequestLimits}
-use Rattle.ipmi_commands.specs.Prelude.{AreTexts, calls_for, Cause, cause_of, Change, change, Counted, CountsEntries, points_at_walk_end, end_points_of_last, ending_of, EndsListing, Entries, first_end, first_rows, Form, IsAllowed, IsAmong, IsFresh, IsPieceOver, IsTextWhile, OfRow, OnGrowingLast, TracesListing, Item, Job, last_plan, Leaves, listing, listing_plan, ListsAfter, ListsHonestly, ListsAlong, Plan, Printed, Prints, row_items, rows_end, second_walk_bound, ReadPoint, points_of_rows, next_points, points_of_walk, Subject, walk_call_bound, with_first_points}
+use Rattle.ipmi_commands.specs.Prelude.{AreTexts, calls_for, Cause, cause_of, Change, change, Counted, CountsEntries, points_at_walk_end, end_points_of_last, ending_of, EndsListing, EntryText, first_end, first_rows, Form, IsAllowed, IsAmong, IsFresh, IsPieceOver, IsTextWhile, OfRow, OnGrowingLast, TracesListing, Item, Job, last_plan, Leaves, listing, listing_plan, ListsAfter, ListsHonestly, ListsAlong, Plan, Printed, Prints, row_items, rows_end, second_walk_bound, ReadPoint, points_of_rows, next_points, points_of_walk, Subject, walk_call_bound, with_first_points}
 use Rattle.ipmi_commands.specs.Output.{and_then, no_output, Output}
 use Rattle.ipmi_commands.specs.declared.limits.Tries.{Tries}
 use Rattle.ipmi_commands.proofs.CallLemmas.{calls_split}
@@ -17,6 +17,7 @@ use Rattle.ipmi_commands.proofs.ItemLemmas.{IsCarried, leaves_carried, leaves_ma
 use Rattle.ipmi_commands.proofs.ListingLemmas.{fresh_along, fresh_ends, holds_none}
 use Rattle.ipmi_commands.proofs.PointLemmas.{among_after, quiet_there, points_at_walk_end-joined, points_of_rows-split}
 use Rattle.ipmi_commands.proofs.OutputLemmas.{nothing_in, then_nothing}
+use Rattle.ipmi_commands.specs.Format.{Texts}
 
 -- a new cursor is at the place where it starts
 pub starts_at : {limits : RequestLimits} {form : Form} {from : Option ℕ} {cursor : CursorState}
@@ -26,8 +27,8 @@ starts_at fresh = ap (λ (c : CursorState). c.place) fresh.is
 -- ---- the points of the first item
 
 -- the points of the first item along rows, or after them, are points of the rows
-first_there : (entries : Entries) (start : Place) (rows : List Row) (ends : List ReadPoint)
-    (point : ReadPoint) → IsAmong (next_points (row_items (Form.EntryLine entries) start rows) ends) point
+first_there : (entries : EntryText) (start : Place) (rows : List Row) (ends : List ReadPoint)
+    (point : ReadPoint) → IsAmong (next_points (row_items (Form.Entry entries) start rows) ends) point
     → IsAmong (points_of_rows start rows ++ ends) point
 first_there entries start [] ends point among = among
 first_there entries start (row ∷ rows) ends point among = grind arith
@@ -72,22 +73,22 @@ module _ (IsText : Subject → Output → Type 0) (points : List ReadPoint) (p :
       (λ is all. (grind (arith, all.0), ends all.1)) leaves
 
 -- the plan allows the output of the listing of the last entries
-pub last_leaves : (IsText : Subject → Output → Type 0) (entries : Entries) (n k : ℕ) (start : Place)
+pub last_leaves : (IsText : Subject → Output → Type 0) (entries : EntryText) (n k : ℕ) (start : Place)
     (walk : List Row) (old new : Output) (ending : Ending) → k ≡ length walk - n
-    → IsAllowed IsText (listing_plan (listing (Form.EntryLine entries) (place_after_rows start (take k walk)) None) (drop k walk) Done) old new ending
+    → IsAllowed IsText (listing_plan (listing (Form.Entry entries) (place_after_rows start (take k walk)) None) (drop k walk) Done) old new ending
     → IsAllowed IsText (last_plan entries n start walk Done) old new ending
 last_leaves IsText entries n k start walk old new ending is allowed =
     let place = place_after_rows start (take k walk) in
     let ends = points_at_walk_end start walk Done in
     let joined : points_at_walk_end place (drop k walk) Done ≡ ends = points_at_walk_end-joined start (take k walk) (drop k walk) Done ∙ ap (λ (l : List Row). points_at_walk_end start l Done) (take-append-drop k walk) in
-    rw (← is) (leaves_wide IsText (points_of_walk start walk Done) (listing_plan (listing (Form.EntryLine entries) place None) (drop k walk) Done) ends (rows_end (Form.EntryLine entries) walk Done) joined
+    rw (← is) (leaves_wide IsText (points_of_walk start walk Done) (listing_plan (listing (Form.Entry entries) place None) (drop k walk) Done) ends (rows_end (Form.Entry entries) walk Done) joined
     (λ point among. rw (points_of_rows-split k start walk ends) (among_after (points_of_rows start (take k walk)) (points_of_rows place (drop k walk) ++ ends) point (first_there entries place (drop k walk) ends point (rw joined at among))))
     old new ending ending (cause_of ending) (λ is. is) allowed)
 
 -- ---- skipped entries
 
-calls_for-named : (entries : Entries) (store : Store) (tries : Tries) (rows : List Row)
-    → calls_for (Form.EntryLine entries) store tries rows ≡ calls_for Form.Skipped store tries rows
+calls_for-named : (entries : EntryText) (store : Store) (tries : Tries) (rows : List Row)
+    → calls_for (Form.Entry entries) store tries rows ≡ calls_for Form.Skipped store tries rows
 calls_for-named entries store tries [] = refl
 calls_for-named entries store tries (row ∷ rows) = rw (calls_for-named entries store tries rows) refl
 
@@ -95,11 +96,11 @@ calls_for-named entries store tries (row ∷ rows) = rw (calls_for-named entries
 abbrev AreNoTexts : (Subject → Output → Type 0) → Type 0
 AreNoTexts IsText = (row : Row) (text : Output) → IsText (OfRow Form.Skipped row) text → text ≡ no_output
 
-none_over : (store : Store) → AreNoTexts (IsPieceOver store)
-none_over store row text is = is.counted ∙ nothing_in text.bytes false is.is_text
+none_over : (x : Texts) → (store : Store) → AreNoTexts (IsPieceOver x store)
+none_over x store row text is = is.counted ∙ nothing_in text.bytes false is.is_text
 
-none_while : (s s' : Seen) → AreNoTexts (IsTextWhile s s')
-none_while s s' row text is = none_over is.store row text is.is
+none_while : (x : Texts) → (s s' : Seen) → AreNoTexts (IsTextWhile x s s')
+none_while x s s' row text is = none_over x is.store row text is.is
 
 -- nothing is printed for skipped entries
 no_text : (IsText : Subject → Output → Type 0) → AreNoTexts IsText → (rows : List Row) (start : Place) (done rest : List Item) (text : Output)
@@ -120,7 +121,7 @@ nothing : (IsText : Subject → Output → Type 0) → AreNoTexts IsText → (mo
 nothing IsText none most start walk done rest old new is printed = printed.new_is ∙ rw (no_text IsText none (first_rows most walk) start done rest printed.text is printed.are) (then_nothing old)
 
 -- a run that ends while entries are skipped
-module _ (IsText : Subject → Output → Type 0) (none : AreNoTexts IsText) (entries : Entries) (n : ℕ) (most : Option ℕ) (start : Place)
+module _ (IsText : Subject → Output → Type 0) (none : AreNoTexts IsText) (entries : EntryText) (n : ℕ) (most : Option ℕ) (start : Place)
     (walk : List Row) (end : WalkEnd) (end_is : first_end most walk end ≡ end) (old new : Output) (failure : Failure) where
   abbrev passing : Plan
   passing = listing_plan (listing Form.Skipped start most) walk end
@@ -142,96 +143,96 @@ module _ (IsText : Subject → Output → Type 0) (none : AreNoTexts IsText) (en
 -- ---- counting entries
 
 -- all entries of the log as it was at one moment
-pub counts_grown : (from : Option ℕ) {begun now : CursorState} {c : Change} (result : Result ℕ Failure) (trace : TracesListing Form.Skipped None begun now c result) (first : List Row)
-    (g : ListsGrown Sel (start_of from) first c.seen [] (handed_out trace.steps) Form.Skipped None now c result)
-    → EndsTrace Form.Skipped None now trace.steps c result
-    → Counted (IsTextWhile c.seen c.seen') (start_of from) g.log Done c.old c.new result
-counts_grown from {begun} {now} {c} (Ok count) trace first g ends = (
+pub counts_grown : (x : Texts) → (from : Option ℕ) {begun now : CursorState} {c : Change} (result : Result ℕ Failure) (trace : TracesListing x Form.Skipped None begun now c result) (first : List Row)
+    (g : ListsGrown x Sel (start_of from) first c.seen [] (handed_out trace.steps) Form.Skipped None now c result)
+    → EndsTrace x Form.Skipped None now trace.steps c result
+    → Counted (IsTextWhile x c.seen c.seen') (start_of from) g.log Done c.old c.new result
+counts_grown x from {begun} {now} {c} (Ok count) trace first g ends = (
   ends.0.count_is ∙ ap (length {A = Row}) (g.whole (elim ends.0.done [ inl limit ↦ cc limit | inr at_end ↦ at_end ])),
   refl,
-  nothing (IsTextWhile c.seen c.seen') (none_while c.seen c.seen') None (start_of from) g.log _ [] c.old c.new (sym (append-nil _)) g.allowed.0,
+  nothing (IsTextWhile x c.seen c.seen') (none_while x c.seen c.seen') None (start_of from) g.log _ [] c.old c.new (sym (append-nil _)) g.allowed.0,
 )
-counts_grown from {begun} {now} {c} (Err failure) trace first g ends = λ entries n.
-    passing_failed (IsTextWhile c.seen c.seen') (none_while c.seen c.seen') entries n None (start_of from) g.log Done refl c.old c.new failure (cause_of (Err failure)) g.allowed
+counts_grown x from {begun} {now} {c} (Err failure) trace first g ends = λ entries n.
+    passing_failed (IsTextWhile x c.seen c.seen') (none_while x c.seen c.seen') entries n None (start_of from) g.log Done refl c.old c.new failure (cause_of (Err failure)) g.allowed
 
-module _ {limits : RequestLimits} {from : Option ℕ} {tries : Tries} {begun now : CursorState}
+module _ (x : Texts) {limits : RequestLimits} {from : Option ℕ} {tries : Tries} {begun now : CursorState}
     {c : Change}
     (fresh : IsFresh limits Form.Skipped from begun) where
   pub counts : (result : Result ℕ Failure) (walk : List Row) (end : WalkEnd)
-      → ListsAlong Form.Skipped tries None begun now c result (start_of from) walk end 0
-      → Counted (IsPieceOver c.seen.store) (start_of from) walk end c.old c.new result
-  counts (Ok count) walk end along = (along.all.count_is, grind (arith, along.leaves.1), nothing (IsPieceOver c.seen.store) (none_over c.seen.store) None (start_of from) walk _ [] c.old c.new (sym (append-nil _)) along.leaves.0)
-  counts (Err failure) walk end along = λ entries n. passing_failed (IsPieceOver c.seen.store) (none_over c.seen.store) entries n None (start_of from) walk end refl c.old c.new failure (cause_of (Err failure)) along.leaves
+      → ListsAlong x Form.Skipped tries None begun now c result (start_of from) walk end 0
+      → Counted (IsPieceOver x c.seen.store) (start_of from) walk end c.old c.new result
+  counts (Ok count) walk end along = (along.all.count_is, grind (arith, along.leaves.1), nothing (IsPieceOver x c.seen.store) (none_over x c.seen.store) None (start_of from) walk _ [] c.old c.new (sym (append-nil _)) along.leaves.0)
+  counts (Err failure) walk end along = λ entries n. passing_failed (IsPieceOver x c.seen.store) (none_over x c.seen.store) entries n None (start_of from) walk end refl c.old c.new failure (cause_of (Err failure)) along.leaves
 
   pub counted : (result : Result ℕ Failure) → IsHonest c.seen
-      → ListsHonestly Form.Skipped tries None begun now c result
-      → CountsEntries (start_of from) tries c result
+      → ListsHonestly x Form.Skipped tries None begun now c result
+      → CountsEntries x (start_of from) tries c result
   counted result honest lists = record {
-    ends = fresh_ends fresh lists;
+    ends = fresh_ends x fresh lists;
     along = λ same walk end w ends.
-        let along = fresh_along fresh lists same walk end w ends in
+        let along = fresh_along x fresh lists same walk end w ends in
         (counts result walk end along.0, along.1);
     grows = λ first log grew.
-        let g = fresh_grown fresh lists.traces honest first log grew tt in
-        (g.log, g.was, counts_grown from result lists.traces first g lists.traces.ends);
+        let g = fresh_grown x fresh lists.traces honest first log grew tt in
+        (g.log, g.was, counts_grown x from result lists.traces first g lists.traces.ends);
   }
 
-pub counted_without_memory : (tries : Tries) (start : Place) (s : Seen) (text : Output) → IsHonest s
-    → CountsEntries start tries (change s s text text) (Err Failure.OutOfMemory)
-counted_without_memory tries start s text honest = record {
+pub counted_without_memory : (x : Texts) → (tries : Tries) (start : Place) (s : Seen) (text : Output) → IsHonest s
+    → CountsEntries x start tries (change s s text text) (Err Failure.OutOfMemory)
+counted_without_memory x tries start s text honest = record {
   ends = ends_here honest refl tt;
-  along = λ same walk end w ends. (λ entries n. no_items (IsPieceOver s.store) (last_plan entries n start walk end) text text refl, omega arith);
+  along = λ same walk end w ends. (λ entries n. no_items (IsPieceOver x s.store) (last_plan entries n start walk end) text text refl, omega arith);
   grows = λ first log grew.
-      (first, log_now s s (stays_refl s honest).store honest first log, λ entries n. no_items (IsTextWhile s s) (last_plan entries n start first Done) text text refl);
+      (first, log_now s s (stays_refl s honest).store honest first log, λ entries n. no_items (IsTextWhile x s s) (last_plan entries n start first Done) text text refl);
 }
 
 -- ---- skipping entries, and listing those after them
 
-pub after_without_memory : (entries : Entries) (tries : Tries) (start : Place) (passed : ℕ)
+pub after_without_memory : (x : Texts) → (entries : EntryText) (tries : Tries) (start : Place) (passed : ℕ)
     (s : Seen) (text : Output) → IsHonest s
-    → ListsAfter entries start passed tries (change s s text text) (Err Failure.OutOfMemory)
-after_without_memory entries tries start passed s text honest = record {
+    → ListsAfter x entries start passed tries (change s s text text) (Err Failure.OutOfMemory)
+after_without_memory x entries tries start passed s text honest = record {
   ends = ends_here honest refl tt;
-  along = λ same walk end w ends n done is. (no_items (IsPieceOver s.store) (last_plan entries n start walk end) text text refl, omega arith);
+  along = λ same walk end w ends n done is. (no_items (IsPieceOver x s.store) (last_plan entries n start walk end) text text refl, omega arith);
   grows = λ first few log grew. (
     first,
     log_now s s (stays_refl s honest).store honest first log,
-    no_items (IsTextWhile s s) (last_plan entries (length first - passed) start first Done) text text refl,
+    no_items (IsTextWhile x s s) (last_plan entries (length first - passed) start first Done) text text refl,
   );
 }
 
-module _ (entries : Entries) {limits : RequestLimits} {from : Option ℕ}
+module _ (x : Texts) (entries : EntryText) {limits : RequestLimits} {from : Option ℕ}
     {tries : Tries} {passed : ℕ} {begun mid : CursorState} {s s' : Seen} {old text : Output} (fresh : IsFresh limits Form.Skipped from begun) where
   -- skipping failed
   pub after_failed : (failure : Failure) → IsHonest s
-      → ListsHonestly Form.Skipped tries (Some passed) begun mid (change s s' old text) (Err failure)
-      → ListsAfter entries (start_of from) passed tries (change s s' old text) (Err failure)
+      → ListsHonestly x Form.Skipped tries (Some passed) begun mid (change s s' old text) (Err failure)
+      → ListsAfter x entries (start_of from) passed tries (change s s' old text) (Err failure)
   after_failed failure honest lists = record {
-    ends = fresh_ends fresh lists;
+    ends = fresh_ends x fresh lists;
     along = λ same walk end w ends n done is.
-        let along = fresh_along fresh lists same walk end w ends in (
-          passing_failed (IsPieceOver s.store) (none_over s.store) entries n (Some passed) (start_of from) walk end (grind (arith, done)) old text failure (cause_of (Err failure)) along.0.leaves,
+        let along = fresh_along x fresh lists same walk end w ends in (
+          passing_failed (IsPieceOver x s.store) (none_over x s.store) entries n (Some passed) (start_of from) walk end (grind (arith, done)) old text failure (cause_of (Err failure)) along.0.leaves,
           omega (arith, along.1, calls_split Form.Skipped s.store tries passed walk),
         );
     grows = λ first few log grew.
-        let g = fresh_grown fresh lists.traces honest first log grew tt in (
+        let g = fresh_grown x fresh lists.traces honest first log grew tt in (
           g.log,
           g.was,
-          passing_failed (IsTextWhile s s') (none_while s s') entries (length g.log - passed) (Some passed) (start_of from) g.log Done (first_end-done (Some passed) g.log)
+          passing_failed (IsTextWhile x s s') (none_while x s s') entries (length g.log - passed) (Some passed) (start_of from) g.log Done (first_end-done (Some passed) g.log)
               old text failure (cause_of (Err failure)) g.allowed,
         );
   }
 
   -- there are fewer entries than were counted
   pub after_fewer : (count : ℕ) → (count ≡ passed → ⊥) → IsHonest s
-      → ListsHonestly Form.Skipped tries (Some passed) begun mid (change s s' old text) (Ok count)
-      → ListsAfter entries (start_of from) passed tries (change s s' old text) (Ok tt)
+      → ListsHonestly x Form.Skipped tries (Some passed) begun mid (change s s' old text) (Ok count)
+      → ListsAfter x entries (start_of from) passed tries (change s s' old text) (Ok tt)
   after_fewer count fewer honest lists = record {
-    ends = fresh_ends fresh lists;
+    ends = fresh_ends x fresh lists;
     along = λ same walk end w ends n done is.
-        absurd (fewer ((fresh_along fresh lists same walk end w ends).0.all.count_is ∙ length-take-le passed walk (omega (arith, is))));
+        absurd (fewer ((fresh_along x fresh lists same walk end w ends).0.all.count_is ∙ length-take-le passed walk (omega (arith, is))));
     grows = λ first few log grew.
-        let g = fresh_grown fresh lists.traces honest first log grew tt in
+        let g = fresh_grown x fresh lists.traces honest first log grew tt in
         let listed = lists.traces.ends.0 in
         elim listed.done [
           | inl limit ↦ absurd (fewer (sym (cc limit)))
@@ -243,52 +244,52 @@ module _ (entries : Entries) {limits : RequestLimits} {from : Option ℕ}
 
   -- of a log that only grew, all after the first ones
   after_grown : (now : CursorState) (s'' : Seen) (new : Output) (result : Result ℕ Failure) → IsHonest s
-      → ListsHonestly Form.Skipped tries (Some passed) begun mid (change s s' old text) (Ok passed)
-      → ListsHonestly (Form.EntryLine entries) tries None mid now (change s' s'' text new) result
+      → ListsHonestly x Form.Skipped tries (Some passed) begun mid (change s s' old text) (Ok passed)
+      → ListsHonestly x (Form.Entry entries) tries None mid now (change s' s'' text new) result
       → (first : List Row) → IsLog Sel (start_of from) s.store first → OnlyGrew Sel (start_of from) s s''
       → (log : List Row) × WasLog Sel (start_of from) s s'' first log
-      × IsAllowed (IsTextWhile s s'') (last_plan entries (length log - passed) (start_of from) log Done) old new (ending_of result)
+      × IsAllowed (IsTextWhile x s s'') (last_plan entries (length log - passed) (start_of from) log Done) old new (ending_of result)
   after_grown now s'' new result honest passes lists first log grew =
       let a = passes.ends.stays.store in
       let b = lists.ends.stays.store in
       let pre = passes.traces in
-      let skipped = fresh_grown fresh pre honest first log (grew_first Sel (start_of from) s s' s'' a b grew) tt in
-      let nothing_yet : text ≡ old = nothing (IsTextWhile s s') (none_while s s') (Some passed) (start_of from) skipped.log _ [] old text (sym (append-nil _)) skipped.allowed.0 in
+      let skipped = fresh_grown x fresh pre honest first log (grew_first Sel (start_of from) s s' s'' a b grew) tt in
+      let nothing_yet : text ≡ old = nothing (IsTextWhile x s s') (none_while x s s') (Some passed) (start_of from) skipped.log _ [] old text (sym (append-nil _)) skipped.allowed.0 in
       let count : length (handed_out pre.steps) ≡ passed = sym pre.ends.0.count_is in
-      let shelf_is : begun.shelf ≡ Sel = ap (λ (x : CursorState). x.shelf) fresh.is in
-      let trace = subst (λ (x : CursorState). TracesListing (Form.EntryLine entries) None x now (change s' s'' text new) result) (sym pre.traced.cursor) lists.traces in
-      let g = grown_listing begun s (start_of from) first honest (subst (λ (x : Shelf). IsLog x (start_of from) s.store first) (sym shelf_is) log)
-      (fresh.stands (rows_of begun.shelf s.store) first) pre.steps pre.traced.are (Form.EntryLine entries) None now (change s' s'' text new) pre.traced.stays result trace
-      (subst (λ (x : Shelf). OnlyGrew x (start_of from) s s'') (sym shelf_is) grew) tt in
+      let shelf_is : begun.shelf ≡ Sel = ap (λ (x' : CursorState). x'.shelf) fresh.is in
+      let trace = subst (λ (x' : CursorState). TracesListing x (Form.Entry entries) None x' now (change s' s'' text new) result) (sym pre.traced.cursor) lists.traces in
+      let g = grown_listing x begun s (start_of from) first honest (subst (λ (x' : Shelf). IsLog x' (start_of from) s.store first) (sym shelf_is) log)
+      (fresh.stands (rows_of begun.shelf s.store) first) pre.steps pre.traced.are (Form.Entry entries) None now (change s' s'' text new) pre.traced.stays result trace
+      (subst (λ (x' : Shelf). OnlyGrew x' (start_of from) s s'') (sym shelf_is) grew) tt in
       let k : passed ≡ length g.log - (length g.log - passed) = omega (arith, g.enough, count) in
       let place : place_after_rows (start_of from) (handed_out pre.steps) ≡ place_after_rows (start_of from) (take passed g.log) = ap (place_after_rows (start_of from)) (g.before ∙ ap (λ (n : ℕ). take n g.log) count) in
-      let plan : Place → ℕ → Plan = λ p n. listing_plan (listing (Form.EntryLine entries) p None) (drop n g.log) Done in
-      let allowed = subst (λ (p : Place). IsAllowed (IsTextWhile s' s'') (plan p (length (handed_out pre.steps))) text new (ending_of result)) place g.allowed in
-      let all = subst (λ (n : ℕ). IsAllowed (IsTextWhile s' s'') (plan (place_after_rows (start_of from) (take passed g.log)) n) text new (ending_of result)) count allowed in
-      let wide = leaves_map (IsTextWhile s' s'') (IsTextWhile s s'') (while_second s s' s'' a b) (plan (place_after_rows (start_of from) (take passed g.log)) passed) text new (ending_of result) (cause_of (ending_of result)) all in (
+      let plan : Place → ℕ → Plan = λ p n. listing_plan (listing (Form.Entry entries) p None) (drop n g.log) Done in
+      let allowed = subst (λ (p : Place). IsAllowed (IsTextWhile x s' s'') (plan p (length (handed_out pre.steps))) text new (ending_of result)) place g.allowed in
+      let all = subst (λ (n : ℕ). IsAllowed (IsTextWhile x s' s'') (plan (place_after_rows (start_of from) (take passed g.log)) n) text new (ending_of result)) count allowed in
+      let wide = leaves_map (IsTextWhile x s' s'') (IsTextWhile x s s'') (while_second x s s' s'' a b) (plan (place_after_rows (start_of from) (take passed g.log)) passed) text new (ending_of result) (cause_of (ending_of result)) all in (
         g.log,
-        subst (λ (x : Shelf). WasLog x (start_of from) s s'' first g.log) shelf_is g.was,
-        last_leaves (IsTextWhile s s'') entries (length g.log - passed) passed (start_of from) g.log old new (ending_of result) k
-            (subst (λ (l : Output). IsAllowed (IsTextWhile s s'') (plan (place_after_rows (start_of from) (take passed g.log)) passed) l new (ending_of result)) nothing_yet wide),
+        subst (λ (x' : Shelf). WasLog x' (start_of from) s s'' first g.log) shelf_is g.was,
+        last_leaves (IsTextWhile x s s'') entries (length g.log - passed) passed (start_of from) g.log old new (ending_of result) k
+            (subst (λ (l : Output). IsAllowed (IsTextWhile x s s'') (plan (place_after_rows (start_of from) (take passed g.log)) passed) l new (ending_of result)) nothing_yet wide),
       )
 
   -- the entries after them were listed
   pub after_passed : (now : CursorState) (s'' : Seen) (new : Output) (result : Result ℕ Failure)
-      → 0 < mid.part → IsHonest s → ListsHonestly Form.Skipped tries (Some passed) begun mid
+      → 0 < mid.part → IsHonest s → ListsHonestly x Form.Skipped tries (Some passed) begun mid
       (change s s' old text) (Ok passed)
-      → ListsHonestly (Form.EntryLine entries) tries None mid now (change s' s'' text new) result
-      → ListsAfter entries (start_of from) passed tries (change s s'' old new) (ending_of result)
+      → ListsHonestly x (Form.Entry entries) tries None mid now (change s' s'' text new) result
+      → ListsAfter x entries (start_of from) passed tries (change s s'' old new) (ending_of result)
   after_passed now s'' new result some honest passes lists = record {
-    ends = ends_since (fresh_ends fresh passes) (λ p. (passes.ends.stays.plain p, passes.holds p (holds_none fresh s))) lists.ends;
+    ends = ends_since (fresh_ends x fresh passes) (λ p. (passes.ends.stays.plain p, passes.holds p (holds_none fresh s))) lists.ends;
     along = λ same walk end w ends n done is.
         let since = between s s' s'' passes.ends.stays lists.ends.stays same in
-        let first = (fresh_along fresh passes since.0 walk end w ends).0 in
+        let first = (fresh_along x fresh passes since.0 walk end w ends).0 in
         let stays = passes.ends.stays.store.stays since.0 in
         let here : 0 + passed ≡ passed = omega arith in
         let stands : StandsAt (rows_of Sel s.store) (start_of from) walk passed mid = rw here at first.all.stands in
         let later = (rw stays at (lists.along since.1 (start_of from) walk end passed)) (record { walks = w; ends = ends; stands = stands }) in
-        let none = nothing (IsPieceOver s.store) (none_over s.store) (Some passed) (start_of from) walk _ [] old text (sym (append-nil _)) first.leaves.0 in (
-          rw done (last_leaves (IsPieceOver s.store) entries n passed (start_of from) walk old new (ending_of result) is (rw (done, none) at later.leaves)),
+        let none = nothing (IsPieceOver x s.store) (none_over x s.store) (Some passed) (start_of from) walk _ [] old text (sym (append-nil _)) first.leaves.0 in (
+          rw done (last_leaves (IsPieceOver x s.store) entries n passed (start_of from) walk old new (ending_of result) is (rw (done, none) at later.leaves)),
           omega (arith, rw (calls_for-named entries s.store tries (drop passed walk)) at (later.calls some), first.all.calls refl, fresh.falls, calls_split Form.Skipped s.store tries passed walk),
         );
     grows = λ first few log grew. after_grown now s'' new result honest passes lists first log grew;
@@ -297,34 +298,34 @@ module _ (entries : Entries) {limits : RequestLimits} {from : Option ℕ}
 -- ---- the last entries
 
 -- a possible end of a walk is a possible end of a listing
-pub passed_ends : (entries : Entries) (seen : Seen) (ending : Ending)
-    → EndsListing Form.Skipped seen ending → EndsListing (Form.EntryLine entries) seen ending
+pub passed_ends : (entries : EntryText) (seen : Seen) (ending : Ending)
+    → EndsListing Form.Skipped seen ending → EndsListing (Form.Entry entries) seen ending
 passed_ends entries seen ending ends = grind arith
 
 second_walk_bound-some : (bound : ℕ) (rows : List Row) → 0 < length rows
     → second_walk_bound bound rows ≡ bound
 second_walk_bound-some bound rows some = grind arith
 
-module _ (entries : Entries) (n : ℕ) (from : Option ℕ) (tries : Tries) (some : 1 ≤ n) (s s' : Seen)
+module _ (x : Texts) (entries : EntryText) (n : ℕ) (from : Option ℕ) (tries : Tries) (some : 1 ≤ n) (s s' : Seen)
     (old text : Output) where
   -- counting failed, or there are no entries
   pub last_prints_none : (result : Result ℕ Failure) → IfOk result (λ count. count ≡ 0)
-      → s'.stores_added ≡ s.stores_added → CountsEntries (start_of from) tries
+      → s'.stores_added ≡ s.stores_added → CountsEntries x (start_of from) tries
       (change s s' old text) result
-      → Prints (Job.Last entries n from) tries (change s s' old text) (ending_of result)
+      → Prints x (Job.Last entries n from) tries (change s s' old text) (ending_of result)
   last_prints_none (Ok count) none same counts = λ walk end w ends.
       let along = counts.along same walk end w ends in
       let empty = nil_from_length walk (sym along.0.0 ∙ none) in
-      (rw (along.0.1, empty, drop-nil) (none_printed (IsPieceOver s.store) old text along.0.2, refl), omega (arith, along.1))
+      (rw (along.0.1, empty, drop-nil) (none_printed (IsPieceOver x s.store) old text along.0.2, refl), omega (arith, along.1))
   last_prints_none (Err failure) none same counts = λ walk end w ends.
       let along = counts.along same walk end w ends in (along.0 entries n, omega (arith, along.1))
 
   -- the entries after the skipped ones were listed
   pub last_prints : (s'' : Seen) (new : Output) (count : ℕ) (ending : Ending) → (count ≡ 0 → ⊥)
       → StaysHonest s s' → s'.stores_added ≡ s.stores_added → s''.stores_added ≡ s'.stores_added
-      → CountsEntries (start_of from) tries (change s s' old text) (Ok count)
-      → ListsAfter entries (start_of from) (count - n) tries (change s' s'' text new) ending
-      → Prints (Job.Last entries n from) tries (change s s'' old new) ending
+      → CountsEntries x (start_of from) tries (change s s' old text) (Ok count)
+      → ListsAfter x entries (start_of from) (count - n) tries (change s' s'' text new) ending
+      → Prints x (Job.Last entries n from) tries (change s s'' old new) ending
   last_prints s'' new count ending more stays same same' counts lists = λ walk end w ends.
       let along = counts.along same walk end w ends in
       let later = (rw (stays.store.stays same) at (lists.along same' walk end)) w ends n along.0.1 (rw along.0.0 refl) in
@@ -334,21 +335,21 @@ module _ (entries : Entries) (n : ℕ) (from : Option ℕ) (tries : Tries) (some
   -- ---- a log that only grew
 
   -- counting failed, or there are no entries
-  pub last_grown_none : (result : Result ℕ Failure) → IfOk result (λ count. count ≡ 0) → CountsEntries (start_of from) tries (change s s' old text) result
-      → OnGrowingLast entries n from s s' (λ plan. IsAllowed (IsTextWhile s s') plan old text (ending_of result))
+  pub last_grown_none : (result : Result ℕ Failure) → IfOk result (λ count. count ≡ 0) → CountsEntries x (start_of from) tries (change s s' old text) result
+      → OnGrowingLast entries n from s s' (λ plan. IsAllowed (IsTextWhile x s s') plan old text (ending_of result))
   last_grown_none (Ok count) none counts = λ first log grew.
       let c = counts.grows first log grew in
       let empty = nil_from_length c.0 (sym c.2.0 ∙ none) in
-      (c.0, c.1, (c.0, log_again s s' c.0 c.1, rw (empty, drop-nil) (none_printed (IsTextWhile s s') old text c.2.2, refl)))
+      (c.0, c.1, (c.0, log_again s s' c.0 c.1, rw (empty, drop-nil) (none_printed (IsTextWhile x s s') old text c.2.2, refl)))
   last_grown_none (Err failure) none counts = λ first log grew.
       let c = counts.grows first log grew in
       (c.0, c.1, (c.0, log_again s s' c.0 c.1, c.2 entries (length c.0 - (length c.0 - n))))
 
   -- the entries after the skipped ones were listed
   pub last_grown : (s'' : Seen) (new : Output) (count : ℕ) (ending : Ending) → StaysHonest s s' → StaysHonest s' s''
-      → CountsEntries (start_of from) tries (change s s' old text) (Ok count)
-      → ListsAfter entries (start_of from) (count - n) tries (change s' s'' text new) ending
-      → OnGrowingLast entries n from s s'' (λ plan. IsAllowed (IsTextWhile s s'') plan old new ending)
+      → CountsEntries x (start_of from) tries (change s s' old text) (Ok count)
+      → ListsAfter x entries (start_of from) (count - n) tries (change s' s'' text new) ending
+      → OnGrowingLast entries n from s s'' (λ plan. IsAllowed (IsTextWhile x s s'') plan old new ending)
   last_grown s'' new count ending first_stays later_stays counts lists = λ first log grew.
       let a = first_stays.store in
       let b = later_stays.store in
@@ -357,13 +358,13 @@ module _ (entries : Entries) (n : ℕ) (from : Option ℕ) (tries : Tries) (some
       let now = log_later s s' c.0 (grew_first Sel (start_of from) s s' s'' a b grew) c.1 in
       let later = lists.grows now.0 (omega (arith, c.2.0, begins_length c.0 now.0 now.1)) now.2 (grew_second Sel (start_of from) s s' s'' a b grew) in
       let size : length later.0 - (count - n) ≡ length later.0 - (length c.0 - n) = omega (arith, c.2.0) in
-      let wide = leaves_map (IsTextWhile s' s'') (IsTextWhile s s'') (while_second s s' s'' a b) (last_plan entries (length later.0 - (count - n)) (start_of from) later.0 Done) text new ending (cause_of ending) later.2 in (
+      let wide = leaves_map (IsTextWhile x s' s'') (IsTextWhile x s s'') (while_second x s s' s'' a b) (last_plan entries (length later.0 - (count - n)) (start_of from) later.0 Done) text new ending (cause_of ending) later.2 in (
         c.0,
         log_first s s' s'' a b first c.0 c.1,
         (
           later.0,
           log_second s s' s'' a b c.0 now.0 later.0 now.1 later.1,
-          subst (λ (l : Output). IsAllowed (IsTextWhile s s'') (last_plan entries (length later.0 - (length c.0 - n)) (start_of from) later.0 Done) l new ending) c.2.2
-              (subst (λ (m : ℕ). IsAllowed (IsTextWhile s s'') (last_plan entries m (start_of from) later.0 Done) text new ending) size wide),
+          subst (λ (l : Output). IsAllowed (IsTextWhile x s s'') (last_plan entries (length later.0 - (length c.0 - n)) (start_of from) later.0 Done) l new ending) c.2.2
+              (subst (λ (m : ℕ). IsAllowed (IsTextWhile x s s'') (last_plan entries m (start_of from) later.0 Done) text new ending) size wide),
         ),
       )

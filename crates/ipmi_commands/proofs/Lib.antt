@@ -23,6 +23,7 @@ mod ReadLemmas
 mod RunLemmas
 mod SensorLemmas
 pub mod TailLemmas
+mod PlainLemmas
 mod PointLemmas
 mod TraceLemmas
 mod UniqueLemmas

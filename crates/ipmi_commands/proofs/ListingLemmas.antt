@@ -18,6 +18,7 @@ use Rattle.ipmi_commands.proofs.MeanwhileLemmas.{keeps_at_same}
 use Rattle.ipmi_commands.proofs.TraceLemmas.{traced_cut, traced_done, traced_done-handed, traced_ended, traced_full, traced_lost, traced_more, traced_more-handed, Tracing}
 use Rattle.ipmi_commands.proofs.NameLemmas.{end_of-wrote, Wrote, wrote_more}
 use Rattle.ipmi_commands.proofs.PointLemmas.{asked_first, end_point, points_at_walk_end-joined}
+use Rattle.ipmi_commands.specs.Format.{Texts}
 
 -- ---- the listed rows, if the cursor was after k rows of a walk
 
@@ -41,32 +42,32 @@ place_here most count start walk k within =
 -- ---- the state so far
 
 -- along a walk: the cursor, and the rows printed
-pub record WentAlong (form : Form) (tries : Tries) (most : Option ℕ) (count : ℕ) (begun now : CursorState)
+pub record WentAlong (x : Texts) (form : Form) (tries : Tries) (most : Option ℕ) (count : ℕ) (begun now : CursorState)
     (c : Change) (start : Place) (walk : List Row) (k : ℕ) : Type 0 where
   pub along : IsAlong form tries most count begun now c.seen c.seen' start walk k
-  pub are_printed : Printed (IsPieceOver c.seen.store)
+  pub are_printed : Printed (IsPieceOver x c.seen.store)
       (row_items form (from_here start walk k) (take count (used most walk k))) c.old c.new
 
 -- over an honest controller
-pub record Went (form : Form) (tries : Tries) (most : Option ℕ) (count : ℕ) (begun now : CursorState)
+pub record Went (x : Texts) (form : Form) (tries : Tries) (most : Option ℕ) (count : ℕ) (begun now : CursorState)
     (c : Change) : Type 0 where
   pub ends : EndsFor tries (IsTrue c.seen.plain
       × CursorHoldsCurrent begun c.seen) c.seen c.seen' AtEnd
   pub holds : IsTrue c.seen.plain → CursorHoldsCurrent begun c.seen → CursorHoldsCurrent now c.seen'
   pub along : c.seen'.stores_added ≡ c.seen.stores_added
       → OnEachWalk (shelf_of form) begun c.seen.store
-      (λ start walk end k. WentAlong form tries most count begun now c start walk k)
-  pub tracing : Tracing form count begun now c
+      (λ start walk end k. WentAlong x form tries most count begun now c start walk k)
+  pub tracing : Tracing x form count begun now c
 
 -- a listing that continues
-pub record Listed (form : Form) (tries : Tries) (most : Option ℕ) (count : ℕ) (wrote : Bool)
+pub record Listed (x : Texts) (form : Form) (tries : Tries) (most : Option ℕ) (count : ℕ) (wrote : Bool)
     (begun now : CursorState) (c : Change) : Type 0 where
   pub shelf : now.shelf ≡ shelf_of form
   pub tries_are : now.tries ≡ tries.count
   pub called : HasCalled (most_for_one form tries) count begun now c.seen c.seen'
   pub within : IsWithin most count
   pub has_written : Wrote wrote c.old c.new
-  pub went : IsHonest c.seen → Went form tries most count begun now c
+  pub went : IsHonest c.seen → Went x form tries most count begun now c
 
 -- ---- a step
 
@@ -113,21 +114,21 @@ may_later first points cause may = grind arith
 abbrev plan_here : Form → Option ℕ → Place → List Row → WalkEnd → ℕ → Plan
 plan_here form most start walk end k = listing_plan (listing form (from_here start walk k) most) (drop k walk) end
 
-abbrev LeavesHere : Store → Form → Option ℕ → Place → List Row → WalkEnd → ℕ → Output → Output
+abbrev LeavesHere : (x : Texts) → Store → Form → Option ℕ → Place → List Row → WalkEnd → ℕ → Output → Output
     → Ending
     → Type 0
-LeavesHere store form most start walk end k old new ending = IsAllowed (IsPieceOver store) (plan_here form most start walk end k) old new ending
+LeavesHere x store form most start walk end k old new ending = IsAllowed (IsPieceOver x store) (plan_here form most start walk end k) old new ending
 
 -- the first `count` rows were printed
-abbrev PrintsFirst : Store → Form → Option ℕ → ℕ → Place → List Row → ℕ → Output → Output → Type 0
-PrintsFirst store form most count start walk k old new = Printed (IsPieceOver store) (row_items form (from_here start walk k) (take count (used most walk k))) old new
+abbrev PrintsFirst : (x : Texts) → Store → Form → Option ℕ → ℕ → Place → List Row → ℕ → Output → Output → Type 0
+PrintsFirst x store form most count start walk k old new = Printed (IsPieceOver x store) (row_items form (from_here start walk k) (take count (used most walk k))) old new
 
 -- the items of the first rows, and those of the other rows
-abbrev first_items : (form : Form) (store : Store) (most : Option ℕ) (count : ℕ) (start : Place)
+abbrev first_items : (x : Texts) → (form : Form) (store : Store) (most : Option ℕ) (count : ℕ) (start : Place)
     (walk : List Row) (end : WalkEnd) (k : ℕ) (old new : Output)
-    → PrintsFirst store form most count start walk k old new
-    → HasFirstItems (IsPieceOver store) (plan_here form most start walk end k) old new
-first_items form store most count start walk end k old new printed = record {
+    → PrintsFirst x store form most count start walk k old new
+    → HasFirstItems (IsPieceOver x store) (plan_here form most start walk end k) old new
+first_items x form store most count start walk end k old new printed = record {
   done = row_items form (from_here start walk k) (take count (used most walk k));
   rest = row_items form (place_after_rows (from_here start walk k) (take count (used most walk k))) (left_rows most count walk k);
   items_are = row_items-split form (from_here start walk k) (used most walk k) count;
@@ -142,9 +143,9 @@ pub ok_end : {T : Type 0} (P : T → Type 0) (form : Form) (wrote : Bool) (value
     → IfOk (end_of form wrote value) P
 ok_end P form wrote value holds = grind arith
 
-module _ {form : Form} {tries : Tries} {most : Option ℕ} {count : ℕ} {wrote : Bool}
+module _ (x : Texts) {form : Form} {tries : Tries} {most : Option ℕ} {count : ℕ} {wrote : Bool}
     {begun now : CursorState} {s s' : Seen} {old new : Output}
-    (kept : Listed form tries most count wrote begun now (change s s' old new)) where
+    (kept : Listed x form tries most count wrote begun now (change s s' old new)) where
   -- all rows within the limit were listed
   all_listed : (store : Store) (start : Place) (walk : List Row) (end : WalkEnd) (k : ℕ)
       (e : WalkEnd)
@@ -152,21 +153,21 @@ module _ {form : Form} {tries : Tries} {most : Option ℕ} {count : ℕ} {wrote 
       → first_end most (drop k walk) end ≡ e
       → cause_of (ending_of result) ≡ AtEnd
       → ((rows : List Row)
-      → Printed (IsPieceOver store) (row_items form (from_here start walk k) rows) old new
+      → Printed (IsPieceOver x store) (row_items form (from_here start walk k) rows) old new
       → ending_of result ≡ rows_end form rows e)
-      → PrintsFirst store form most count start walk k old new
-      → LeavesHere store form most start walk end k old new (ending_of result)
+      → PrintsFirst x store form most count start walk k old new
+      → LeavesHere x store form most start walk end k old new (ending_of result)
   all_listed store start walk end k e result count_is end_is cause ends_so printed =
       let all = rw (take_all count (used most walk k) (omega (arith, count_is))) at printed in rw (cause, end_is) (all, ends_so (used most walk k) all)
 
   ends_by_name : (store : Store) (start : Place) (rows : List Row)
-      → Printed (IsPieceOver store) (row_items form start rows) old new
+      → Printed (IsPieceOver x store) (row_items form start rows) old new
       → ending_of (end_of form wrote count) ≡ rows_end form rows Done
-  ends_by_name store start rows printed = end_of-wrote form wrote count store start rows old new printed kept.has_written
+  ends_by_name store start rows printed = end_of-wrote x form wrote count store start rows old new printed kept.has_written
 
   -- the limit is reached
   pub listing_full : is_reached most count ≡ true
-      → Lists form tries most begun now (change s s' old new) (end_of form wrote count)
+      → Lists x form tries most begun now (change s s' old new) (end_of form wrote count)
   listing_full full =
       let limit = at_limit most count full in
       record {
@@ -185,7 +186,7 @@ module _ {form : Form} {tries : Tries} {most : Option ℕ} {count : ℕ} {wrote 
                 calls = λ part. stopped_along there.along (kept.called.keeps.part part) part;
                 all = ok_end _ form wrote count (record { count_is = count_is; stands = there.along.stands; calls = λ limited. omega (arith, there.along.calls) });
               };
-          traces = traced_full wrote most went.tracing limit kept.within kept.has_written;
+          traces = traced_full x wrote most went.tracing limit kept.within kept.has_written;
         };
       }
 
@@ -213,7 +214,7 @@ module _ {form : Form} {tries : Tries} {most : Option ℕ} {count : ℕ} {wrote 
       parts : (s'.stores_added ≡ s.stores_added) × (s''.stores_added ≡ s'.stores_added)
       parts = between s s' s'' (kept.went h).ends.stays (honest_step h).stays same
 
-      there : WentAlong form tries most count begun now (change s s' old new) start walk k
+      there : WentAlong x form tries most count begun now (change s s' old new) start walk k
       there = (kept.went h).along parts.0 start walk end k on
 
       -- the step along the walk
@@ -238,16 +239,16 @@ module _ {form : Form} {tries : Tries} {most : Option ℕ} {count : ℕ} {wrote 
       at_its_end : (e : WalkEnd) (listed : Result ℕ Failure) → k + count ≡ length walk → end ≡ e
           → cause_of (ending_of listed) ≡ AtEnd
           → ((rows : List Row)
-          → Printed (IsPieceOver s.store) (row_items form (from_here start walk k) rows) old new
+          → Printed (IsPieceOver x s.store) (row_items form (from_here start walk k) rows) old new
           → ending_of listed ≡ rows_end form rows e)
-          → LeavesHere s.store form most start walk end k old new (ending_of listed)
+          → LeavesHere x s.store form most start walk end k old new (ending_of listed)
       at_its_end e listed all is cause ends_so =
           let rest : length (drop k walk) ≡ count = omega (arith, length-drop k walk, all) in
           all_listed s.store start walk end k e listed (count_all all) (first_end-all most (drop k walk) end (rw rest below) ∙ is) cause ends_so there.are_printed
 
       -- the step returned no record
       where_asked : (n : ℕ) → FailsAt n now next → (k + count ≡ length walk → MayFail end now.place)
-          → StopsAt (AtRecord n) (IsPieceOver s.store) (plan_here form most start walk end k) old new
+          → StopsAt (AtRecord n) (IsPieceOver x s.store) (plan_here form most start walk end k) old new
       where_asked n fails may =
           let rows = rows_of (shelf_of form) s.store in
           let at = from_here start walk k in
@@ -263,14 +264,14 @@ module _ {form : Form} {tries : Tries} {most : Option ℕ} {count : ℕ} {wrote 
           rw (first_end-all most rest end beyond, joined, place, whole) (end_point rows start walk end on.ends (rw (now_is, whole) at (may all))) in
           let asked : AtRecord n ≡ AtRecord (asked_at (place_after_rows at (take count (used most walk k)))) = ap AtRecord (fails.asked ∙ ap asked_at (now_is ∙ sym place)) in
           record {
-            first = first_items form s.store most count start walk end k old new there.are_printed;
+            first = first_items x form s.store most count start walk end k old new there.are_printed;
             there = rw asked (asked_first form (place_after_rows at (take count (used most walk k))) (left_rows most count walk k) (points_at_walk_end at rest (first_end most rest end)) past);
           }
 
   module _ {next : CursorState} {s'' : Seen} (wanted : is_reached most count ≡ false) where
     -- the cursor returned no record, for this reason
     pub listing_ended : (ended : Ended) → IsStep now next s' s'' (Err ended)
-        → Lists form tries most begun next (change s s'' old new) (Err (Failure.Ended ended))
+        → Lists x form tries most begun next (change s s'' old new) (Err (Failure.Ended ended))
     listing_ended ended step = record {
       keeps = called_ended (most_after form tries) refl kept.shelf kept.tries_are kept.called step tt;
       calls = calls_ended (most_after form tries) refl kept.shelf kept.tries_are kept.called step most _ tt tt;
@@ -278,7 +279,7 @@ module _ {form : Form} {tries : Tries} {most : Option ℕ} {count : ℕ} {wrote 
         ends = all_ends wanted step h;
         holds = tt;
         along = λ same start walk end k on. record { leaves = leaves h same on ended step; calls = in_all (here wanted step h same on); all = tt };
-        traces = traced_ended most (kept.went h).tracing ended step (kept.went h).ends.stays.honest (below wanted step);
+        traces = traced_ended x most (kept.went h).tracing ended step (kept.went h).ends.stays.honest (below wanted step);
       };
     }
       where
@@ -286,7 +287,7 @@ module _ {form : Form} {tries : Tries} {most : Option ℕ} {count : ℕ} {wrote 
             → {start : Place} {walk : List Row} {end : WalkEnd} {k : ℕ}
             → IsOnWalk (rows_of (shelf_of form) s.store) start walk end k begun → (e : Ended)
             → IsStep now next s' s'' (Err e)
-            → LeavesHere s.store form most start walk end k old new (Err (Failure.Ended e))
+            → LeavesHere x s.store form most start walk end k old new (Err (Failure.Ended e))
         leaves h same on (Ended.Cycle n) step = let at = stepped (here wanted step h same on) in at_its_end wanted step h same on (CycleAt n) (Err (Failure.Ended (Ended.Cycle n))) at.0 at.1 refl (λ rows printed. refl)
         leaves h same on (Ended.Missing n) step = let at = stepped (here wanted step h same on) in at_its_end wanted step h same on (MissingAt n) (Err (Failure.Ended (Ended.Missing n))) at.0 at.1 refl (λ rows printed. refl)
         leaves h same on (Ended.GaveUp n) step = where_asked wanted step h same on n step.leaves.1 (stepped (here wanted step h same on)).1
@@ -294,7 +295,7 @@ module _ {form : Form} {tries : Tries} {most : Option ℕ} {count : ℕ} {wrote 
         leaves h same on _ step = absurd ((honest_step wanted step h).answers)
 
     pub listing_done : IsStep now next s' s'' (Ok None)
-        → Lists form tries most begun next (change s s'' old new) (end_of form wrote count)
+        → Lists x form tries most begun next (change s s'' old new) (end_of form wrote count)
     listing_done step = record {
       keeps = called_ended (most_after form tries) refl kept.shelf kept.tries_are kept.called step tt;
       calls = calls_ended (most_after form tries) refl kept.shelf kept.tries_are kept.called step most _ tt (ok_end _ form wrote count (λ limit. absurd (not_at_limit most count wanted limit)));
@@ -308,14 +309,14 @@ module _ {form : Form} {tries : Tries} {most : Option ℕ} {count : ℕ} {wrote 
               calls = in_all (here wanted step h same on);
               all = ok_end _ form wrote count (record { count_is = count_all wanted step h same on at.0; stands = at.2; calls = λ limit. absurd (not_at_limit most count wanted limit) });
             };
-        traces = traced_done wrote most (kept.went h).tracing step (kept.went h).ends.stays.honest kept.within kept.has_written;
+        traces = traced_done x wrote most (kept.went h).tracing step (kept.went h).ends.stays.honest kept.within kept.has_written;
       };
     }
 
     pub listing_done-handed : (step : IsStep now next s' s'' (Ok None)) (h : IsHonest s)
         → handed_out ((listing_done step).honest h).traces.steps ≡ handed_out (kept.went h).tracing.steps
     unfolding listing_done
-    listing_done-handed step h = traced_done-handed wrote most (kept.went h).tracing step (kept.went h).ends.stays.honest kept.within kept.has_written
+    listing_done-handed step h = traced_done-handed x wrote most (kept.went h).tracing step (kept.went h).ends.stays.honest kept.within kept.has_written
 
     -- ---- a record was returned, and its piece was requested
 
@@ -349,9 +350,9 @@ module _ {form : Form} {tries : Tries} {most : Option ℕ} {count : ℕ} {wrote 
           on_more = one_more from_row last (rw (store_is same) at (piece_asked.calls (keeps_at_same (points_because_of form row) s'' last piece_asked.ends.stays.store (apart same).1)))
 
           -- the output before it
-          abbrev before : HasFirstItems (IsPieceOver s.store)
+          abbrev before : HasFirstItems (IsPieceOver x s.store)
               (plan_here form most start walk end k) old new
-          before = first_items form s.store most count start walk end k old new (there wanted step h (apart same).0 on).are_printed
+          before = first_items x form s.store most count start walk end k old new (there wanted step h (apart same).0 on).are_printed
 
           at_item : before.rest ≡ row_item form
               (place_after_rows (from_here start walk k) (take count (used most walk k))) row
@@ -362,11 +363,11 @@ module _ {form : Form} {tries : Tries} {most : Option ℕ} {count : ℕ} {wrote 
       stopped : (failure : Failure) (text : Output) → (IsHonest s''
           → AsksAt (points_because_of form row) tries s'' last (cause_of (Err failure)))
           → (IsHonest s → last.stores_added ≡ s.stores_added → (p : Plan)
-          (first : HasFirstItems (IsPieceOver s.store) p old new) (place : Place) (later : List Item)
+          (first : HasFirstItems (IsPieceOver x s.store) p old new) (place : Place) (later : List Item)
           → first.rest ≡ row_item form place row ∷ later
-          → IsAllowed (IsPieceOver s.store) p old text (Err failure))
-          → (IsHonest s → TracesListing form most begun next (change s last old text) (Err failure))
-          → Lists form tries most begun next (change s last old text) (Err failure)
+          → IsAllowed (IsPieceOver x s.store) p old text (Err failure))
+          → (IsHonest s → TracesListing x form most begun next (change s last old text) (Err failure))
+          → Lists x form tries most begun next (change s last old text) (Err failure)
       stopped failure text asks leaves traces = record {
         keeps = more_called.keeps;
         calls = called_stopped _ (count + 1) most begun next s last (Err failure) more_called;
@@ -386,22 +387,22 @@ module _ {form : Form} {tries : Tries} {most : Option ℕ} {count : ℕ} {wrote 
       -- the piece was not found
       pub listing_none : (unread : ReadError) → (IsHonest s''
           → FindsNone (points_because_of form row) tries s'' last (cause_of_unread unread))
-          → Lists form tries most begun next (change s last old new) (Err (failure_of unread))
+          → Lists x form tries most begun next (change s last old new) (Err (failure_of unread))
       listing_none unread none = stopped (failure_of unread) new (λ h. (none h).asks) (λ h same p first place later at.
-          stops_after (IsPieceOver s.store) p old new (Err (failure_of unread)) (cause_of_unread unread) first
+          stops_after (IsPieceOver x s.store) p old new (Err (failure_of unread)) (cause_of_unread unread) first
           (rw at (may_later (AtRecord (asked_at place)) (points_because_of form row) (cause_of_unread unread) (none (honest_step wanted step h).stays.honest).there)))
           (λ h.
           let lost = none (honest_step wanted step h).stays.honest in
-          traced_lost most (kept.went h).tracing step last lost.asks.ends.stays (below wanted step) unread lost.there)
+          traced_lost x most (kept.went h).tracing step last lost.asks.ends.stays (below wanted step) unread lost.there)
 
       module _ (bytes : List ℕ) (has_fault : Bool) (finds : IsHonest s''
-          → FindsIt (λ store. IsPieceOver store (OfRow form row) (piece_of bytes has_fault))
+          → FindsIt (λ store. IsPieceOver x store (OfRow form row) (piece_of bytes has_fault))
           (points_because_of form row) tries s'' last) where
         abbrev piece_text : Output
         piece_text = piece_of bytes has_fault
 
         is_text : IsHonest s → last.stores_added ≡ s.stores_added
-            → IsPieceOver s.store (OfRow form row) piece_text
+            → IsPieceOver x s.store (OfRow form row) piece_text
         is_text h same =
             let found = finds (honest_step wanted step h).stays.honest in
             let none = (apart (λ h. (finds h).asks) h same).1 in
@@ -410,16 +411,16 @@ module _ {form : Form} {tries : Tries} {most : Option ℕ} {count : ℕ} {wrote 
 
         -- a part of the piece was written
         pub listing_cut : (text : Output) → 0 < length piece_text.bytes → IsCut new text piece_text
-            → Lists form tries most begun next (change s last old text) (Err Failure.WriteFault)
+            → Lists x form tries most begun next (change s last old text) (Err Failure.WriteFault)
         listing_cut text some part = stopped Failure.WriteFault text (λ h. asks_as (finds h).asks (finds h).asks.ends.counts tt) (λ h same p first place later at.
-            cut_after (IsPieceOver s.store) p old new text (Err Failure.WriteFault) first (row_item form place row) later piece_text at (is_text h same) some part)
+            cut_after (IsPieceOver x s.store) p old new text (Err Failure.WriteFault) first (row_item form place row) later piece_text at (is_text h same) some part)
             (λ h.
             let found = finds (honest_step wanted step h).stays.honest in
-            traced_cut most (kept.went h).tracing step last found.asks.ends.stays (below wanted step) text piece_text found.is some part)
+            traced_cut x most (kept.went h).tracing step last found.asks.ends.stays (below wanted step) text piece_text found.is some part)
 
         -- the piece was written
         pub listing_more : (text : Output) → text ≡ and_then new piece_text
-            → Listed form tries most (count + 1) (wrote || not (length bytes == 0)) begun next
+            → Listed x form tries most (count + 1) (wrote || not (length bytes == 0)) begun next
             (change s last old text)
         listing_more text is = record {
           shelf = step.same.shelf ∙ kept.shelf;
@@ -438,13 +439,13 @@ module _ {form : Form} {tries : Tries} {most : Option ℕ} {count : ℕ} {wrote 
                     record {
                       along = on_more asks h same on;
                       are_printed = rw (row_items-next form at (used most walk k) count row _ (row_is (from_row asks h same on)))
-                          (printed_joined (IsPieceOver s.store) (row_items form at (take count (used most walk k))) _ old new text
+                          (printed_joined (IsPieceOver x s.store) (row_items form at (take count (used most walk k))) _ old new text
                           (there wanted step h first on).are_printed
-                          (one_printed (IsPieceOver s.store) (row_item form (place_after_rows at (take count (used most walk k))) row) piece_text new text (is_text h same) is));
+                          (one_printed (IsPieceOver x s.store) (row_item form (place_after_rows at (take count (used most walk k))) row) piece_text new text (is_text h same) is));
                     };
                 tracing =
                     let found = finds (honest_step wanted step h).stays.honest in
-                    traced_more most (kept.went h).tracing step last found.asks.ends.stays text piece_text found.is is;
+                    traced_more x most (kept.went h).tracing step last found.asks.ends.stays text piece_text found.is is;
               };
         }
 
@@ -453,7 +454,7 @@ module _ {form : Form} {tries : Tries} {most : Option ℕ} {count : ℕ} {wrote 
         unfolding listing_more
         listing_more-handed text is h =
             let found = finds (honest_step wanted step h).stays.honest in
-            traced_more-handed most (kept.went h).tracing step last found.asks.ends.stays text piece_text found.is is
+            traced_more-handed x most (kept.went h).tracing step last found.asks.ends.stays text piece_text found.is is
 
 -- ---- a new cursor
 
@@ -469,17 +470,17 @@ module _ {limits : RequestLimits} {form : Form} {from : Option ℕ} {begun : Cur
   pub fresh_room : set.len begun.ids ≤ 65536
   fresh_room = rw no_ids (omega arith)
 
-module _ {limits : RequestLimits} {form : Form} {from : Option ℕ} {begun now : CursorState}
+module _ (x : Texts) {limits : RequestLimits} {form : Form} {from : Option ℕ} {begun now : CursorState}
     {tries : Tries} {most : Option ℕ}
     {c : Change} {result : Result ℕ Failure} (fresh : IsFresh limits form from begun) where
-  pub fresh_ends : ListsHonestly form tries most begun now c result
+  pub fresh_ends : ListsHonestly x form tries most begun now c result
       → EndsFor tries (IsTrue c.seen.plain) c.seen c.seen' (cause_of (ending_of result))
   fresh_ends lists = record { stays = lists.ends.stays; grows = lists.ends.grows; counts = lists.ends.counts; plain = λ p. lists.ends.plain (p, holds_none fresh c.seen) }
 
-  pub fresh_along : ListsHonestly form tries most begun now c result
+  pub fresh_along : ListsHonestly x form tries most begun now c result
       → c.seen'.stores_added ≡ c.seen.stores_added
       → OnWalk (shelf_of form) (start_of from) c.seen.store (λ walk end.
-      ListsAlong form tries most begun now c result (start_of from) walk end 0
+      ListsAlong x form tries most begun now c result (start_of from) walk end 0
       × (c.seen'.calls ≤ c.seen.calls
       + walk_call_bound form c.seen.store tries (first_rows most walk)))
   fresh_along lists same walk end w ends =

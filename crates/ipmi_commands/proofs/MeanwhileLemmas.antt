@@ -7,32 +7,33 @@ use Rattle.ipmi_commands.specs.Below.{AreSteps, BeginsWith, Count, CursorState, 
 use Rattle.ipmi_records.specs.Sdr as sdr
 use Rattle.ipmi_commands.specs.Meanwhile.{IsTextWhile, KeepsAt, KeepsFor, OnGrowingListing}
 use Rattle.ipmi_commands.specs.Traced.{AreTextsOfSteps, IsTextAfter, IsTextOfResult, PrintsSteps, seen_next}
-use Rattle.ipmi_commands.specs.Prelude.{AreTexts, AtInventory, AtRecord, device_points, Entries, Form, IsPieceOver, entries_in, entries_job, keeping_last, bytes_of_rows, last_plan, Listing, listing, listing_plan, locator_points, NameLookup, named_points, OfRow, OnGrowingEntries, OnGrowingLastKept, OnGrowingNamed, OnGrowingPlan, OnGrowingTail, Plan, Printed, reading_points, row_items, shelf_of, points_because_of, ReadPoint, Subject, Wording}
+use Rattle.ipmi_commands.specs.Prelude.{AreTexts, AtInventory, AtRecord, device_points, EntryText, Form, IsPieceOver, named_entries, entries_job, keeping_last, bytes_of_rows, last_plan, Listing, listing, listing_plan, locator_points, NameLookup, named_points, OfRow, OnGrowingEntries, OnGrowingLastKept, OnGrowingNamed, OnGrowingPlan, OnGrowingTail, Plan, Printed, reading_points, row_items, shelf_of, points_because_of, ReadPoint, Subject}
 use Rattle.ipmi_commands.specs.Output.{and_then, Output}
 use Rattle.ipmi_commands.proofs.OutputLemmas.{nothing_then}
+use Rattle.ipmi_commands.specs.Format.{Texts}
 
 -- ---- over a part of the run
 
-pub while_first : (a b c : Seen) → KeepsStore a b → KeepsStore b c → (subject : Subject) (text : Output)
-    → IsTextWhile a b subject text → IsTextWhile a c subject text
-while_first a b c first then_ subject text is = record { store = is.store; held = held_in_first a b c first then_ is.store is.held; is = is.is }
+pub while_first : (x : Texts) → (a b c : Seen) → KeepsStore a b → KeepsStore b c → (subject : Subject) (text : Output)
+    → IsTextWhile x a b subject text → IsTextWhile x a c subject text
+while_first x a b c first then_ subject text is = record { store = is.store; held = held_in_first a b c first then_ is.store is.held; is = is.is }
 
-pub while_second : (a b c : Seen) → KeepsStore a b → KeepsStore b c → (subject : Subject) (text : Output)
-    → IsTextWhile b c subject text → IsTextWhile a c subject text
-while_second a b c first then_ subject text is = record { store = is.store; held = held_in_second a b c first then_ is.store is.held; is = is.is }
+pub while_second : (x : Texts) → (a b c : Seen) → KeepsStore a b → KeepsStore b c → (subject : Subject) (text : Output)
+    → IsTextWhile x b c subject text → IsTextWhile x a c subject text
+while_second x a b c first then_ subject text is = record { store = is.store; held = held_in_second a b c first then_ is.store is.held; is = is.is }
 
 -- over the store as it was at last
-pub while_last : (s s' : Seen) (subject : Subject) (text : Output) → IsPieceOver s'.store subject text
-    → IsTextWhile s s' subject text
-while_last s s' subject text is = record { store = s'.store; held = held_at_last s s'; is = is }
+pub while_last : (x : Texts) → (s s' : Seen) (subject : Subject) (text : Output) → IsPieceOver x s'.store subject text
+    → IsTextWhile x s s' subject text
+while_last x s s' subject text is = record { store = s'.store; held = held_at_last s s'; is = is }
 
 -- no store was added
-pub while_same : (s s' : Seen) → KeepsStore s s' → s'.stores_added ≡ s.stores_added → (subject : Subject) (text : Output)
-    → IsTextWhile s s' subject text → IsPieceOver s.store subject text
-while_same s s' keeps same subject text is =
+pub while_same : (x : Texts) → (s s' : Seen) → KeepsStore s s' → s'.stores_added ≡ s.stores_added → (subject : Subject) (text : Output)
+    → IsTextWhile x s s' subject text → IsPieceOver x s.store subject text
+while_same x s s' keeps same subject text is =
     let n : s'.stores_added - s.stores_added ≡ 0 = omega (arith, same) in
     elim (rw n at is.held) [
-      | inl at ↦ subst (λ (store : Store). IsPieceOver store subject text) (at ∙ keeps.stays same) is.is
+      | inl at ↦ subst (λ (store : Store). IsPieceOver x store subject text) (at ∙ keeps.stays same) is.is
       | inr none ↦ absurd none
     ]
 
@@ -65,11 +66,11 @@ log_later {shelf} {start} s s' log grew was =
 -- ---- inventories over a part of the run
 
 for_first : (form : Form) (a b c : Seen) → KeepsStore a b → KeepsStore b c → KeepsFor form a c → KeepsFor form a b
-for_first (Form.Device wording) a b c first then_ keeps = keeps_first (λ (store : Store). store.inventories) a b c first then_ keeps
+for_first Form.Device a b c first then_ keeps = keeps_first (λ (store : Store). store.inventories) a b c first then_ keeps
 for_first _ a b c first then_ keeps = tt
 
 pub for_second : (form : Form) (a b c : Seen) → KeepsStore a b → KeepsStore b c → KeepsFor form a c → KeepsFor form b c
-for_second (Form.Device wording) a b c first then_ keeps = keeps_second (λ (store : Store). store.inventories) a b c first then_ keeps
+for_second Form.Device a b c first then_ keeps = keeps_second (λ (store : Store). store.inventories) a b c first then_ keeps
 for_second _ a b c first then_ keeps = tt
 
 -- ---- logs as they were over the second part of a run
@@ -88,12 +89,12 @@ module _ (a b c : Seen) (first : StaysHonest a b) (then_ : StaysHonest b c) wher
         growing_second (shelf_of l.form) l.start (λ log. Holds (listing_plan l log Done)) (λ log. More (listing_plan l log Done))
         (λ log. keep (listing_plan l log Done)) (on (for_second l.form a b c first.store then_.store keeps))
 
-    last_second : (entries : Entries) (n : ℕ) (from : Option ℕ) → OnGrowingLastKept entries n from b c Holds
+    last_second : (entries : EntryText) (n : ℕ) (from : Option ℕ) → OnGrowingLastKept entries n from b c Holds
         → OnGrowingLastKept entries n from a c More
     last_second entries n from on = growing_second Sel (start_of from) _ _
         (λ log. keep (last_plan entries n (start_of from) log Done)) on
 
-    tail_second : (entries : Entries) (n : ℕ) → OnGrowingTail entries n b c Holds → OnGrowingTail entries n a c More
+    tail_second : (entries : EntryText) (n : ℕ) → OnGrowingTail entries n b c Holds → OnGrowingTail entries n a c More
     tail_second entries n on = (
       on.0,
       on.1,
@@ -103,28 +104,28 @@ module _ (a b c : Seen) (first : StaysHonest a b) (then_ : StaysHonest b c) wher
       λ rows log grew. let g = on.5 rows log grew in (g.0, g.1, keep (last_plan entries n on.1 g.0 Done) g.2),
     )
 
-    pub entries_second : (entries : Entries) (count : Count) (from : Option ℕ)
+    pub entries_second : (entries : EntryText) (count : Count) (from : Option ℕ)
         → OnGrowingPlan (keeping_last (entries_job entries count from)) b c Holds → OnGrowingEntries entries count from a c More
-    entries_second entries Count.All from on = listing_second (listing (Form.EntryLine entries) (start_of from) None) on
-    entries_second entries (Count.First n) from on = listing_second (listing (Form.EntryLine entries) (start_of from) (Some n)) on
+    entries_second entries Count.All from on = listing_second (listing (Form.Entry entries) (start_of from) None) on
+    entries_second entries (Count.First n) from on = listing_second (listing (Form.Entry entries) (start_of from) (Some n)) on
     entries_second entries (Count.Last n) from on = last_second entries n from on
     entries_second entries (Count.Tail n) from on = tail_second entries n on
 
 -- a fact about every plan
 module _ (s s' : Seen) (honest : IsHonest s) (stays : StaysHonest s s') (Holds : Plan → Type 0) (holds : (plan : Plan) → Holds plan) where
-  pub entries_growing : (entries : Entries) (count : Count) (from : Option ℕ) → OnGrowingPlan (keeping_last (entries_job entries count from)) s s' Holds
+  pub entries_growing : (entries : EntryText) (count : Count) (from : Option ℕ) → OnGrowingPlan (keeping_last (entries_job entries count from)) s s' Holds
   entries_growing entries Count.All from = λ keeps first log grew. (first, log_now s s' stays.store honest first log, holds _)
   entries_growing entries (Count.First n) from = λ keeps first log grew. (first, log_now s s' stays.store honest first log, holds _)
   entries_growing entries (Count.Last n) from = λ first log grew. (first, log_now s s' stays.store honest first log, holds _)
   entries_growing entries (Count.Tail n) from =
       (s, First, stays_refl s honest, stays, tt, λ first log grew. (first, log_now s s' stays.store honest first log, holds _))
 
-  pub named_growing : (wording : Wording) (records : List Row) (named : NameLookup) → OnGrowingNamed wording records named s s' Holds
-  named_growing wording records (NameLookup.Events Count.All from) = entries_growing (entries_in wording (bytes_of_rows records)) Count.All from
-  named_growing wording records (NameLookup.Events (Count.First n) from) = entries_growing (entries_in wording (bytes_of_rows records)) (Count.First n) from
-  named_growing wording records (NameLookup.Events (Count.Last n) from) = entries_growing (entries_in wording (bytes_of_rows records)) (Count.Last n) from
-  named_growing wording records (NameLookup.Events (Count.Tail n) from) = entries_growing (entries_in wording (bytes_of_rows records)) (Count.Tail n) from
-  named_growing wording records NameLookup.Devices = λ keeps. holds _
+  pub named_growing : (records : List Row) (named : NameLookup) → OnGrowingNamed records named s s' Holds
+  named_growing records (NameLookup.Events detail Count.All from) = entries_growing (named_entries detail (bytes_of_rows records)) Count.All from
+  named_growing records (NameLookup.Events detail (Count.First n) from) = entries_growing (named_entries detail (bytes_of_rows records)) (Count.First n) from
+  named_growing records (NameLookup.Events detail (Count.Last n) from) = entries_growing (named_entries detail (bytes_of_rows records)) (Count.Last n) from
+  named_growing records (NameLookup.Events detail (Count.Tail n) from) = entries_growing (named_entries detail (bytes_of_rows records)) (Count.Tail n) from
+  named_growing records NameLookup.Devices = λ keeps. holds _
 
 -- ---- inventories that did not change
 
@@ -156,9 +157,9 @@ locator_keeps (Ok view) s s' keeps = device_keeps (sdr.fru_of view) s s' keeps
 locator_keeps (Err fault) s s' keeps = tt
 
 row_keeps : (form : Form) (row : Row) (s s' : Seen) → KeepsFor form s s' → KeepsAt (points_because_of form row) s s'
-row_keeps (Form.Line detail kind) row s s' keeps = if_keeps _ (reading_points row.id (sdr_view_of row.bytes)) s s' (reading_keeps row.id (sdr_view_of row.bytes) s s')
-row_keeps (Form.Block wording name) row s s' keeps = named_keeps name row.id (sdr_view_of row.bytes) s s'
-row_keeps (Form.Device wording) row s s' keeps = locator_keeps (sdr_view_of row.bytes) s s' keeps
+row_keeps (Form.Record detail kind) row s s' keeps = if_keeps _ (reading_points row.id (sdr_view_of row.bytes)) s s' (reading_keeps row.id (sdr_view_of row.bytes) s s')
+row_keeps (Form.Block name) row s s' keeps = named_keeps name row.id (sdr_view_of row.bytes) s s'
+row_keeps Form.Device row s s' keeps = locator_keeps (sdr_view_of row.bytes) s s' keeps
 row_keeps _ row s s' keeps = tt
 
 -- no store was added
@@ -179,21 +180,21 @@ next_stays c s (step ∷ steps) seen' honest are after = (
       stays_trans step.before step.seen seen' made (stays_trans step.seen (seen_after step.seen steps) seen' (steps_stay step.cursor step.seen steps made.honest are.2) after),
 )
 
-module _ (form : Form) (first last : Seen) (keeps : KeepsFor form first last) where
+module _ (x : Texts) (form : Form) (first last : Seen) (keeps : KeepsFor form first last) where
   abbrev W : Subject → Output → Type 0
-  W = IsTextWhile first last
+  W = IsTextWhile x first last
 
   -- the text of one record, over the store after its requests
   pub text_while : (row : Row) (s s' : Seen) (text : Output) → StaysHonest first s → StaysHonest s s'
-      → StaysHonest s' last → IsTextAfter form row s s' text → W (OfRow form row) text
+      → StaysHonest s' last → IsTextAfter x form row s s' text → W (OfRow form row) text
   text_while row s s' text before stays after is =
       let to_here = stays_trans first s s' before stays in
       let whole = for_first form first s' last to_here.store after.store keeps in
-      while_first first s' last to_here.store after.store (OfRow form row) text
-      (while_last first s' (OfRow form row) text (is (row_keeps form row s s' (for_second form first s s' before.store stays.store whole))))
+      while_first x first s' last to_here.store after.store (OfRow form row) text
+      (while_last x first s' (OfRow form row) text (is (row_keeps form row s s' (for_second form first s s' before.store stays.store whole))))
 
   of_result : (result : Result (Option Row) Ended) (rows : List Row) (s s' : Seen) (start : Place) (text one rest : Output)
-      → StaysHonest first s → StaysHonest s s' → StaysHonest s' last → IsTextOfResult form result s s' one
+      → StaysHonest first s → StaysHonest s s' → StaysHonest s' last → IsTextOfResult x form result s s' one
       → ((at : Place) → AreTexts W (row_items form at rows) rest) → text ≡ and_then one rest
       → AreTexts W (row_items form start (with_handed result rows)) text
   of_result (Ok (Some row)) rows s s' start text one rest before stays after is more joined =
@@ -205,7 +206,7 @@ module _ (form : Form) (first last : Seen) (keeps : KeepsFor form first last) wh
 
   steps_texts : (c : CursorState) (s : Seen) (steps : List Stepped) (start : Place) (seen' : Seen) (text : Output)
       → StaysHonest first s → AreSteps c s steps → StaysHonest (seen_after s steps) seen' → StaysHonest seen' last
-      → AreTextsOfSteps form steps seen' text → AreTexts W (row_items form start (handed_out steps)) text
+      → AreTextsOfSteps x form steps seen' text → AreTexts W (row_items form start (handed_out steps)) text
   steps_texts c s [] start seen' text before are stays after texts = texts
   steps_texts c s (step ∷ steps) start seen' text before are stays after texts =
       let made = (are.1.honest are.0.honest).stays in
@@ -217,6 +218,6 @@ module _ (form : Form) (first last : Seen) (keeps : KeepsFor form first last) wh
 
   pub steps_printed : (c : CursorState) (s : Seen) (steps : List Stepped) (start : Place) (seen' : Seen) (old new : Output)
       → StaysHonest first s → AreSteps c s steps → StaysHonest (seen_after s steps) seen' → StaysHonest seen' last
-      → PrintsSteps form steps seen' old new → Printed W (row_items form start (handed_out steps)) old new
+      → PrintsSteps x form steps seen' old new → Printed W (row_items form start (handed_out steps)) old new
   steps_printed c s steps start seen' old new before are stays after printed =
       record { text = printed.text; are = steps_texts c s steps start seen' printed.text before are stays after printed.are; new_is = printed.new_is }

@@ -1,10 +1,11 @@
 -- A record with the name was found if and only if something was written.
 use Rattle.std.proofs.Common.{◌≡◌, ℕ, ◌+◌, ◌<◌, ◌≤◌, ◌==◌, ◌||◌, not, Bool, true, false, Option, Result, Ok, Err, List, [], ◌∷◌, ◌++◌, length, refl, ap, ◌∙◌, arith, length-append}
 use Rattle.ipmi_commands.specs.Below.{Failure, Place, Reading, Row, SdrFault, Seen, SdrView, sdr_view_of, Store, Done, place_after}
-use Rattle.ipmi_commands.specs.Prelude.{AreTexts, end_of, ending_of, Form, IfChosen, IsBlockIn, IsBlockOfName, IsPieceOver, IsTextWhile, OfRow, Printed, reading_for, row_items, rows_end, some_has_name, Subject, view_has_name, Wording}
+use Rattle.ipmi_commands.specs.Prelude.{AreTexts, Detail, end_of, ending_of, Form, IfChosen, IsTextOfRecord, IsBlockOfName, IsPieceOver, IsTextWhile, OfRow, Printed, reading_for, row_items, rows_end, some_has_name, Subject, view_has_name}
 use Rattle.ipmi_commands.specs.Output.{and_then, count_if, Output, piece_of}
 use Rattle.ipmi_commands.proofs.OutputLemmas.{then_nothing}
 use Rattle.ipmi_commands.specs.Traced.{IsFound}
+use Rattle.ipmi_commands.specs.Format.{Texts}
 
 -- ---- whether anything was written
 
@@ -29,27 +30,20 @@ HasText false text = text ≡ []
 
 -- ---- texts of records with a name
 
--- a block is not empty, as it begins with the word Record; an object is not empty, as it ends with a line feed
-block_some : (wording : Wording) (id : ℕ) (view : SdrView) (reading : Option Reading) (text : List ℕ)
-    → IsBlockIn wording id view reading text → HasText true text
-block_some Wording.Plain id view reading text is = grind (arith, length-append, is)
-block_some Wording.Descriptive id view reading text is = grind (arith, length-append, is)
-block_some (Wording.Json labels) id view reading text is = grind (arith, length-append, is.is_line.line_is)
-
 wrote_both : (a b : Bool) (first rest : List ℕ) → HasText a first → HasText b rest
     → HasText (a || b) (first ++ rest)
 wrote_both true b first rest x y = omega (arith, length-append first rest, x)
 wrote_both false true first rest x y = omega (arith, length-append first rest, y)
 wrote_both false false first rest x y = rw (x, y) refl
 
-module _ (wording : Wording) (name : List ℕ) (store : Store) where
+module _ (x : Texts) (name : List ℕ) (store : Store) where
   chosen_wrote : (b : Bool) (id : ℕ) (view : SdrView) (text : List ℕ)
-      → IfChosen b (λ t. IsBlockIn wording id view (reading_for store view) t) text → HasText b text
-  chosen_wrote true id view text is = block_some wording id view (reading_for store view) text is
+      → IfChosen b (λ t. IsTextOfRecord x Detail.Block id view (reading_for store view) t) text → HasText b text
+  chosen_wrote true id view text is = is.1
   chosen_wrote false id view text is = is
 
   row_wrote : (id : ℕ) (view : Result SdrView SdrFault) (text : List ℕ)
-      → IsBlockOfName wording name store id view text → HasText (view_has_name name view) text
+      → IsBlockOfName x name store id view text → HasText (view_has_name name view) text
   row_wrote id (Ok view) text is = chosen_wrote _ id view text is
   row_wrote id (Err fault) text is = is
 
@@ -70,61 +64,61 @@ both_counted false true m n x y = omega (arith, y)
 both_counted false false m n x y = omega (arith, x, y)
 
 -- something is counted if a row has the name
-pub name_counted : (wording : Wording) (name : List ℕ) (store : Store) (start : Place) (rows : List Row) (text : Output)
-    → AreTexts (IsPieceOver store) (row_items (Form.Block wording name) start rows) text
+pub name_counted : (x : Texts) → (name : List ℕ) (store : Store) (start : Place) (rows : List Row) (text : Output)
+    → AreTexts (IsPieceOver x store) (row_items (Form.Block name) start rows) text
     → HasItems (some_has_name name rows) text.pieces
-name_counted wording name store start [] text are = ap (λ (o : Output). o.pieces) are
-name_counted wording name store start (row ∷ rows) text are =
+name_counted x name store start [] text are = ap (λ (o : Output). o.pieces) are
+name_counted x name store start (row ∷ rows) text are =
     let has = view_has_name name (sdr_view_of row.bytes) in
-    let wrote = row_wrote wording name store row.id (sdr_view_of row.bytes) are.first.bytes are.is_first.is_text in
+    let wrote = row_wrote x name store row.id (sdr_view_of row.bytes) are.first.bytes are.is_first.is_text in
     let one : HasItems has are.first.pieces = rw (ap (λ (o : Output). o.pieces) are.is_first.counted) (counted_text has are.first.bytes wrote) in
     rw are.joined (both_counted has (some_has_name name rows) are.first.pieces are.rest.pieces one
-    (name_counted wording name store (place_after row.next) rows are.rest are.is_rest))
+    (name_counted x name store (place_after row.next) rows are.rest are.is_rest))
 
 -- each text is over some store
-abbrev AreOverStores : (Subject → Output → Type 0) → Type 0
-AreOverStores IsText = (subject : Subject) (text : Output) → IsText subject text → (store : Store) × IsPieceOver store subject text
+abbrev AreOverStores : (x : Texts) → (Subject → Output → Type 0) → Type 0
+AreOverStores x IsText = (subject : Subject) (text : Output) → IsText subject text → (store : Store) × IsPieceOver x store subject text
 
-module _ (IsText : Subject → Output → Type 0) (over : AreOverStores IsText) where
+module _ (x : Texts) (IsText : Subject → Output → Type 0) (over : AreOverStores x IsText) where
   -- something is printed if a row has the name
-  name_wrote : (wording : Wording) (name : List ℕ) (start : Place) (rows : List Row) (text : Output)
-      → AreTexts IsText (row_items (Form.Block wording name) start rows) text
+  name_wrote : (name : List ℕ) (start : Place) (rows : List Row) (text : Output)
+      → AreTexts IsText (row_items (Form.Block name) start rows) text
       → HasText (some_has_name name rows) text.bytes
-  name_wrote wording name start [] text are = ap (λ (o : Output). o.bytes) are
-  name_wrote wording name start (row ∷ rows) text are =
-      let of_row = over (OfRow (Form.Block wording name) row) are.first are.is_first in
-      rw are.joined (wrote_both _ _ are.first.bytes are.rest.bytes (row_wrote wording name of_row.0 row.id (sdr_view_of row.bytes) are.first.bytes of_row.1.is_text)
-      (name_wrote wording name (place_after row.next) rows are.rest are.is_rest))
+  name_wrote name start [] text are = ap (λ (o : Output). o.bytes) are
+  name_wrote name start (row ∷ rows) text are =
+      let of_row = over (OfRow (Form.Block name) row) are.first are.is_first in
+      rw are.joined (wrote_both _ _ are.first.bytes are.rest.bytes (row_wrote x name of_row.0 row.id (sdr_view_of row.bytes) are.first.bytes of_row.1.is_text)
+      (name_wrote name (place_after row.next) rows are.rest are.is_rest))
 
   -- whether something was written decides the end of the listing
   end_by : (form : Form) (wrote : Bool) (count : ℕ) (start : Place) (rows : List Row) (old new : Output)
       → Printed IsText (row_items form start rows) old new → Wrote wrote old new
       → ending_of (end_of form wrote count) ≡ rows_end form rows Done
-  end_by (Form.Block wording name) wrote count start rows old new printed has =
-      grind (arith, length-append, ap (λ (o : Output). length o.bytes) printed.new_is, name_wrote wording name start rows printed.text printed.are)
+  end_by (Form.Block name) wrote count start rows old new printed has =
+      grind (arith, length-append, ap (λ (o : Output). length o.bytes) printed.new_is, name_wrote name start rows printed.text printed.are)
   end_by _ wrote count start rows old new printed has = refl
 
-pub end_of-wrote : (form : Form) (wrote : Bool) (count : ℕ) (store : Store) (start : Place)
+pub end_of-wrote : (x : Texts) → (form : Form) (wrote : Bool) (count : ℕ) (store : Store) (start : Place)
     (rows : List Row) (old new : Output)
-    → Printed (IsPieceOver store) (row_items form start rows) old new → Wrote wrote old new
+    → Printed (IsPieceOver x store) (row_items form start rows) old new → Wrote wrote old new
     → ending_of (end_of form wrote count) ≡ rows_end form rows Done
-end_of-wrote form wrote count store start rows old new printed has =
-    end_by (IsPieceOver store) (λ subject text is. (store, is)) form wrote count start rows old new printed has
+end_of-wrote x form wrote count store start rows old new printed has =
+    end_by x (IsPieceOver x store) (λ subject text is. (store, is)) form wrote count start rows old new printed has
 
 -- ---- while the store changes
 
-while_over : (s s' : Seen) → AreOverStores (IsTextWhile s s')
-while_over s s' subject text is = (is.store, is.is)
+while_over : (x : Texts) → (s s' : Seen) → AreOverStores x (IsTextWhile x s s')
+while_over x s s' subject text is = (is.store, is.is)
 
-pub while_found : (form : Form) (s s' : Seen) (start : Place) (rows : List Row) (old new : Output)
-    → Printed (IsTextWhile s s') (row_items form start rows) old new → IsFound form old new
+pub while_found : (x : Texts) → (form : Form) (s s' : Seen) (start : Place) (rows : List Row) (old new : Output)
+    → Printed (IsTextWhile x s s') (row_items form start rows) old new → IsFound form old new
     → Ok tt ≡ rows_end form rows Done
-while_found (Form.Block wording name) s s' start rows old new printed found =
-    end_by (IsTextWhile s s') (while_over s s') (Form.Block wording name) true 0 start rows old new printed found
-while_found _ s s' start rows old new printed found = refl
+while_found x (Form.Block name) s s' start rows old new printed found =
+    end_by x (IsTextWhile x s s') (while_over x s s') (Form.Block name) true 0 start rows old new printed found
+while_found x _ s s' start rows old new printed found = refl
 
-pub while_none : (wording : Wording) (name : List ℕ) (s s' : Seen) (start : Place) (rows : List Row) (old new : Output)
-    → Printed (IsTextWhile s s') (row_items (Form.Block wording name) start rows) old new → new ≡ old
-    → Err (Failure.NoName name) ≡ rows_end (Form.Block wording name) rows Done
-while_none wording name s s' start rows old new printed none =
-    end_by (IsTextWhile s s') (while_over s s') (Form.Block wording name) false 0 start rows old new printed none
+pub while_none : (x : Texts) → (name : List ℕ) (s s' : Seen) (start : Place) (rows : List Row) (old new : Output)
+    → Printed (IsTextWhile x s s') (row_items (Form.Block name) start rows) old new → new ≡ old
+    → Err (Failure.NoName name) ≡ rows_end (Form.Block name) rows Done
+while_none x name s s' start rows old new printed none =
+    end_by x (IsTextWhile x s s') (while_over x s s') (Form.Block name) false 0 start rows old new printed none

@@ -6,7 +6,7 @@ use Rattle.std.proofs.lemmas.Nat.{mul-le}
 use Rattle.ipmi_commands.specs.Below.{AllOf, Count, CycleAt, device_name, Done, Ending, EndsBy, Failure, First, FoundIsRow, IsHonest, IsShelf, IsStore, IsWalk, is_whole_record, MissingAt, OnGrowing, Place, place_after, records_in, Row, rows_of, Sdr, Seen, stays_refl, Store, WalkEnd}
 use Rattle.ipmi_commands.specs.Named.{end_after, ending_then, listed_end, PrintsDevices, PrintsPlan, walk_of}
 use Rattle.ipmi_commands.specs.declared.named.RecordsEnd.{RecordsEnd}
-use Rattle.ipmi_commands.specs.Prelude.{after_names, AreTexts, AtEnd, AtInventory, bytes_of_rows, calls_for_devices, calls_for_point, inventories_plan, WritesRecords, WritesWhole, walk_call_bound, entries_job, keeping_last, OnEntries, Cause, cause_of, Change, change, Dishonest, end_after_names, ending_of, end_points_of_last, EndsNamed, EndsFor, EndsListing, Entries, entries_in, Form, GaveUp, HasFirstItems, IsAllowed, IsAmong, IsPage, IsPieceOver, IsTextWhile, Item, Job, Leaves, listing, listing_plan, MayEnd, most_calls, most_named, most_on_walk, NameLookup, next_points, NoMemory, NoOutput, OfRow, OnNamed, FollowsPlan, Plan, Printed, Refused, row_items, rows_end, Runs, ReadPoint, points_at_walk_end, points_before, points_of_walk, Subject, TracesJob, with_first_points, Wording, inventory_call_bound}
+use Rattle.ipmi_commands.specs.Prelude.{after_names, AreTexts, AtEnd, AtInventory, bytes_of_rows, calls_for_devices, calls_for_point, inventories_plan, WritesRecords, WritesWhole, walk_call_bound, entries_job, keeping_last, OnEntries, Cause, cause_of, Change, change, Dishonest, end_after_names, ending_of, end_points_of_last, EndsNamed, EndsFor, EndsListing, EntryText, named_entries, Form, GaveUp, HasFirstItems, IsAllowed, IsAmong, IsPage, IsPieceOver, IsTextWhile, Item, Job, Leaves, listing, listing_plan, MayEnd, most_calls, most_named, most_on_walk, NameLookup, next_points, NoMemory, NoOutput, OfRow, OnNamed, FollowsPlan, Plan, Printed, Refused, row_items, rows_end, Runs, ReadPoint, points_at_walk_end, points_before, points_of_walk, Subject, TracesJob, with_first_points, inventory_call_bound}
 use Rattle.ipmi_commands.specs.Output.{no_output, Output}
 use Rattle.ipmi_commands.specs.declared.limits.Tries.{Tries}
 use Rattle.ipmi_commands.proofs.CountLemmas.{between, ends_here, ends_since}
@@ -18,6 +18,9 @@ use Rattle.ipmi_commands.proofs.LastLemmas.{leaves_wide, next_points-first}
 use Rattle.ipmi_commands.proofs.PointLemmas.{among_after, among_before, quiet_there}
 use Rattle.ipmi_commands.proofs.TailLemmas.{tail_all, tail_map}
 use Rattle.ipmi_commands.proofs.WholeLemmas.{whole_record}
+use Rattle.ipmi_commands.specs.Format.{Texts}
+use Rattle.ipmi_commands.specs.Plain.{plain_texts}
+use Rattle.ipmi_commands.specs.declared.format.Detail.{Detail}
 
 -- ---- the bytes of the records
 
@@ -58,7 +61,7 @@ some_is a b is = cc is
 -- ---- entries with the names of their sensors
 
 -- the listing that `count` selects follows its plan
-module _ (entries : Entries) (from : Option ℕ) (tries : Tries) (store : Store) (Holds : Plan → ℕ → Type 0) where
+module _ (entries : EntryText) (from : Option ℕ) (tries : Tries) (store : Store) (Holds : Plan → ℕ → Type 0) where
   entries_map : (More : Plan → ℕ → Type 0) (count : Count) → ((plan : Plan) (calls : ℕ) → Holds plan calls → More plan calls)
       → FollowsPlan (keeping_last (entries_job entries count from)) tries store Holds → OnEntries entries count from tries store More
   entries_map More Count.All keep on = λ walk end w ends. keep _ _ (on walk end w ends)
@@ -79,53 +82,53 @@ module _ (entries : Entries) (from : Option ℕ) (tries : Tries) (store : Store)
   job_all (Count.Tail n) holds = tail_all entries n tries store Holds (λ points plan calls some. holds _ calls)
 
 -- a fact about every plan
-pub named_all : (wording : Wording) (records : List Row) (end : WalkEnd) (tries : Tries) (store : Store) (Holds : Plan → ℕ → Type 0)
-    (named : NameLookup) → ((plan : Plan) (calls : ℕ) → Holds plan calls) → OnNamed wording records end named tries store Holds
-named_all wording records end tries store Holds (NameLookup.Events count from) holds =
-    entries_all (entries_in wording (bytes_of_rows records)) from tries store Holds count holds
-named_all wording records end tries store Holds NameLookup.Devices holds = holds _ _
+pub named_all : (records : List Row) (end : WalkEnd) (tries : Tries) (store : Store) (Holds : Plan → ℕ → Type 0)
+    (named : NameLookup) → ((plan : Plan) (calls : ℕ) → Holds plan calls) → OnNamed records end named tries store Holds
+named_all records end tries store Holds (NameLookup.Events detail count from) holds =
+    entries_all (named_entries detail (bytes_of_rows records)) from tries store Holds count holds
+named_all records end tries store Holds NameLookup.Devices holds = holds _ _
 
-entries_calls : (entries : Entries) (count : Count) (from : Option ℕ) (tries : Tries)
-    → most_calls (keeping_last (entries_job entries count from)) tries ≤ most_named (NameLookup.Events count from) tries
-entries_calls entries Count.All from tries = omega arith
-entries_calls entries (Count.First n) from tries = omega arith
-entries_calls entries (Count.Last n) from tries = omega arith
-entries_calls entries (Count.Tail n) from tries = omega arith
+entries_calls : (detail : Detail) (entries : EntryText) (count : Count) (from : Option ℕ) (tries : Tries)
+    → most_calls (keeping_last (entries_job entries count from)) tries ≤ most_named (NameLookup.Events detail count from) tries
+entries_calls detail entries Count.All from tries = omega arith
+entries_calls detail entries (Count.First n) from tries = omega arith
+entries_calls detail entries (Count.Last n) from tries = omega arith
+entries_calls detail entries (Count.Tail n) from tries = omega arith
 
-pub entries_end : (wording : Wording) (entries : Entries) (count : Count) (from : Option ℕ) (seen : Seen) (ending : Ending)
-    → EndsListing (Form.EntryLine entries) seen ending → EndsNamed wording (NameLookup.Events count from) seen ending
-entries_end wording entries count from seen ending ends = grind arith
+pub entries_end : (detail : Detail) (entries : EntryText) (count : Count) (from : Option ℕ) (seen : Seen) (ending : Ending)
+    → EndsListing (Form.Entry entries) seen ending → EndsNamed (NameLookup.Events detail count from) seen ending
+entries_end detail entries count from seen ending ends = grind arith
 
-entries_may : (wording : Wording) (entries : Entries) (count : Count) (from : Option ℕ) (c : Change) (ending : Ending)
-    → MayEnd (keeping_last (entries_job entries count from)) c ending → EndsNamed wording (NameLookup.Events count from) c.seen' ending
-entries_may wording entries Count.All from c ending ends = entries_end wording entries Count.All from c.seen' ending ends
-entries_may wording entries (Count.First n) from c ending ends = entries_end wording entries (Count.First n) from c.seen' ending ends
-entries_may wording entries (Count.Last n) from c ending ends = entries_end wording entries (Count.Last n) from c.seen' ending ends
-entries_may wording entries (Count.Tail n) from c ending ends = entries_end wording entries (Count.Tail n) from c.seen' ending ends
+entries_may : (x : Texts) → (detail : Detail) (entries : EntryText) (count : Count) (from : Option ℕ) (c : Change) (ending : Ending)
+    → MayEnd x (keeping_last (entries_job entries count from)) c ending → EndsNamed (NameLookup.Events detail count from) c.seen' ending
+entries_may x detail entries Count.All from c ending ends = entries_end detail entries Count.All from c.seen' ending ends
+entries_may x detail entries (Count.First n) from c ending ends = entries_end detail entries (Count.First n) from c.seen' ending ends
+entries_may x detail entries (Count.Last n) from c ending ends = entries_end detail entries (Count.Last n) from c.seen' ending ends
+entries_may x detail entries (Count.Tail n) from c ending ends = entries_end detail entries (Count.Tail n) from c.seen' ending ends
 
 -- out of memory for the table of sensors
-memory_end : (entries : Entries) (count : Count) (from : Option ℕ) (c : Change) → MayEnd (keeping_last (entries_job entries count from)) c (Err Failure.OutOfMemory)
-memory_end entries Count.All from c = tt
-memory_end entries (Count.First n) from c = tt
-memory_end entries (Count.Last n) from c = tt
-memory_end entries (Count.Tail n) from c = tt
+memory_end : (x : Texts) → (entries : EntryText) (count : Count) (from : Option ℕ) (c : Change) → MayEnd x (keeping_last (entries_job entries count from)) c (Err Failure.OutOfMemory)
+memory_end x entries Count.All from c = tt
+memory_end x entries (Count.First n) from c = tt
+memory_end x entries (Count.Last n) from c = tt
+memory_end x entries (Count.Tail n) from c = tt
 
-memory_traces : (entries : Entries) (count : Count) (from : Option ℕ) (s : Seen) (text : Output)
-    → TracesJob (keeping_last (entries_job entries count from)) (change s s text text) (Err Failure.OutOfMemory)
-memory_traces entries Count.All from s text = (Err Failure.OutOfMemory, refl, inl (inl refl, refl, refl))
-memory_traces entries (Count.First n) from s text = (Err Failure.OutOfMemory, refl, inl (inl refl, refl, refl))
-memory_traces entries (Count.Last n) from s text = inl (refl, refl, refl)
-memory_traces entries (Count.Tail n) from s text = inl (tt, refl)
+memory_traces : (x : Texts) → (entries : EntryText) (count : Count) (from : Option ℕ) (s : Seen) (text : Output)
+    → TracesJob x (keeping_last (entries_job entries count from)) (change s s text text) (Err Failure.OutOfMemory)
+memory_traces x entries Count.All from s text = (Err Failure.OutOfMemory, refl, inl (inl refl, refl, refl))
+memory_traces x entries (Count.First n) from s text = (Err Failure.OutOfMemory, refl, inl (inl refl, refl, refl))
+memory_traces x entries (Count.Last n) from s text = inl (refl, refl, refl)
+memory_traces x entries (Count.Tail n) from s text = inl (tt, refl)
 
-pub events_without_memory : (entries : Entries) (count : Count) (from : Option ℕ) (tries : Tries) (s : Seen) (text : Output)
-    → Runs (keeping_last (entries_job entries count from)) tries (change s s text text) (Err Failure.OutOfMemory)
-events_without_memory entries count from tries s text = record {
+pub events_without_memory : (x : Texts) → (entries : EntryText) (count : Count) (from : Option ℕ) (tries : Tries) (s : Seen) (text : Output)
+    → Runs x (keeping_last (entries_job entries count from)) tries (change s s text text) (Err Failure.OutOfMemory)
+events_without_memory x entries count from tries s text = record {
   calls = omega arith;
-  ends = memory_end entries count from (change s s text text);
+  ends = memory_end x entries count from (change s s text text);
   why = λ h. ends_here h refl tt;
-  prints = λ h same. job_all entries from tries s.store _ count (λ plan calls. (no_items (IsPieceOver s.store) plan text text refl, omega arith));
-  grows = λ h. entries_growing s s h (stays_refl s h) _ (λ plan. no_items (IsTextWhile s s) plan text text refl) entries count from;
-  traces = λ h. memory_traces entries count from s text;
+  prints = λ h same. job_all entries from tries s.store _ count (λ plan calls. (no_items (IsPieceOver x s.store) plan text text refl, omega arith));
+  grows = λ h. entries_growing s s h (stays_refl s h) _ (λ plan. no_items (IsTextWhile x s s) plan text text refl) entries count from;
+  traces = λ h. memory_traces x entries count from s text;
 }
 
 -- ---- the walk of the records was not finished
@@ -140,12 +143,12 @@ not_at_end records Done result failure is at = grind arith
 not_at_end records (CycleAt n) result failure is at = grind arith
 not_at_end records (MissingAt n) result failure is at = grind arith
 
-module _ (IsText : Subject → Output → Type 0) (records : List Row) (end : WalkEnd) (plan : Plan) (kept text : Output) where
+module _ (IsRead IsText : Subject → Output → Type 0) (records : List Row) (end : WalkEnd) (plan : Plan) (kept text : Output) where
   abbrev q : Plan
   q = after_names records end plan
 
   -- the run stops at a point of that walk
-  stop_there : (first : HasFirstItems IsText (records_plan records end) no_output kept) (point : ReadPoint)
+  stop_there : (first : HasFirstItems IsRead (records_plan records end) no_output kept) (point : ReadPoint)
       → IsAmong (next_points first.rest (points_at_walk_end First records end)) point
       → IsAmong (next_points q.items q.end_points) point
   stop_there first point there =
@@ -165,7 +168,7 @@ module _ (IsText : Subject → Output → Type 0) (records : List Row) (end : Wa
 
   pub stop_by : (result : Result Place Failure) (failure : Failure) → walk_of result ≡ Err failure
       → (cause : Cause) → cause_of (ending_of result) ≡ cause
-      → Leaves IsText (records_plan records end) no_output kept (ending_of result) cause
+      → Leaves IsRead (records_plan records end) no_output kept (ending_of result) cause
       → IsAllowed IsText q text text (Err failure)
   stop_by result failure is AtEnd at leaves = absurd (not_at_end records end result failure is leaves.1)
   stop_by result failure is (GaveUp point) at leaves =
@@ -194,12 +197,12 @@ walked_end records (CycleAt n) result walked is at = grind arith
 walked_end records (MissingAt n) result walked is at = grind arith
 
 -- the run ends with this failure before anything is printed
-module _ (tries : Tries) (s s' : Seen) (kept : Output) (wording : Wording) (named : NameLookup)
+module _ (x : Texts) (tries : Tries) (s s' : Seen) (kept : Output) (named : NameLookup)
     (calls : s'.calls ≤ s.calls + most_on_walk Form.Bytes tries) where
   pub failed_ends : (named : NameLookup) (result : Result Place Failure) (failure : Failure)
       → walk_of result ≡ Err failure → EndsListing Form.Bytes s' (ending_of result)
-      → EndsNamed wording named s' (Err failure)
-  failed_ends (NameLookup.Events count from) result failure is ends = grind arith
+      → EndsNamed named s' (Err failure)
+  failed_ends (NameLookup.Events detail count from) result failure is ends = grind arith
   failed_ends NameLookup.Devices result failure is ends = grind arith
 
   pub failed_for : (IsPlain : Type 0) (result : Result Place Failure) (failure : Failure)
@@ -209,16 +212,16 @@ module _ (tries : Tries) (s s' : Seen) (kept : Output) (wording : Wording) (name
 
   pub names_failed : (text : Output) (result : Result Place Failure) (failure : Failure)
       → walk_of result ≡ Err failure → EndsListing Form.Bytes s' (ending_of result)
-      → (IsHonest s → IsPage Form.Bytes First tries None (change s s' no_output kept) result)
-      → Runs (Job.NameLookup wording named) tries (change s s' text text) (Err failure)
+      → (IsHonest s → IsPage plain_texts Form.Bytes First tries None (change s s' no_output kept) result)
+      → Runs x (Job.NameLookup named) tries (change s s' text text) (Err failure)
   names_failed text result failure is ends page_of = record {
     calls = omega (arith, calls);
     ends = failed_ends named result failure is ends;
     why = λ h. failed_for (IsTrue s.plain) result failure is (page_of h).ends;
     prints = λ h same records end w ends_.
         let along = (page_of h).along same records end w ends_ in
-        named_all wording records end tries s.store _ named (λ plan calls. (
-          stop_by (IsPieceOver s.store) records end plan kept text result failure is (cause_of (ending_of result)) refl along.leaves,
+        named_all records end tries s.store _ named (λ plan calls. (
+          stop_by (IsPieceOver plain_texts s.store) (IsPieceOver x s.store) records end plan kept text result failure is (cause_of (ending_of result)) refl along.leaves,
           omega (arith, along.calls),
         ));
     grows = λ h first log grew.
@@ -226,16 +229,16 @@ module _ (tries : Tries) (s s' : Seen) (kept : Output) (wording : Wording) (name
         let walked = (page_of h).grows tt first log grew in (
           walked.0,
           walked.1,
-          named_growing s s' h ends _ (λ plan. stop_by (IsTextWhile s s') walked.0 Done plan kept text result failure is (cause_of (ending_of result)) refl walked.2) wording walked.0 named,
+          named_growing s s' h ends _ (λ plan. stop_by (IsTextWhile plain_texts s s') (IsTextWhile x s s') walked.0 Done plan kept text result failure is (cause_of (ending_of result)) refl walked.2) walked.0 named,
         );
     traces = λ h. tt;
   }
 
 -- ---- after the walk
 
-pub then_ends : (wording : Wording) (count : Count) (from : Option ℕ) (seen : Seen) (ending : Ending) (walked : RecordsEnd)
-    → EndsNamed wording (NameLookup.Events count from) seen ending → EndsNamed wording (NameLookup.Events count from) seen (ending_then ending walked)
-then_ends wording count from seen ending walked ends = grind arith
+pub then_ends : (detail : Detail) (count : Count) (from : Option ℕ) (seen : Seen) (ending : Ending) (walked : RecordsEnd)
+    → EndsNamed (NameLookup.Events detail count from) seen ending → EndsNamed (NameLookup.Events detail count from) seen (ending_then ending walked)
+then_ends detail count from seen ending walked ends = grind arith
 
 pub then_for : (ending : Ending) (walked : RecordsEnd) → cause_of (ending_then ending walked) ≡ cause_of ending
 then_for ending walked = grind arith
@@ -254,12 +257,12 @@ then_allowed IsText records end plan old new ending walked end_is allowed =
 
 -- ---- all devices
 
-listed_is : (wording : Wording) (records : List Row) (end : WalkEnd) (result : Result Place Failure) (walked : RecordsEnd)
+listed_is : (records : List Row) (end : WalkEnd) (result : Result Place Failure) (walked : RecordsEnd)
     → walk_of result ≡ Ok walked → ending_of result ≡ rows_end Form.Bytes records end
-    → listed_end walked ≡ rows_end (Form.Device wording) records end
-listed_is wording records Done result walked is at = grind arith
-listed_is wording records (CycleAt n) result walked is at = grind arith
-listed_is wording records (MissingAt n) result walked is at = grind arith
+    → listed_end walked ≡ rows_end Form.Device records end
+listed_is records Done result walked is at = grind arith
+listed_is records (CycleAt n) result walked is at = grind arith
+listed_is records (MissingAt n) result walked is at = grind arith
 
 -- rows with these bytes, and such an end
 bytes_with : (records : List (List ℕ)) → bytes_of_rows (map row_with records) ≡ records
@@ -271,11 +274,11 @@ end_of_walk RecordsEnd.Whole = Done
 end_of_walk (RecordsEnd.Cycle n) = CycleAt n
 end_of_walk (RecordsEnd.Missing n) = MissingAt n
 
-listed_with : (wording : Wording) (rows : List Row) (walked : RecordsEnd)
-    → listed_end walked ≡ rows_end (Form.Device wording) rows (end_of_walk walked)
-listed_with wording rows RecordsEnd.Whole = refl
-listed_with wording rows (RecordsEnd.Cycle n) = refl
-listed_with wording rows (RecordsEnd.Missing n) = refl
+listed_with : (rows : List Row) (walked : RecordsEnd)
+    → listed_end walked ≡ rows_end Form.Device rows (end_of_walk walked)
+listed_with rows RecordsEnd.Whole = refl
+listed_with rows (RecordsEnd.Cycle n) = refl
+listed_with rows (RecordsEnd.Missing n) = refl
 
 -- at most 65,536 records were written
 few : RecordsAreFound → (bytes : List ℕ) → (count : ℕ) × (count ≤ 65536) × WritesRecords count [] bytes → length (records_in bytes) ≤ 65536
@@ -293,16 +296,16 @@ few_calls : (count each : ℕ) → count ≤ 65536 → (count + 1) * each ≤ 65
 few_calls count each few = mul-le (count + 1) each 65537 each (omega (arith, few)) (omega arith)
 
 -- the walk of the records is also that of the devices
-devices_allowed : (IsText : Subject → Output → Type 0) (wording : Wording) (records : List Row) (end : WalkEnd) (old new : Output) (ending : Ending)
-    → let plan = inventories_plan wording (device_name 0 (bytes_of_rows records)) records end in
+devices_allowed : (IsText : Subject → Output → Type 0) (records : List Row) (end : WalkEnd) (old new : Output) (ending : Ending)
+    → let plan = inventories_plan (device_name 0 (bytes_of_rows records)) records end in
     IsAllowed IsText plan old new ending → IsAllowed IsText (after_names records end plan) old new ending
-devices_allowed IsText wording records end old new ending allowed =
-    let plan = inventories_plan wording (device_name 0 (bytes_of_rows records)) records end in
+devices_allowed IsText records end old new ending allowed =
+    let plan = inventories_plan (device_name 0 (bytes_of_rows records)) records end in
     leaves_wide IsText (points_before records end plan) plan plan.end_points (end_after_names end plan.end) refl
     (λ point among. among_after (points_of_walk First records end) (next_points plan.items plan.end_points) point among)
     old new ending ending (cause_of ending) (λ is. is ∙ kept_end end) allowed
   where
-    kept_end : (end : WalkEnd) → rows_end (Form.Device wording) records end ≡ end_after_names end (rows_end (Form.Device wording) records end)
+    kept_end : (end : WalkEnd) → rows_end Form.Device records end ≡ end_after_names end (rows_end Form.Device records end)
     kept_end Done = refl
     kept_end (CycleAt n) = refl
     kept_end (MissingAt n) = refl
@@ -310,9 +313,9 @@ devices_allowed IsText wording records end old new ending allowed =
 -- ---- after the walk of the records
 
 -- the walk of the records, over an honest controller
-module _ (look_row : FoundIsRow) (split : RecordsAreFound) (tries : Tries) (s s' s'' : Seen) (kept old new : Output) (wording : Wording)
+module _ (x : Texts) (look_row : FoundIsRow) (split : RecordsAreFound) (tries : Tries) (s s' s'' : Seen) (kept old new : Output) (detail : Detail)
     (result : Result Place Failure) (walked : RecordsEnd) (is : walk_of result ≡ Ok walked)
-    (page_of : IsHonest s → IsPage Form.Bytes First tries None (change s s' no_output kept) result) where
+    (page_of : IsHonest s → IsPage plain_texts Form.Bytes First tries None (change s s' no_output kept) result) where
   abbrev read_ends : IsHonest s → EndsFor tries (IsTrue s.plain) s s' AtEnd
   read_ends h = rw (walked_at_end result walked is) at (page_of h).ends
 
@@ -324,21 +327,21 @@ module _ (look_row : FoundIsRow) (split : RecordsAreFound) (tries : Tries) (s s'
   records_of_walk h same records end w ends =
       let along = (page_of h).along same records end w ends in
       let all = rw (walked_at_end result walked is) at along.leaves in
-      (read_records look_row split (IsPieceOver s.store) (λ row text is. is.is_text) s.store records kept h.store w.of_shelf all.0, all.1, along.calls)
+      (read_records look_row split (IsPieceOver plain_texts s.store) (λ row text is. is.is_text) s.store records kept h.store w.of_shelf all.0, all.1, along.calls)
 
   pub records_of_log : IsHonest s → OnGrowing Sdr First s s' (λ records.
       (records_in kept.bytes ≡ bytes_of_rows records) × (ending_of result ≡ rows_end Form.Bytes records Done))
   records_of_log h = λ first log grew.
       let read = (page_of h).grows tt first log grew in
       let all = rw (walked_at_end result walked is) at read.2 in
-      (read.0, read.1, (read_records look_row split (IsTextWhile s s') (λ row text is. is.is.is_text) read.1.store read.0 kept read.1.is_store read.1.is_log.walks.of_shelf all.0, all.1))
+      (read.0, read.1, (read_records look_row split (IsTextWhile plain_texts s s') (λ row text is. is.is.is_text) read.1.store read.0 kept read.1.is_store read.1.is_log.walks.of_shelf all.0, all.1))
 
   pub events_run : (count : Count) (from : Option ℕ) (ending : Ending) → s'.calls ≤ s.calls + most_on_walk Form.Bytes tries
-      → Runs (keeping_last (entries_job (entries_in wording (records_in kept.bytes)) count from)) tries (change s' s'' old new) ending
-      → Runs (Job.NameLookup wording (NameLookup.Events count from)) tries (change s s'' old new) (ending_then ending walked)
+      → Runs x (keeping_last (entries_job (named_entries detail (records_in kept.bytes)) count from)) tries (change s' s'' old new) ending
+      → Runs x (Job.NameLookup (NameLookup.Events detail count from)) tries (change s s'' old new) (ending_then ending walked)
   events_run count from ending calls runs = record {
-    calls = omega (arith, calls, runs.calls, entries_calls (entries_in wording (records_in kept.bytes)) count from tries);
-    ends = then_ends wording count from s'' ending walked (entries_may wording (entries_in wording (records_in kept.bytes)) count from (change s' s'' old new) ending runs.ends);
+    calls = omega (arith, calls, runs.calls, entries_calls detail (named_entries detail (records_in kept.bytes)) count from tries);
+    ends = then_ends detail count from s'' ending walked (entries_may x detail (named_entries detail (records_in kept.bytes)) count from (change s' s'' old new) ending runs.ends);
     why = λ h.
         let ends = read_ends h in
         rw (then_for ending walked) (ends_since ends ends.stays.plain (runs.why ends.stays.honest));
@@ -350,8 +353,8 @@ module _ (look_row : FoundIsRow) (split : RecordsAreFound) (tries : Tries) (s s'
         λ records end w ends_.
         let walk = records_of_walk h since.0 records end w ends_ in
         let on = rw walk.0 at printed in
-        entries_map (entries_in wording (bytes_of_rows records)) from tries s.store _ _ count (λ plan calls_. λ both. (
-          then_allowed (IsPieceOver s.store) records end plan old new ending walked (walked_end records end result walked is walk.1) both.0,
+        entries_map (named_entries detail (bytes_of_rows records)) from tries s.store _ _ count (λ plan calls_. λ both. (
+          then_allowed (IsPieceOver x s.store) records end plan old new ending walked (walked_end records end result walked is walk.1) both.0,
           omega (arith, both.1, walk.2),
         )) on;
     grows = λ h first log grew.
@@ -363,11 +366,11 @@ module _ (look_row : FoundIsRow) (split : RecordsAreFound) (tries : Tries) (s s'
         let on = rw read.2.0 at (runs.grows ends.stays.honest) in (
           read.0,
           log_first s s' s'' a b first read.0 read.1,
-          entries_second s s' s'' ends.stays later.stays (λ plan. IsAllowed (IsTextWhile s' s'') plan old new ending)
-              (λ plan. IsAllowed (IsTextWhile s s'') (after_names read.0 Done plan) old new (ending_then ending walked))
-              (λ plan allowed. then_allowed (IsTextWhile s s'') read.0 Done plan old new ending walked (walked_end read.0 Done result walked is read.2.1)
-              (leaves_map (IsTextWhile s' s'') (IsTextWhile s s'') (while_second s s' s'' a b) plan old new ending (cause_of ending) allowed))
-              (entries_in wording (bytes_of_rows read.0)) count from on,
+          entries_second s s' s'' ends.stays later.stays (λ plan. IsAllowed (IsTextWhile x s' s'') plan old new ending)
+              (λ plan. IsAllowed (IsTextWhile x s s'') (after_names read.0 Done plan) old new (ending_then ending walked))
+              (λ plan allowed. then_allowed (IsTextWhile x s s'') read.0 Done plan old new ending walked (walked_end read.0 Done result walked is read.2.1)
+              (leaves_map (IsTextWhile x s' s'') (IsTextWhile x s s'') (while_second x s s' s'' a b) plan old new ending (cause_of ending) allowed))
+              (named_entries detail (bytes_of_rows read.0)) count from on,
         );
     traces = λ h. tt;
   }
@@ -375,9 +378,9 @@ module _ (look_row : FoundIsRow) (split : RecordsAreFound) (tries : Tries) (s s'
   pub devices_run : (ending : Ending) → s'.calls ≤ s.calls + most_on_walk Form.Bytes tries
       → WritesWhole Form.Bytes [] kept.bytes (ending_of result)
       → s''.calls ≤ s'.calls + (length (records_in kept.bytes) + 1) * inventory_call_bound tries 65535
-      → EndsNamed wording NameLookup.Devices s'' ending
-      → (IsHonest s' → PrintsDevices wording walked tries (records_in kept.bytes) (change s' s'' old new) ending)
-      → Runs (Job.NameLookup wording NameLookup.Devices) tries (change s s'' old new) ending
+      → EndsNamed NameLookup.Devices s'' ending
+      → (IsHonest s' → PrintsDevices x walked tries (records_in kept.bytes) (change s' s'' old new) ending)
+      → Runs x (Job.NameLookup NameLookup.Devices) tries (change s s'' old new) ending
   devices_run ending calls whole later_calls may devices_of = record {
     calls = omega (arith, calls, later_calls, few_calls (length (records_in kept.bytes)) (inventory_call_bound tries 65535) (few_records split (ending_of result) kept.bytes (walked_at_end result walked is) whole));
     ends = may;
@@ -390,11 +393,11 @@ module _ (look_row : FoundIsRow) (split : RecordsAreFound) (tries : Tries) (s s'
         let devices = devices_of ends.stays.honest in
         λ records end w ends_.
         let walk = records_of_walk h since.0 records end w ends_ in
-        let plan = inventories_plan wording (device_name 0 (bytes_of_rows records)) records end in
-        let printed = (rw walk.0 at devices) records end refl (listed_is wording records end result walked is walk.1) in
+        let plan = inventories_plan (device_name 0 (bytes_of_rows records)) records end in
+        let printed = (rw walk.0 at devices) records end refl (listed_is records end result walked is walk.1) in
         let of : Store → _ = λ store. store.inventories in (
-          devices_allowed (IsPieceOver s.store) wording records end old new ending
-              (rw (ends.stays.store.stays since.0) at (leaves_map (IsTextWhile s' s'') (IsPieceOver s'.store) (while_same s' s'' (later h).ends.stays.store since.1) plan old new ending (cause_of ending)
+          devices_allowed (IsPieceOver x s.store) records end old new ending
+              (rw (ends.stays.store.stays since.0) at (leaves_map (IsTextWhile x s' s'') (IsPieceOver x s'.store) (while_same x s' s'' (later h).ends.stays.store since.1) plan old new ending (cause_of ending)
               (printed.prints (keeps_same of s' s'' (later h).ends.stays.store since.1)))),
           omega (arith, walk.2, rw (ends.stays.store.stays since.0) at (printed.calls_are since.1)),
         );
@@ -403,20 +406,20 @@ module _ (look_row : FoundIsRow) (split : RecordsAreFound) (tries : Tries) (s s'
         let a = ends.stays.store in
         let b = (later h).ends.stays.store in
         let read = records_of_log h first log (grew_first Sdr First s s' s'' a b grew) in
-        let plan = inventories_plan wording (device_name 0 (bytes_of_rows read.0)) read.0 Done in
-        let printed = (rw read.2.0 at (devices_of ends.stays.honest)) read.0 Done refl (listed_is wording read.0 Done result walked is read.2.1) in (
+        let plan = inventories_plan (device_name 0 (bytes_of_rows read.0)) read.0 Done in
+        let printed = (rw read.2.0 at (devices_of ends.stays.honest)) read.0 Done refl (listed_is read.0 Done result walked is read.2.1) in (
           read.0,
           log_first s s' s'' a b first read.0 read.1,
-          λ keeps. devices_allowed (IsTextWhile s s'') wording read.0 Done old new ending
-              (leaves_map (IsTextWhile s' s'') (IsTextWhile s s'') (while_second s s' s'' a b) plan old new ending (cause_of ending)
+          λ keeps. devices_allowed (IsTextWhile x s s'') read.0 Done old new ending
+              (leaves_map (IsTextWhile x s' s'') (IsTextWhile x s s'') (while_second x s s' s'' a b) plan old new ending (cause_of ending)
               (printed.prints (keeps_second (λ (store : Store). store.inventories) s s' s'' a b keeps))),
         );
     traces = λ h. tt;
   }
     where
       -- of any rows with these bytes
-      later : (h : IsHonest s) → PrintsPlan tries (inventories_plan wording (device_name 0 (records_in kept.bytes)) (map row_with (records_in kept.bytes)) (end_of_walk walked))
+      later : (h : IsHonest s) → PrintsPlan x tries (inventories_plan (device_name 0 (records_in kept.bytes)) (map row_with (records_in kept.bytes)) (end_of_walk walked))
           (λ store. calls_for_point tries store (AtInventory 0) + calls_for_devices tries store (map row_with (records_in kept.bytes))) (change s' s'' old new) ending
       later h =
           let rows = map row_with (records_in kept.bytes) in
-          devices_of (read_ends h).stays.honest rows (end_of_walk walked) (bytes_with (records_in kept.bytes)) (listed_with wording rows walked)
+          devices_of (read_ends h).stays.honest rows (end_of_walk walked) (bytes_with (records_in kept.bytes)) (listed_with rows walked)

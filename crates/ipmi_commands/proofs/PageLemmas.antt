@@ -17,6 +17,7 @@ use Rattle.ipmi_commands.proofs.ItemLemmas.{no_items, none_printed}
 use Rattle.ipmi_commands.proofs.ListingLemmas.{fresh_along, fresh_ends, ok_end}
 use Rattle.ipmi_commands.proofs.MeanwhileLemmas.{log_now}
 use Rattle.ipmi_commands.proofs.TraceLemmas.{traced_whole}
+use Rattle.ipmi_commands.specs.Format.{Texts}
 
 -- ---- a page that makes no call
 
@@ -28,10 +29,10 @@ end_same : {A B : Type 0} (form : Form) (wrote : Bool) (a : A) (b : B) → endin
 end_same form wrote a b = grind arith
 
 -- a listing that is at its end before the first step
-no_steps : (form : Form) (start : Place) (most : Option ℕ) (s : Seen) (text : Output) → IsHonest s
+no_steps : (x : Texts) → (form : Form) (start : Place) (most : Option ℕ) (s : Seen) (text : Output) → IsHonest s
     → IsWithin most 0 → (most ≡ Some 0) ⊎ (start ≡ End)
-    → Traces form start most (change s s text text) (end_of form false start)
-no_steps form start most s text honest within done =
+    → Traces x form start most (change s s text text) (end_of form false start)
+no_steps x form start most s text honest within done =
     let here : CursorState = record { shelf = shelf_of form; place = start; part = 0; tries = 0; ahead = false; ids = set.empty; reservation = None } in
     inr (record {
       begun = here;
@@ -42,26 +43,26 @@ no_steps form start most s text honest within done =
       shelf = refl;
       place = refl;
       ids = refl;
-      traces = traced_whole form false 0 [] (record { are = tt; cursor = refl; stays = stays_refl s honest })
+      traces = traced_whole x form false 0 [] (record { are = tt; cursor = refl; stays = stays_refl s honest })
           (record { count_is = refl; within = within; done = done; printed = record { text = no_output; are = refl; new_is = sym (then_nothing text) } }) refl;
     })
 
 -- a page of size 0
-pub page_of_none : (form : Form) (place : Place) (tries : Tries) (s : Seen) (text : Output) → IsHonest s
-    → IsPage form place tries (Some 0) (change s s text text) (end_of form false place)
-page_of_none form place tries s text honest =
+pub page_of_none : (x : Texts) → (form : Form) (place : Place) (tries : Tries) (s : Seen) (text : Output) → IsHonest s
+    → IsPage x form place tries (Some 0) (change s s text text) (end_of form false place)
+page_of_none x form place tries s text honest =
     let cause : cause_of (ending_of (end_of form false place)) ≡ AtEnd = grind arith in
     record {
       ends = rw cause (ends_here honest refl tt);
       none = λ zero_. refl;
       along = λ same walk end w ends. record {
-        leaves = rw cause (none_printed (IsPieceOver s.store) text text refl, grind (arith, first_end-none 0 walk end (omega arith)));
+        leaves = rw cause (none_printed (IsPieceOver x s.store) text text refl, grind (arith, first_end-none 0 walk end (omega arith)));
         calls = omega arith;
         goes_on = grind arith;
       };
       grows = λ keeps first log grew.
-          (first, log_now s s (stays_refl s honest).store honest first log, rw cause (none_printed (IsTextWhile s s) text text refl, grind (arith, first_end-none 0 first Done (omega arith))));
-      traces = no_steps form place (Some 0) s text honest (omega arith) (inl refl);
+          (first, log_now s s (stays_refl s honest).store honest first log, rw cause (none_printed (IsTextWhile x s s) text text refl, grind (arith, first_end-none 0 first Done (omega arith))));
+      traces = no_steps x form place (Some 0) s text honest (omega arith) (inl refl);
     }
 
 -- from a place without a row the walk is empty
@@ -83,9 +84,9 @@ empty_leaves IsText form most text =
     no_end most = grind arith
 
 -- a page from the end
-pub page_at_end : (form : Form) (tries : Tries) (most : Option ℕ) (s : Seen) (text : Output) → IsHonest s
-    → IsPage form End tries most (change s s text text) (end_of form false End)
-page_at_end form tries most s text honest =
+pub page_at_end : (x : Texts) → (form : Form) (tries : Tries) (most : Option ℕ) (s : Seen) (text : Output) → IsHonest s
+    → IsPage x form End tries most (change s s text text) (end_of form false End)
+page_at_end x form tries most s text honest =
     let cause : cause_of (ending_of (end_of form false End)) ≡ AtEnd = grind arith in
     record {
       ends = rw cause (ends_here honest refl tt);
@@ -93,28 +94,28 @@ page_at_end form tries most s text honest =
       along = λ same walk end w ends. along walk end (no_walk _ End walk refl w) ends;
       grows = λ keeps first log grew.
           let empty = no_walk _ End first refl log.walks in
-          (first, log_now s s (stays_refl s honest).store honest first log, rw empty (empty_leaves (IsTextWhile s s) form most text));
-      traces = no_steps form End most s text honest (within_none most) (inr refl);
+          (first, log_now s s (stays_refl s honest).store honest first log, rw empty (empty_leaves (IsTextWhile x s s) form most text));
+      traces = no_steps x form End most s text honest (within_none most) (inr refl);
     }
   where
     along : (walk : List Row) (end : WalkEnd) → walk ≡ []
         → EndsBy (rows_of (shelf_of form) s.store) End walk end
-        → PageAlong form End tries most (change s s text text) (end_of form false End) walk end
-    along [] Done empty ends = record { leaves = empty_leaves (IsPieceOver s.store) form most text; calls = omega arith; goes_on = grind (arith, common_steps) }
+        → PageAlong x form End tries most (change s s text text) (end_of form false End) walk end
+    along [] Done empty ends = record { leaves = empty_leaves (IsPieceOver x s.store) form most text; calls = omega arith; goes_on = grind (arith, common_steps) }
     along [] (CycleAt n) empty ends = absurd ends
     along [] (MissingAt n) empty ends = absurd ends
     along (row ∷ walk) end empty ends = cc empty
 
 -- a page whose cursor is out of memory
-pub page_without_memory : (form : Form) (place : Place) (tries : Tries) (most : Option ℕ) (s : Seen)
+pub page_without_memory : (x : Texts) → (form : Form) (place : Place) (tries : Tries) (most : Option ℕ) (s : Seen)
     (text : Output) → IsHonest s
-    → IsPage form place tries most (change s s text text) (Err Failure.OutOfMemory)
-page_without_memory form place tries most s text honest = record {
+    → IsPage x form place tries most (change s s text text) (Err Failure.OutOfMemory)
+page_without_memory x form place tries most s text honest = record {
   ends = ends_here honest refl tt;
   none = λ zero_. refl;
-  along = λ same walk end w ends. record { leaves = no_items (IsPieceOver s.store) (listing_plan (listing form place most) walk end) text text refl; calls = omega arith; goes_on = tt };
+  along = λ same walk end w ends. record { leaves = no_items (IsPieceOver x s.store) (listing_plan (listing form place most) walk end) text text refl; calls = omega arith; goes_on = tt };
   grows = λ keeps first log grew.
-      (first, log_now s s (stays_refl s honest).store honest first log, no_items (IsTextWhile s s) (listing_plan (listing form place most) first Done) text text refl);
+      (first, log_now s s (stays_refl s honest).store honest first log, no_items (IsTextWhile x s s) (listing_plan (listing form place most) first Done) text text refl);
   traces = inl (inl refl, refl, refl);
 }
 
@@ -124,9 +125,9 @@ no_log shelf store [] log = log.ends
 no_log shelf store (row ∷ rows) log = let none = log.walks.first in cc none
 
 -- a page from id 0000h
-pub page_of_cycle : (form : Form) (tries : Tries) (most : Option ℕ) (s : Seen) (text : Output) → IsHonest s
-    → (most ≡ Some 0 → ⊥) → IsPage form (Id 0) tries most (change s s text text) (Err (Failure.Ended (Ended.Cycle 0)))
-page_of_cycle form tries most s text honest some = record {
+pub page_of_cycle : (x : Texts) → (form : Form) (tries : Tries) (most : Option ℕ) (s : Seen) (text : Output) → IsHonest s
+    → (most ≡ Some 0 → ⊥) → IsPage x form (Id 0) tries most (change s s text text) (Err (Failure.Ended (Ended.Cycle 0)))
+page_of_cycle x form tries most s text honest some = record {
   ends = ends_here honest refl tt;
   none = λ zero_. refl;
   along = λ same walk end w ends. of_cycle walk end (no_walk _ (Id 0) walk refl w) ends;
@@ -137,12 +138,12 @@ page_of_cycle form tries most s text honest some = record {
     cycle_left : (most : Option ℕ) → (most ≡ Some 0 → ⊥) → first_end most [] (CycleAt 0) ≡ CycleAt 0
     cycle_left most some = grind arith
 
-    leaves : (end : WalkEnd) → end ≡ CycleAt 0 → IsAllowed (IsPieceOver s.store) (listing_plan (listing form (Id 0) most) [] end)
+    leaves : (end : WalkEnd) → end ≡ CycleAt 0 → IsAllowed (IsPieceOver x s.store) (listing_plan (listing form (Id 0) most) [] end)
         text text (Err (Failure.Ended (Ended.Cycle 0)))
-    leaves end is = rw (is, empty_rows most, cycle_left most some) (none_printed (IsPieceOver s.store) text text refl, refl)
+    leaves end is = rw (is, empty_rows most, cycle_left most some) (none_printed (IsPieceOver x s.store) text text refl, refl)
 
     of_cycle : (walk : List Row) (end : WalkEnd) → walk ≡ [] → EndsBy (rows_of (shelf_of form) s.store) (Id 0) walk end
-        → PageAlong form (Id 0) tries most (change s s text text) (Err (Failure.Ended (Ended.Cycle 0))) walk end
+        → PageAlong x form (Id 0) tries most (change s s text text) (Err (Failure.Ended (Ended.Cycle 0))) walk end
     of_cycle [] end empty ends = record { leaves = leaves end (grind arith); calls = omega arith; goes_on = tt }
     of_cycle (row ∷ walk) end empty ends = cc empty
 
@@ -153,16 +154,16 @@ abbrev pub page_result : Place → Result ℕ Failure → Result Place Failure
 page_result next (Ok count) = Ok next
 page_result next (Err failure) = Err failure
 
-pub page_by_cursor : {limits : RequestLimits} {form : Form} {from : Option ℕ} {tries : Tries}
+pub page_by_cursor : (x : Texts) → {limits : RequestLimits} {form : Form} {from : Option ℕ} {tries : Tries}
     {most : Option ℕ}
     {begun now : CursorState} {c : Change} (result : Result ℕ Failure) → IsFresh limits form from begun
-    → (most ≡ Some 0 → ⊥) → IsHonest c.seen → ListsHonestly form tries most begun now c result
-    → IsPage form (start_of from) tries most c (page_result now.place result)
-page_by_cursor {from = from} {most = most} {now = now} (Ok count) fresh some honest lists = record {
-  ends = fresh_ends fresh lists;
+    → (most ≡ Some 0 → ⊥) → IsHonest c.seen → ListsHonestly x form tries most begun now c result
+    → IsPage x form (start_of from) tries most c (page_result now.place result)
+page_by_cursor x {from = from} {most = most} {now = now} (Ok count) fresh some honest lists = record {
+  ends = fresh_ends x fresh lists;
   none = λ zero_. absurd (some zero_);
   along = λ same walk end w ends.
-      let along = fresh_along fresh lists same walk end w ends in
+      let along = fresh_along x fresh lists same walk end w ends in
       let here : 0 + count ≡ length (first_rows most walk) = omega (arith, along.0.all.count_is) in
       let first : take (length (first_rows most walk)) walk ≡ first_rows most walk = grind (arith, take_all, length-take, take_min) in
       record {
@@ -170,41 +171,41 @@ page_by_cursor {from = from} {most = most} {now = now} (Ok count) fresh some hon
         calls = along.1;
         goes_on = elim along.0.all.stands.place [ inl there ↦ inl (there ∙ ap (place_after_rows (start_of from)) (ap (λ (n : ℕ). take n walk) here ∙ first)) | inr empty ↦ inr empty ];
       };
-  grows = fresh_grows fresh lists.traces honest;
-  traces = fresh_traces fresh lists.traces honest (Ok now.place) refl refl;
+  grows = fresh_grows x fresh lists.traces honest;
+  traces = fresh_traces x fresh lists.traces honest (Ok now.place) refl refl;
 }
-page_by_cursor (Err failure) fresh some honest lists = record {
-  ends = fresh_ends fresh lists;
+page_by_cursor x (Err failure) fresh some honest lists = record {
+  ends = fresh_ends x fresh lists;
   none = λ zero_. absurd (some zero_);
-  along = λ same walk end w ends. let along = fresh_along fresh lists same walk end w ends in record { leaves = along.0.leaves; calls = along.1; goes_on = tt };
-  grows = fresh_grows fresh lists.traces honest;
-  traces = fresh_traces fresh lists.traces honest (Err failure) refl tt;
+  along = λ same walk end w ends. let along = fresh_along x fresh lists same walk end w ends in record { leaves = along.0.leaves; calls = along.1; goes_on = tt };
+  grows = fresh_grows x fresh lists.traces honest;
+  traces = fresh_traces x fresh lists.traces honest (Err failure) refl tt;
 }
 
 -- ---- pages, one after another
 
 -- the result of the remaining pages leads to the result of all pages
-abbrev pub LeadsTo : Form → Tries → List ℕ → List ℕ → Place → Place → Seen → Seen → Output → Output
+abbrev pub LeadsTo : (x : Texts) → Form → Tries → List ℕ → List ℕ → Place → Place → Seen → Seen → Output → Output
     → Type 0
-LeadsTo form tries all left start now s s' old text =
+LeadsTo x form tries all left start now s s' old text =
     (s'' : Seen) (new : Output) (ending : Ending)
-    → ArePages form tries now left (change s' s'' text new) ending
-    → ArePages form tries start all (change s s'' old new) ending
+    → ArePages x form tries now left (change s' s'' text new) ending
+    → ArePages x form tries start all (change s s'' old new) ending
 
-module _ (form : Form) (tries : Tries) (all : List ℕ) (k : ℕ) (start now : Place) (s s' s'' : Seen)
+module _ (x : Texts) (form : Form) (tries : Tries) (all : List ℕ) (k : ℕ) (start now : Place) (s s' s'' : Seen)
     (old text text' : Output) (there : k < length all)
-    (leads : LeadsTo form tries all (drop k all) start now s s' old text) where
-  leads_here : LeadsTo form tries all (get_or all k 0 ∷ drop (k + 1) all) start now s s' old text
-  leads_here = subst (λ (l : List ℕ). LeadsTo form tries all l start now s s' old text) (at_drop_more (λ (l : List ℕ). l) all k 0 there) leads
+    (leads : LeadsTo x form tries all (drop k all) start now s s' old text) where
+  leads_here : LeadsTo x form tries all (get_or all k 0 ∷ drop (k + 1) all) start now s s' old text
+  leads_here = subst (λ (l : List ℕ). LeadsTo x form tries all l start now s s' old text) (at_drop_more (λ (l : List ℕ). l) all k 0 there) leads
 
   pub page_leads : (next : Place)
-      → IsPage form now tries (Some (get_or all k 0)) (change s' s'' text text') (Ok next)
-      → LeadsTo form tries all (drop (k + 1) all) start next s s'' old text'
+      → IsPage x form now tries (Some (get_or all k 0)) (change s' s'' text text') (Ok next)
+      → LeadsTo x form tries all (drop (k + 1) all) start next s s'' old text'
   page_leads next page = λ last new ending rest. leads_here last new ending (inr (record { next = next; seen = s''; text = text'; page = page; rest = rest }))
 
   pub last_leads : (failure : Failure)
-      → IsPage form now tries (Some (get_or all k 0)) (change s' s'' text text') (Err failure)
-      → ArePages form tries start all (change s s'' old text') (Err failure)
+      → IsPage x form now tries (Some (get_or all k 0)) (change s' s'' text text') (Err failure)
+      → ArePages x form tries start all (change s s'' old text') (Err failure)
   last_leads failure page = leads_here s'' text' (Err failure) (inl (failure, refl, page))
 
 -- the calls of a page, none if its size is 0, and of the pages after it

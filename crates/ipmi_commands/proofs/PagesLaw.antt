@@ -13,24 +13,25 @@ use Rattle.ipmi_commands.proofs.ItemLemmas.{after_items, leaves_joined, leaves_l
 use Rattle.ipmi_commands.proofs.PageLemmas.{calls_of_page, no_walk}
 use Rattle.ipmi_commands.proofs.PointLemmas.{points_at_walk_end-joined}
 use Rattle.ipmi_commands.proofs.CountLemmas.{between, ends_since}
+use Rattle.ipmi_commands.specs.Format.{Texts}
 
 -- a listing in this form does not search for a name, so it ends as its walk does
 abbrev NamesNone : Form → Type 0
-NamesNone (Form.Block wording name) = ⊥
+NamesNone (Form.Block name) = ⊥
 NamesNone _ = Unit {0}
 
 same_end : (form : Form) (rows : List Row) (end : WalkEnd) → NamesNone form
-    → rows_end form rows end ≡ rows_end Form.Raw [] end
+    → rows_end form rows end ≡ rows_end Form.Hex [] end
 same_end form rows end none = grind arith
 
 -- the result of all pages together
-pub record OneListing (form : Form) (start : Place) (tries : Tries) (sizes : List ℕ) (c : Change)
+pub record OneListing (x : Texts) (form : Form) (start : Place) (tries : Tries) (sizes : List ℕ) (c : Change)
     (ending : Ending) : Type 0 where
   pub ends : EndsFor tries (IsTrue c.seen.plain) c.seen c.seen' (cause_of ending)
   pub along : c.seen'.stores_added ≡ c.seen.stores_added
-      → IsOneListing form start tries sizes c ending
+      → IsOneListing x form start tries sizes c ending
 
-module _ (walk_tail : TailIsWalk) where
+module _ (x : Texts) (walk_tail : TailIsWalk) where
   -- ---- the rest of a walk
 
   rest_of_walk : (form : Form) (rows : List Row) (start : Place) (done rest : List Row)
@@ -56,10 +57,10 @@ module _ (walk_tail : TailIsWalk) where
     -- If the page stopped at the end of its rows, there is no further row, so this is also the end of the whole listing. A page
     -- within the walk does not end with a failure.
     leaves_wide : (failure : Failure)
-        → IsAllowed (IsPieceOver store) (plan_from form start (Some size) walk end) old new (Err failure)
-        → IsAllowed (IsPieceOver store) (plan_from form start None walk end) old new (Err failure)
+        → IsAllowed (IsPieceOver x store) (plan_from form start (Some size) walk end) old new (Err failure)
+        → IsAllowed (IsPieceOver x store) (plan_from form start None walk end) old new (Err failure)
     leaves_wide failure allowed =
-        leaves_longer (IsPieceOver store) (plan_from form start (Some size) walk end) (plan_from form start None walk end)
+        leaves_longer (IsPieceOver x store) (plan_from form start (Some size) walk end) (plan_from form start None walk end)
         (row_items form (place_after_rows start (take size walk)) (drop size walk)) (row_items-split form start walk size)
         (λ point rest among. grind (arith, nat_tests, drop-nil, drop_all)) old new (Err failure) (cause_of (Err failure)) (λ at_end all. grind (arith, nat_tests, take_all, same_end)) allowed
 
@@ -80,34 +81,34 @@ module _ (walk_tail : TailIsWalk) where
 
     -- its output is that of a listing from after the page; an empty shelf has one more point, at its start
     from_next : (text new : Output) (ending : Ending) → GoesOn rows start (take size walk) next
-        → IsAllowed (IsPieceOver store) (plan_from form next None (drop size walk) end) text new ending
-        → IsAllowed (IsPieceOver store) (plan_from form (place_after_rows start (take size walk)) None
+        → IsAllowed (IsPieceOver x store) (plan_from form next None (drop size walk) end) text new ending
+        → IsAllowed (IsPieceOver x store) (plan_from form (place_after_rows start (take size walk)) None
         (drop size walk) end) text new ending
     from_next text new ending (inl there) allowed = rw there at allowed
     from_next text new ending (inr empty) allowed =
         let gone = no_walk rows start walk (rw empty.1 empty.2) w in
         rw (gone, take-nil size, drop-nil size, empty.1)
-        (leaves_longer (IsPieceOver store) (plan_from form End None [] end) (plan_from form First None [] end) [] refl (λ point rest among. grind arith) text new ending (cause_of ending) (λ at_end all. all) (rw (empty.0, gone, drop-nil size) at allowed))
+        (leaves_longer (IsPieceOver x store) (plan_from form End None [] end) (plan_from form First None [] end) [] refl (λ point rest among. grind arith) text new ending (cause_of ending) (λ at_end all. all) (rw (empty.0, gone, drop-nil size) at allowed))
 
     -- so together with the page it is the whole listing
     leaves_of_rest : (old text new : Output) (ending : Ending) → NamesNone form
-        → Printed (IsPieceOver store) (row_items form start (take size walk)) old text
+        → Printed (IsPieceOver x store) (row_items form start (take size walk)) old text
         → GoesOn rows start (take size walk) next
-        → IsAllowed (IsPieceOver store) (plan_from form next None (drop size walk) end) text new ending
-        → IsAllowed (IsPieceOver store) (plan_from form start None walk end) old new ending
+        → IsAllowed (IsPieceOver x store) (plan_from form next None (drop size walk) end) text new ending
+        → IsAllowed (IsPieceOver x store) (plan_from form start None walk end) old new ending
     leaves_of_rest old text new ending none printed goes allowed =
         let done = take size walk in
         let left = drop size walk in
         let whole : after_items (row_items form start done) (plan_from form (place_after_rows start done) None left end) ≡ plan_from form start None walk end =
         cc (row_items-split form start walk size, same_end form left end none, same_end form walk end none, points_at_walk_end-joined start done left end, take-append-drop size walk) in
-        subst (λ (q : Plan). IsAllowed (IsPieceOver store) q old new ending) whole
-        (leaves_joined (IsPieceOver store) (row_items form start done) (plan_from form (place_after_rows start done) None left end) old text new ending (cause_of ending) printed (from_next text new ending goes allowed))
+        subst (λ (q : Plan). IsAllowed (IsPieceOver x store) q old new ending) whole
+        (leaves_joined (IsPieceOver x store) (row_items form start done) (plan_from form (place_after_rows start done) None left end) old text new ending (cause_of ending) printed (from_next text new ending goes allowed))
 
   -- ---- the law
 
   pub pages_are_one : (form : Form) (tries : Tries) (start : Place) (sizes : List ℕ) (s s' : Seen)
-      (old new : Output) (ending : Ending) → NamesNone form → IsHonest s → ArePages form tries start sizes (change s s' old new) ending
-      → OneListing form start tries sizes (change s s' old new) ending
+      (old new : Output) (ending : Ending) → NamesNone form → IsHonest s → ArePages x form tries start sizes (change s s' old new) ending
+      → OneListing x form start tries sizes (change s s' old new) ending
   pages_are_one form tries start [] s s' old new ending none honest last = record {
     ends = rw last.1 last.2.ends;
     along = λ same walk end w ends open_. let along = last.2.along same walk end w ends in (rw last.1 along.leaves, omega (arith, along.calls));
@@ -133,9 +134,9 @@ module _ (walk_tail : TailIsWalk) where
             let first = (since same).0 in
             let along = page.along first walk end w ends in
             let there = rest_there form s.store (rows_of (shelf_of form) s.store) start more.next walk end size w (store_shelf (shelf_of form) s.store honest.store) ends open_ along.goes_on in
-            let rest = (subst (λ (x : Store). OnWalk (shelf_of form) more.next x (λ walk end. IsOpen end
-            → IsAllowed (IsPieceOver x) (plan_from form more.next None walk end) more.text new ending
-            × (s'.calls ≤ more.seen.calls + 0 + calls_for form x tries walk + pages_made sizes * (step_call_bound tries.count 0 + 7)))) (page.ends.stays.store.stays first)
+            let rest = (subst (λ (x' : Store). OnWalk (shelf_of form) more.next x' (λ walk end. IsOpen end
+            → IsAllowed (IsPieceOver x x') (plan_from form more.next None walk end) more.text new ending
+            × (s'.calls ≤ more.seen.calls + 0 + calls_for form x' tries walk + pages_made sizes * (step_call_bound tries.count 0 + 7)))) (page.ends.stays.store.stays first)
             (later.along (since same).1)) (drop size walk) end there.0 there.1 open_ in
             let made = calls_of_page size sizes (calls_for form s.store tries (take size walk)) (step_call_bound tries.count 0 + 7) s more.seen (omega (arith, along.calls)) page.none in (
               leaves_of_rest form s.store (rows_of (shelf_of form) s.store) start more.next walk end size w old more.text new ending none along.leaves.0 along.goes_on rest.0,
@@ -146,13 +147,13 @@ module _ (walk_tail : TailIsWalk) where
 -- ---- a job that can be done in pages
 
 -- it lists all records of a shelf, in a form that does not search for a name; the result of the pages
-pub paged : TailIsWalk → (job : Job) (tries : Tries) (sizes : List ℕ) (s s' : Seen)
+pub paged : (x : Texts) → TailIsWalk → (job : Job) (tries : Tries) (sizes : List ℕ) (s s' : Seen)
     (old new : Output) (ending : Ending) (l : Listing) → lists_all job ≡ true → listing_in job ≡ Some l
     → s'.calls ≤ s.calls + pages_made sizes * most_on_walk l.form tries
     → EndsListing l.form s' ending
-    → (IsHonest s → ArePages l.form tries l.start sizes (change s s' old new) ending)
-    → RunsPaged job tries sizes (change s s' old new) ending
-paged tail job tries sizes s s' old new ending l lists is calls may pages =
+    → (IsHonest s → ArePages x l.form tries l.start sizes (change s s' old new) ending)
+    → RunsPaged x job tries sizes (change s s' old new) ending
+paged x tail job tries sizes s s' old new ending l lists is calls may pages =
     let is : (job ≡ Job.Records l) × NamesNone l.form × (l.most ≡ None) = grind arith in
-    let one : IsHonest s → OneListing l.form l.start tries sizes (change s s' old new) ending = λ h. pages_are_one tail l.form tries l.start sizes s s' old new ending is.1 h (pages h) in
+    let one : IsHonest s → OneListing x l.form l.start tries sizes (change s s' old new) ending = λ h. pages_are_one x tail l.form tries l.start sizes s s' old new ending is.1 h (pages h) in
     rw is.0 (is.2, record { calls = calls; ends = may; why = λ h. (one h).ends; pages = pages; prints = λ h. (one h).along })

@@ -5,31 +5,33 @@ use Rattle.ipmi_commands.specs.Named.{end_after, listed_end, walk_of}
 use Rattle.ipmi_commands.specs.declared.named.RecordsEnd.{RecordsEnd}
 use Rattle.ipmi_commands.specs.Run.{EndsInfo}
 use Rattle.ipmi_commands.specs.Output.{Output}
-use Rattle.ipmi_commands.specs.Prelude.{Change, end_of, ending_of, EndsListing, EndsNamed, Entries, entries_job, Form, keeping_last, MayEnd, NameLookup, RetriesParts, RunsNamedInPages, Tries, Wording, WritesPiece}
+use Rattle.ipmi_commands.specs.Prelude.{Change, end_of, ending_of, EndsListing, EndsNamed, EntryText, entries_job, Form, keeping_last, MayEnd, NameLookup, RetriesParts, RunsNamedInPages, Tries, WritesPiece}
+use Rattle.ipmi_commands.specs.Format.{Texts}
+use Rattle.ipmi_commands.specs.declared.format.Detail.{Detail}
 
 module _ (tries : Tries) (S : Seen → Type 0) (seen : Seen) where
   -- a listing in a form other than that of devices
-  pub listing_spares : (form : Form) (ending : Ending) → ((wording : Wording) → form ≡ Form.Device wording → ⊥)
+  pub listing_spares : (form : Form) (ending : Ending) → (form ≡ Form.Device → ⊥)
       → EndsListing form seen ending → RetriesParts tries S seen ending
-  listing_spares form (Err (Failure.Inventory id FruEnded.GaveUp)) other ends = absurd (other ends.0 ends.1.0)
+  listing_spares form (Err (Failure.Inventory id FruEnded.GaveUp)) other ends = absurd (other ends.0)
   listing_spares form ending other ends = grind arith
 
   pub bytes_spare : (ending : Ending) → EndsListing Form.Bytes seen ending → RetriesParts tries S seen ending
-  bytes_spare ending ends = listing_spares Form.Bytes ending (λ wording is. cc is) ends
+  bytes_spare ending ends = listing_spares Form.Bytes ending (λ is. cc is) ends
 
-  pub entries_spare : (entries : Entries) (ending : Ending) → EndsListing (Form.EntryLine entries) seen ending
+  pub entries_spare : (entries : EntryText) (ending : Ending) → EndsListing (Form.Entry entries) seen ending
       → RetriesParts tries S seen ending
-  entries_spare entries ending ends = listing_spares (Form.EntryLine entries) ending (λ wording is. cc is) ends
+  entries_spare entries ending ends = listing_spares (Form.Entry entries) ending (λ is. cc is) ends
 
   -- entries with names
-  pub events_spare : (wording : Wording) (count : Count) (from : Option ℕ) (ending : Ending)
-      → EndsNamed wording (NameLookup.Events count from) seen ending → RetriesParts tries S seen ending
-  events_spare wording count from (Err (Failure.Inventory id FruEnded.GaveUp)) ends = absurd (cc ends.1.0)
-  events_spare wording count from ending ends = grind arith
+  pub events_spare : (detail : Detail) (count : Count) (from : Option ℕ) (ending : Ending)
+      → EndsNamed (NameLookup.Events detail count from) seen ending → RetriesParts tries S seen ending
+  events_spare detail count from (Err (Failure.Inventory id FruEnded.GaveUp)) ends = absurd (cc ends.0)
+  events_spare detail count from ending ends = grind arith
 
   -- the end of a listing itself
   pub end_spares : {T : Type 0} (form : Form) (wrote : Bool) (value : T) → RetriesParts tries S seen (ending_of (end_of form wrote value))
-  end_spares (Form.Block wording name) false value = tt
+  end_spares (Form.Block name) false value = tt
   end_spares form wrote value = grind arith
 
   -- an info
@@ -45,7 +47,7 @@ module _ (tries : Tries) (S : Seen → Type 0) (seen : Seen) where
   -- the walk of the records that have names, which failed
   pub walk_spares : (listed : Result Place Failure) (failure : Failure) → EndsListing Form.Bytes seen (ending_of listed)
       → walk_of listed ≡ Err failure → RetriesParts tries S seen (Err failure)
-  walk_spares (Err (Failure.Inventory id ended)) failure ends is = absurd (cc ends.1.0)
+  walk_spares (Err (Failure.Inventory id ended)) failure ends is = absurd (cc ends.0)
   walk_spares listed failure ends is = grind arith
 
   -- and the ends that are told of it
@@ -60,14 +62,14 @@ module _ (tries : Tries) (S : Seen → Type 0) (seen : Seen) where
   listed_spares (RecordsEnd.Missing n) = tt
 
 -- entries, of which the last ones are kept
-pub job_spares : (tries : Tries) (S : Seen → Type 0) (entries : Entries) (count : Count) (from : Option ℕ) (c : Change) (ending : Ending)
-    → MayEnd (keeping_last (entries_job entries count from)) c ending → RetriesParts tries S c.seen' ending
-job_spares tries S entries Count.All from c ending ends = entries_spare tries S c.seen' entries ending ends
-job_spares tries S entries (Count.First n) from c ending ends = entries_spare tries S c.seen' entries ending ends
-job_spares tries S entries (Count.Last n) from c ending ends = entries_spare tries S c.seen' entries ending ends
-job_spares tries S entries (Count.Tail n) from c ending ends = entries_spare tries S c.seen' entries ending ends
+pub job_spares : (x : Texts) → (tries : Tries) (S : Seen → Type 0) (entries : EntryText) (count : Count) (from : Option ℕ) (c : Change) (ending : Ending)
+    → MayEnd x (keeping_last (entries_job entries count from)) c ending → RetriesParts tries S c.seen' ending
+job_spares x tries S entries Count.All from c ending ends = entries_spare tries S c.seen' entries ending ends
+job_spares x tries S entries (Count.First n) from c ending ends = entries_spare tries S c.seen' entries ending ends
+job_spares x tries S entries (Count.Last n) from c ending ends = entries_spare tries S c.seen' entries ending ends
+job_spares x tries S entries (Count.Tail n) from c ending ends = entries_spare tries S c.seen' entries ending ends
 
 -- entries with names in pages
-pub pages_spare : {wording : Wording} {from : Option ℕ} {sizes : List ℕ} {c : Change} {ending : Ending} (tries : Tries) (S : Seen → Type 0)
-    → RunsNamedInPages wording from tries sizes c ending → RetriesParts tries S c.seen' ending
-pages_spare {wording = wording} {from = from} {c = c} {ending = ending} tries S runs = events_spare tries S c.seen' wording Count.All from ending runs.ends
+pub pages_spare : (x : Texts) → {detail : Detail} {from : Option ℕ} {sizes : List ℕ} {c : Change} {ending : Ending} (tries : Tries) (S : Seen → Type 0)
+    → RunsNamedInPages x detail from tries sizes c ending → RetriesParts tries S c.seen' ending
+pages_spare x {detail = detail} {from = from} {c = c} {ending = ending} tries S runs = events_spare tries S c.seen' detail Count.All from ending runs.ends

@@ -1,24 +1,24 @@
 -- A run over an image, and rewriting an image.
 use Rattle.std.proofs.Common.{◌≡◌, ◌⊎◌, inl, inr, ℕ, ◌+◌, arith, false, IsTrue, Option, None, Some, Result, Ok, Err, List, [], refl, subst, sym, ap₂, ◌∙◌}
-use Rattle.ipmi_commands.specs.Below.{CommandState, Count, Failure, failure_of_image, ImageFault, Row, Store, Seen, WalkEnd, IsHonest, image_text_of, Ending, Task}
-use Rattle.ipmi_commands.specs.Prelude.{after_names, AnswersJob, bytes_of_rows, change, entries_in, for_inventory, Form, IsAllowed, IsRewriting, IsPieceOver, Job, job_in, job_of, job_of_command, NameLookup, no_output, OnBytes, OfImage, OnNamed, FollowsPlan, pieces_of, faults_of, Plan, printed, rewrite_plan, Runs, RunsCommand, RunsOver, walk_call_bound, Wording, WritesPiece}
-use Rattle.ipmi_commands.specs.Output.{Output, piece_of}
+use Rattle.ipmi_commands.specs.Below.{CommandState, Count, Failure, failure_of_image, ImageFault, Row, Store, Seen, WalkEnd, IsHonest, Ending, Task}
+use Rattle.ipmi_commands.specs.Prelude.{after_names, AnswersJob, bytes_of_rows, change, named_entries, for_inventory, Form, IsAllowed, IsPieceOver, Job, job_of, job_of_command, NameLookup, no_output, OnBytes, OnNamed, FollowsPlan, pieces_of, faults_of, Plan, plain_texts, printed, Runs, RunsCommand, RunsOver, walk_call_bound}
+use Rattle.ipmi_commands.specs.Output.{Output}
 use Rattle.ipmi_commands.specs.declared.summary.Summary.{Summary}
 use Rattle.ipmi_commands.specs.declared.limits.Tries.{Tries}
 use Rattle.ipmi_commands.proofs.NamedLemmas.{named_all}
 use Rattle.ipmi_commands.proofs.ItemLemmas.{no_items}
-use Rattle.ipmi_commands.proofs.PerformLemmas.{text_leaves}
 use Rattle.ipmi_commands.proofs.TailLemmas.{tail_all, tail_map}
+use Rattle.ipmi_commands.specs.Format.{Texts}
 
 -- ---- a command, in codes
 
 -- the job that was made of the command's task
 pub of_command : (command : CommandState) {task : Task} {from : Option ℕ} {found : Option Job}
-    → task ≡ command.task → from ≡ command.from → found ≡ job_in Wording.Plain task from
+    → task ≡ command.task → from ≡ command.from → found ≡ job_of plain_texts.has_names task from
     → job_of_command command ≡ found
-of_command command task_is from_is found_is = sym (found_is ∙ ap₂ job_of task_is from_is)
+of_command command task_is from_is found_is = sym (found_is ∙ ap₂ (job_of plain_texts.has_names) task_is from_is)
 
-module _ (command : CommandState) (found : Option Job) (is : job_of_command command ≡ found) (begun : Summary)
+module _ (x : Texts) (command : CommandState) (found : Option Job) (is : job_of_command command ≡ found) (begun : Summary)
     (none : printed [] begun ≡ no_output) (old new : List ℕ) (now : Summary) (ending : Ending) where
   -- what was done by a run that begins with an empty summary
   on_command : (Holds : Option Job → Output → Output → Type 0) → Holds found (printed old begun) (printed new now)
@@ -30,28 +30,28 @@ module _ (command : CommandState) (found : Option Job) (is : job_of_command comm
         (subst (λ job. Holds job (printed old begun) (printed new now)) (sym is) holds),
   )
 
-  pub command_runs : (s s' : Seen) → RunsCommand found (for_inventory command.tries) (change s s' (printed old begun) (printed new now)) ending
-      → OnBytes old new (λ a b. RunsCommand (job_of_command command) (for_inventory command.tries) (change s s' a b) ending)
-  command_runs s s' runs = on_command (λ job a b. RunsCommand job (for_inventory command.tries) (change s s' a b) ending) runs
+  pub command_runs : (s s' : Seen) → RunsCommand x found (for_inventory command.tries) (change s s' (printed old begun) (printed new now)) ending
+      → OnBytes old new (λ a b. RunsCommand x (job_of_command command) (for_inventory command.tries) (change s s' a b) ending)
+  command_runs s s' runs = on_command (λ job a b. RunsCommand x job (for_inventory command.tries) (change s s' a b) ending) runs
 
-  pub command_answers : (store : Store) → RunsOver found store (printed old begun) (printed new now) ending
-      → OnBytes old new (λ a b. RunsOver (job_of_command command) store a b ending)
-  command_answers store runs = on_command (λ job a b. RunsOver job store a b ending) runs
+  pub command_answers : (store : Store) → RunsOver x found store (printed old begun) (printed new now) ending
+      → OnBytes old new (λ a b. RunsOver x (job_of_command command) store a b ending)
+  command_answers store runs = on_command (λ job a b. RunsOver x job store a b ending) runs
 
 -- ---- a run over an image
 
 -- a fact about the plan that does not depend on the tries
-named_kept : (Holds : Plan → Type 0) (wording : Wording) (records : List Row) (end : WalkEnd) (named : NameLookup) (tries : Tries)
+named_kept : (Holds : Plan → Type 0) (records : List Row) (end : WalkEnd) (named : NameLookup) (tries : Tries)
     (store : Store) (More : Plan → ℕ → Type 0)
     → ((plan : Plan) (calls : ℕ) → More plan calls → Holds plan)
-    → OnNamed wording records end named tries store More
-    → OnNamed wording records end named (for_inventory 0) store (λ plan calls. Holds plan)
-named_kept Holds wording records end (NameLookup.Events Count.All from) tries store More keep on = λ walk e w ends. keep _ _ (on walk e w ends)
-named_kept Holds wording records end (NameLookup.Events (Count.First n) from) tries store More keep on = λ walk e w ends. keep _ _ (on walk e w ends)
-named_kept Holds wording records end (NameLookup.Events (Count.Last n) from) tries store More keep on = λ walk e w ends. keep _ _ (on walk e w ends)
-named_kept Holds wording records end (NameLookup.Events (Count.Tail n) from) tries store More keep on =
-    tail_map (entries_in wording (bytes_of_rows records)) n tries (for_inventory 0) store More (λ plan calls. Holds plan) (λ plan calls more. keep plan (calls tries) more) on
-named_kept Holds wording records end NameLookup.Devices tries store More keep on = keep _ _ on
+    → OnNamed records end named tries store More
+    → OnNamed records end named (for_inventory 0) store (λ plan calls. Holds plan)
+named_kept Holds records end (NameLookup.Events detail Count.All from) tries store More keep on = λ walk e w ends. keep _ _ (on walk e w ends)
+named_kept Holds records end (NameLookup.Events detail (Count.First n) from) tries store More keep on = λ walk e w ends. keep _ _ (on walk e w ends)
+named_kept Holds records end (NameLookup.Events detail (Count.Last n) from) tries store More keep on = λ walk e w ends. keep _ _ (on walk e w ends)
+named_kept Holds records end (NameLookup.Events detail (Count.Tail n) from) tries store More keep on =
+    tail_map (named_entries detail (bytes_of_rows records)) n tries (for_inventory 0) store More (λ plan calls. Holds plan) (λ plan calls more. keep plan (calls tries) more) on
+named_kept Holds records end NameLookup.Devices tries store More keep on = keep _ _ on
 
 plan_kept : (Holds : Plan → Type 0) (job : Job) (tries : Tries) (store : Store) (More : Plan → ℕ → Type 0)
     → ((plan : Plan) (calls : ℕ) → More plan calls → Holds plan)
@@ -61,29 +61,24 @@ plan_kept Holds (Job.Last entries n from) tries store More keep on = λ walk end
 plan_kept Holds (Job.LastKept entries n from) tries store More keep on = λ walk end w ends. keep _ _ (on walk end w ends)
 plan_kept Holds (Job.Tail entries n) tries store More keep on =
     tail_map entries n tries (for_inventory 0) store More (λ plan calls. Holds plan) (λ plan calls more. keep plan (calls tries) more) on
-plan_kept Holds (Job.NameLookup wording named) tries store More keep on = λ records end w ends.
-    named_kept (λ plan. Holds (after_names records end plan)) wording records end named tries store
+plan_kept Holds (Job.NameLookup named) tries store More keep on = λ records end w ends.
+    named_kept (λ plan. Holds (after_names records end plan)) records end named tries store
     (λ plan calls. More (after_names records end plan) (walk_call_bound Form.Bytes store tries records + calls))
     (λ plan calls more. keep _ _ more) (on records end w ends)
-plan_kept Holds (Job.AllInventories wording name) tries store More keep on = λ walk end w ends. keep _ _ (on walk end w ends)
+plan_kept Holds (Job.AllInventories name) tries store More keep on = λ walk end w ends. keep _ _ (on walk end w ends)
 plan_kept Holds _ tries store More keep on = keep _ _ on
 
 -- a run over a plain controller with the store of the image
-pub over_image : (job : Job) (tries : Tries) (store : Store) (s s' : Seen) (old new : Output)
+pub over_image : (x : Texts) → (job : Job) (tries : Tries) (store : Store) (s s' : Seen) (old new : Output)
     (ending : Ending) → IsHonest s → IsTrue s.plain → s.store ≡ store
-    → Runs job tries (change s s' old new) ending
-    → RunsOver (Some job) store old new ending
-over_image job tries store s s' old new ending honest plain is runs =
+    → Runs x job tries (change s s' old new) ending
+    → RunsOver x (Some job) store old new ending
+over_image x job tries store s s' old new ending honest plain is runs =
     let ends = runs.why honest in
     rw (← is) (
-      plan_kept (λ plan. IsAllowed (IsPieceOver s.store) plan old new ending) job tries s.store _ (λ plan calls both. both.0) (runs.prints honest (ends.stays.plain_store plain)),
+      plan_kept (λ plan. IsAllowed (IsPieceOver x s.store) plan old new ending) job tries s.store _ (λ plan calls both. both.0) (runs.prints honest (ends.stays.plain_store plain)),
       ends.plain plain,
     )
-
--- rewriting an image
-pub rewritten : (store : Store) (old new : Output) (ending : Ending)
-    → WritesPiece (piece_of (image_text_of store) false) old new ending → IsRewriting store old new ending
-rewritten store old new ending writes = record { allowed = text_leaves (IsPieceOver store) OfImage [] old new (piece_of (image_text_of store) false) ending (record { is_text = refl; counted = refl }) writes; unwritten = λ out. grind arith }
 
 -- ---- an image that was not read
 
@@ -93,21 +88,21 @@ plan_all Holds (Job.Records l) store holds = λ walk end w ends. holds _
 plan_all Holds (Job.Last entries n from) store holds = λ walk end w ends. holds _
 plan_all Holds (Job.LastKept entries n from) store holds = λ walk end w ends. holds _
 plan_all Holds (Job.Tail entries n) store holds = tail_all entries n (for_inventory 0) store (λ plan calls. Holds plan) (λ points plan calls some. holds _)
-plan_all Holds (Job.NameLookup wording named) store holds = λ records end w ends.
-    named_all wording records end (for_inventory 0) store (λ plan calls. Holds (after_names records end plan)) named (λ plan calls. holds _)
-plan_all Holds (Job.AllInventories wording name) store holds = λ walk end w ends. holds _
+plan_all Holds (Job.NameLookup named) store holds = λ records end w ends.
+    named_all records end (for_inventory 0) store (λ plan calls. Holds (after_names records end plan)) named (λ plan calls. holds _)
+plan_all Holds (Job.AllInventories name) store holds = λ walk end w ends. holds _
 plan_all Holds _ store holds = holds _
 
 -- each job may be out of memory
-without_memory : (job : Option Job) (store : Store) (text : Output)
-    → RunsOver job store text text (Err Failure.OutOfMemory)
-without_memory None store text = record { allowed = no_items (IsPieceOver store) rewrite_plan text text refl; unwritten = λ out. refl }
-without_memory (Some job) store text =
-    (plan_all (λ plan. IsAllowed (IsPieceOver store) plan text text (Err Failure.OutOfMemory)) job store (λ plan. no_items (IsPieceOver store) plan text text refl), tt)
+without_memory : (x : Texts) → (job : Option Job) (store : Store) (text : Output)
+    → RunsOver x job store text text (Err Failure.OutOfMemory)
+without_memory x None store text = inl (refl, refl)
+without_memory x (Some job) store text =
+    (plan_all (λ plan. IsAllowed (IsPieceOver x store) plan text text (Err Failure.OutOfMemory)) job store (λ plan. no_items (IsPieceOver x store) plan text text refl), tt)
 
 answers_memory : (job : Option Job) (image : Result Store ImageFault) (text : Output)
     → AnswersJob job image text text (Err Failure.OutOfMemory)
-answers_memory job (Ok store) text = without_memory job store text
+answers_memory job (Ok store) text = without_memory plain_texts job store text
 answers_memory job (Err fault) text = (refl, inr refl)
 
 failed_read : (fault : ImageFault) (ending : Ending) → ending ≡ Err (failure_of_image fault)

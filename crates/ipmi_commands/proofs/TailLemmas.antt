@@ -7,7 +7,7 @@ use Rattle.ipmi_commands.specs.declared.kept.KeptEntry.{KeptEntry}
 use Rattle.ipmi_commands.specs.declared.limits.Tries.{Tries}
 use Rattle.ipmi_commands.specs.Kept.{kept_row, kept_rows, Keeps, KeepsEntries, last_of, PrintsKept}
 use Rattle.ipmi_commands.specs.Output.{Output}
-use Rattle.ipmi_commands.specs.Prelude.{after_points, AtEnd, AtRecord, Cause, cause_of, change, Dishonest, EndsFor, EndsListing, EndsPrinting, end_points_of_last, Entries, failure_of, Finds, Form, GaveUp, has_last, IsAllowed, IsAmong, IsPieceOver, IsStopAmong, is_tail, IsTailStart, IsTextWhile, Item, Job, LacksValue, last_items, last_plan, last_rows, Leaves, most_calls, most_on_tail, most_on_walk, next_points, NoMemory, NoOutput, OnTail, OnTailFrom, OnTried, OnWhole, Plan, points_at_walk_end, points_of_walk, Prints, ReadError, ReadPoint, Refused, row_items, rows_end, Runs, Subject, tail_from, TailsAreOfTheLog, walk_call_bound, with_first_points}
+use Rattle.ipmi_commands.specs.Prelude.{after_points, AtEnd, AtRecord, Cause, cause_of, change, Dishonest, EndsFor, EndsListing, EndsPrinting, end_points_of_last, EntryText, failure_of, Finds, Form, GaveUp, has_last, IsAllowed, IsAmong, IsPieceOver, IsStopAmong, is_tail, IsTailStart, IsTextWhile, Item, Job, LacksValue, last_items, last_plan, last_rows, Leaves, most_calls, most_on_tail, most_on_walk, next_points, NoMemory, NoOutput, OnTail, OnTailFrom, OnTried, OnWhole, Plan, points_at_walk_end, points_of_walk, Prints, ReadError, ReadPoint, Refused, row_items, rows_end, Runs, Subject, tail_from, TailsAreOfTheLog, walk_call_bound, with_first_points}
 use Rattle.ipmi_commands.proofs.AskLemmas.{refuses_record}
 use Rattle.ipmi_commands.proofs.CountLemmas.{between, ends_since}
 use Rattle.ipmi_commands.proofs.ItemLemmas.{leaves_map, no_items}
@@ -16,11 +16,12 @@ use Rattle.ipmi_commands.proofs.LastLemmas.{leaves_wide, next_points-first}
 use Rattle.ipmi_commands.proofs.MeanwhileLemmas.{log_now, while_second}
 use Rattle.ipmi_commands.proofs.PerformLemmas.{none_leaves}
 use Rattle.ipmi_commands.proofs.PointLemmas.{among_after, among_before}
+use Rattle.ipmi_commands.specs.Format.{Texts}
 
 -- ---- every plan
 
 -- a fact about each plan; the number of calls depends on the tries
-module _ (entries : Entries) (n : ℕ) (tries tries' : Tries) (store : Store) (Holds More : Plan → ℕ → Type 0)
+module _ (entries : EntryText) (n : ℕ) (tries tries' : Tries) (store : Store) (Holds More : Plan → ℕ → Type 0)
     (keep : (plan : Plan) (calls : Tries → ℕ) → Holds plan (calls tries) → More plan (calls tries')) where
   whole_map : (points : List ReadPoint) (calls : Tries → ℕ) → OnWhole points (calls tries) entries n tries store Holds
       → OnWhole points (calls tries') entries n tries' store More
@@ -40,7 +41,7 @@ module _ (entries : Entries) (n : ℕ) (tries tries' : Tries) (store : Store) (H
   tail_map on = from_map (tail_from n (info_of Sel store)) on
 
 -- the info is requested before anything is printed
-module _ (entries : Entries) (n : ℕ) (tries : Tries) (store : Store) (Holds : Plan → ℕ → Type 0)
+module _ (entries : EntryText) (n : ℕ) (tries : Tries) (store : Store) (Holds : Plan → ℕ → Type 0)
     (holds : (points : List ReadPoint) (plan : Plan) (calls : ℕ) → tries.count + 1 ≤ calls → Holds (after_points (AtRecord 0 ∷ points) plan) calls) where
   tried_all : (has : Bool) (id : ℕ) (walk : List Row) (end : WalkEnd) → OnTried has id walk end entries n tries store Holds
   tried_all true id walk end = holds [] (last_plan entries n (Id id) walk end) (tries.count + 1 + walk_call_bound Form.Skipped store tries walk) (omega arith)
@@ -87,17 +88,17 @@ none_left : {T : Type 0} (done rest : List T) → [] ≡ done ++ rest → rest �
 none_left [] rest is = sym is
 none_left (d ∷ done) rest is = cc is
 
-no_last : (entries : Entries) (start : Place) (walk : List Row) (end : WalkEnd) → last_items entries 0 start walk end ≡ []
+no_last : (entries : EntryText) (start : Place) (walk : List Row) (end : WalkEnd) → last_items entries 0 start walk end ≡ []
 no_last entries start walk Done =
     let all : length walk - 0 ≡ length walk = omega arith in
-    ap (λ (rows : List Row). row_items (Form.EntryLine entries) (place_after_rows start (take (length walk - 0) walk)) rows)
+    ap (λ (rows : List Row). row_items (Form.Entry entries) (place_after_rows start (take (length walk - 0) walk)) rows)
     (ap (λ (k : ℕ). drop k walk) all ∙ drop-length walk)
 no_last entries start walk (CycleAt id) = refl
 no_last entries start walk (MissingAt id) = refl
 
 -- it did not end as a walk does
-no_end : (entries : Entries) (n kept : ℕ) (walk : List Row) (end : WalkEnd) (failure : Failure) → is_tail n kept (Err failure) ≡ Err failure
-    → Err failure ≡ rows_end (Form.EntryLine entries) walk end → ⊥
+no_end : (entries : EntryText) (n kept : ℕ) (walk : List Row) (end : WalkEnd) (failure : Failure) → is_tail n kept (Err failure) ≡ Err failure
+    → Err failure ≡ rows_end (Form.Entry entries) walk end → ⊥
 no_end entries n kept walk Done failure is at = cc at
 no_end entries n kept walk (CycleAt id) failure is at =
     let of : failure ≡ Failure.Ended (Ended.Cycle id) = cc at in
@@ -106,13 +107,13 @@ no_end entries n kept walk (MissingAt id) failure is at =
     let of : failure ≡ Failure.Ended (Ended.Missing id) = cc at in
     cc (subst (λ (f : Failure). is_tail n kept (Err f) ≡ Err f) of is)
 
-module _ (IsText : Subject → Output → Type 0) (entries : Entries) (n kept : ℕ) (start : Place) (walk : List Row) (end : WalkEnd)
+module _ (IsText : Subject → Output → Type 0) (entries : EntryText) (n kept : ℕ) (start : Place) (walk : List Row) (end : WalkEnd)
     (plan : Plan) (text : Output) (failure : Failure) (is : is_tail n kept (Err failure) ≡ Err failure) where
   abbrev vain : Plan
   vain = after_points (AtRecord 0 ∷ points_of_walk start walk end) plan
 
   abbrev empty : Plan
-  empty = record { items = []; end = rows_end (Form.EntryLine entries) walk end; end_points = points_of_walk start walk end }
+  empty = record { items = []; end = rows_end (Form.Entry entries) walk end; end_points = points_of_walk start walk end }
 
   stop_there : (rest : List Item) (point : ReadPoint) → rest ≡ [] → IsAmong (next_points rest (points_of_walk start walk end)) point
       → IsAmong (next_points vain.items vain.end_points) point
@@ -134,13 +135,13 @@ module _ (IsText : Subject → Output → Type 0) (entries : Entries) (n kept : 
   stopped_allowed allowed =
       stopped (cause_of (Err failure)) (subst (λ (items : List Item). Leaves IsText (record {
         items = with_first_points (points_of_walk start walk end) items;
-        end = rows_end (Form.EntryLine entries) walk end;
+        end = rows_end (Form.Entry entries) walk end;
         end_points = end_points_of_last (points_of_walk start walk end) items (points_at_walk_end start walk end);
       }) text text (Err failure) (cause_of (Err failure))) (no_last entries start walk end) allowed)
 
 -- ---- whether a walk has the last entries
 
-module _ (entries : Entries) (n : ℕ) (IsText : Subject → Output → Type 0) (start : Place) (walk : List Row) (end : WalkEnd) (text : Output) (kept : List KeptEntry) where
+module _ (entries : EntryText) (n : ℕ) (IsText : Subject → Output → Type 0) (start : Place) (walk : List Row) (end : WalkEnd) (text : Output) (kept : List KeptEntry) where
   kept_length : kept ≡ last_of n (kept_rows walk) → length kept ≡ length walk - (length walk - n)
   kept_length is = ap (length {A = KeptEntry}) is ∙ length-drop (length (kept_rows walk) - n) (kept_rows walk)
       ∙ ap (λ (size : ℕ). size - (size - n)) (length-map walk kept_row)
@@ -152,13 +153,13 @@ module _ (entries : Entries) (n : ℕ) (IsText : Subject → Output → Type 0) 
   has_not (Ok done) keeps is = rw keeps.0 (grind (arith, kept_length keeps.1))
   has_not (Err (Failure.Ended (Ended.Cycle id))) keeps is = ended end (keeps entries n).1
     where
-      ended : (end : WalkEnd) → Err (Failure.Ended (Ended.Cycle id)) ≡ rows_end (Form.EntryLine entries) walk end → has_last n walk end ≡ false
+      ended : (end : WalkEnd) → Err (Failure.Ended (Ended.Cycle id)) ≡ rows_end (Form.Entry entries) walk end → has_last n walk end ≡ false
       ended Done at = cc at
       ended (CycleAt id) at = refl
       ended (MissingAt id) at = refl
   has_not (Err (Failure.Ended (Ended.Missing id))) keeps is = ended end (keeps entries n).1
     where
-      ended : (end : WalkEnd) → Err (Failure.Ended (Ended.Missing id)) ≡ rows_end (Form.EntryLine entries) walk end → has_last n walk end ≡ false
+      ended : (end : WalkEnd) → Err (Failure.Ended (Ended.Missing id)) ≡ rows_end (Form.Entry entries) walk end → has_last n walk end ≡ false
       ended Done at = cc at
       ended (CycleAt id) at = refl
       ended (MissingAt id) at = refl
@@ -234,26 +235,26 @@ tail_err n kept (Err other) failure is =
 
 -- ---- the runs
 
-unread_ends : (entries : Entries) (unread : ReadError) (seen : Seen) → LacksValue unread seen
-    → EndsListing (Form.EntryLine entries) seen (Err (failure_of unread))
+unread_ends : (entries : EntryText) (unread : ReadError) (seen : Seen) → LacksValue unread seen
+    → EndsListing (Form.Entry entries) seen (Err (failure_of unread))
 unread_ends entries unread seen lacks = grind (arith, refuses_record)
 
-module _ (entries : Entries) (n : ℕ) (tries : Tries) (s m : Seen) (asked : m.calls ≤ s.calls + (tries.count + 1)) where
+module _ (x : Texts) (entries : EntryText) (n : ℕ) (tries : Tries) (s m : Seen) (asked : m.calls ≤ s.calls + (tries.count + 1)) where
   abbrev FoundStart : Result (Option ℕ) ReadError → Type 0
   FoundStart result = IsHonest s → Finds (λ store start. start ≡ tail_from n (info_of Sel store)) (AtRecord 0 ∷ []) tries s m result
 
   -- the info was not read
   pub start_unread : (text : Output) (unread : ReadError) → LacksValue unread m → FoundStart (Err unread)
-      → Runs (Job.Tail entries n) tries (change s m text text) (Err (failure_of unread))
+      → Runs x (Job.Tail entries n) tries (change s m text text) (Err (failure_of unread))
   start_unread text unread lacks found = record {
     calls = omega (arith, asked);
     ends = unread_ends entries unread m lacks;
     why = λ h. (found h).asks.ends;
     prints = λ h same. tail_all entries n tries s.store
-        (λ plan calls. IsAllowed (IsPieceOver s.store) plan text text (Err (failure_of unread)) × (m.calls ≤ s.calls + calls))
+        (λ plan calls. IsAllowed (IsPieceOver x s.store) plan text text (Err (failure_of unread)) × (m.calls ≤ s.calls + calls))
         (λ points plan calls some.
         let all = points ++ next_points plan.items plan.end_points in (
-          none_leaves (IsPieceOver s.store) (after_points (AtRecord 0 ∷ points) plan) text (Err (failure_of unread))
+          none_leaves (IsPieceOver x s.store) (after_points (AtRecord 0 ∷ points) plan) text (Err (failure_of unread))
               (rw (next_points-first (AtRecord 0 ∷ all) plan.items plan.end_points)
               (stop_wide (AtRecord 0 ∷ []) (AtRecord 0 ∷ all) (cause_of (Err (failure_of unread))) (one_among all) (found h).there)),
           omega (arith, asked, some),
@@ -267,7 +268,7 @@ module _ (entries : Entries) (n : ℕ) (tries : Tries) (s m : Seen) (asked : m.c
       λ first log grew. (
         first,
         log_now s m (found h).asks.ends.stays.store h first log,
-        none_leaves (IsTextWhile s m) (last_plan entries n First first Done) text (Err (failure_of unread))
+        none_leaves (IsTextWhile x s m) (last_plan entries n First first Done) text (Err (failure_of unread))
             (rw (next_points-first (points_of_walk First first Done) (last_items entries n First first Done) (points_at_walk_end First first Done))
             (stop_wide (AtRecord 0 ∷ []) (points_of_walk First first Done) (cause_of (Err (failure_of unread))) (λ point among. first_among first Done point refl among) (found h).there)),
       ),
@@ -278,14 +279,14 @@ module _ (entries : Entries) (n : ℕ) (tries : Tries) (s m : Seen) (asked : m.c
   -- the walk from this start is printed; `b` is the state before it
   module _ (b s' : Seen) (old new : Output) (ending : Ending) where
     abbrev H : Plan → ℕ → Type 0
-    H plan calls = IsAllowed (IsPieceOver s.store) plan old new ending × (s'.calls ≤ s.calls + calls)
+    H plan calls = IsAllowed (IsPieceOver x s.store) plan old new ending × (s'.calls ≤ s.calls + calls)
 
     tail_run : (from : Option ℕ) → s'.calls ≤ s.calls + most_on_tail tries
         → (IsHonest s → EndsFor tries (IsTrue s.plain) s b AtEnd)
         → (IsHonest s → IsTailStart n b.store (start_of from))
-        → Runs (Job.LastKept entries n from) tries (change b s' old new) ending
+        → Runs x (Job.LastKept entries n from) tries (change b s' old new) ending
         → (IsHonest s → s'.stores_added ≡ s.stores_added → OnTail entries n tries s.store H)
-        → Runs (Job.Tail entries n) tries (change s s' old new) ending
+        → Runs x (Job.Tail entries n) tries (change s s' old new) ending
     tail_run from calls before begins runs prints = record {
       calls = calls;
       ends = runs.ends;
@@ -303,7 +304,7 @@ module _ (entries : Entries) (n : ℕ) (tries : Tries) (s m : Seen) (asked : m.c
                 let g = runs.grows first.honest rows log grew in (
                   g.0,
                   g.1,
-                  leaves_map (IsTextWhile b s') (IsTextWhile s s') (while_second s b s' first.store later.store) (last_plan entries n (start_of from) g.0 Done) old new ending (cause_of ending) g.2,
+                  leaves_map (IsTextWhile x b s') (IsTextWhile x s s') (while_second x s b s' first.store later.store) (last_plan entries n (start_of from) g.0 Done) old new ending (cause_of ending) g.2,
                 ),
           );
       traces = λ h. let first = (before h).stays in inr (b, start_of from, first, begins h, runs.traces first.honest);
@@ -311,14 +312,14 @@ module _ (entries : Entries) (n : ℕ) (tries : Tries) (s m : Seen) (asked : m.c
 
     -- along the walk from the first entry
     whole_prints : (points : List ReadPoint) (calls : ℕ) → b.calls ≤ s.calls + calls → b.store ≡ s.store
-        → Prints (Job.LastKept entries n None) tries (change b s' old new) ending → OnWhole points calls entries n tries s.store H
+        → Prints x (Job.LastKept entries n None) tries (change b s' old new) ending → OnWhole points calls entries n tries s.store H
     whole_prints points calls before same prints = λ walk end w ends.
         let on = (rw same at prints) walk end w ends in
-        (after_allowed (IsPieceOver s.store) points (last_plan entries n First walk end) old new ending on.0, omega (arith, on.1, before))
+        (after_allowed (IsPieceOver x s.store) points (last_plan entries n First walk end) old new ending on.0, omega (arith, on.1, before))
 
   -- the info suggests no start
   pub tail_whole : (s' : Seen) (old new : Output) (ending : Ending) → FoundStart (Ok None)
-      → Runs (Job.LastKept entries n None) tries (change m s' old new) ending → Runs (Job.Tail entries n) tries (change s s' old new) ending
+      → Runs x (Job.LastKept entries n None) tries (change m s' old new) ending → Runs x (Job.Tail entries n) tries (change s s' old new) ending
   tail_whole s' old new ending found runs = tail_run m s' old new ending None (omega (arith, asked, runs.calls)) (λ h. (found h).asks.ends) (λ h. tt) runs (λ h same.
       let first = (found h).asks.ends.stays in
       let since = between s m s' first (runs.why first.honest).stays same in
@@ -328,7 +329,7 @@ module _ (entries : Entries) (n : ℕ) (tries : Tries) (s m : Seen) (asked : m.c
 
   module _ (id : ℕ) (found : FoundStart (Ok (Some id))) (b : Seen) (kept : List KeptEntry) (walked : Ending)
       (calls : b.calls ≤ m.calls + most_on_walk Form.Skipped tries)
-      (keeps : IsHonest m → (text : Output) → KeepsEntries n (Id id) tries m b text kept walked) where
+      (keeps : IsHonest m → (text : Output) → KeepsEntries x n (Id id) tries m b text kept walked) where
     abbrev after_info : (h : IsHonest s) → EndsFor tries (IsTrue s.plain) s m AtEnd
     after_info h = (found h).asks.ends
 
@@ -339,7 +340,7 @@ module _ (entries : Entries) (n : ℕ) (tries : Tries) (s m : Seen) (asked : m.c
 
     -- the walk from the suggested id has the last entries
     pub tail_there : walked ≡ Ok tt → is_tail n (length kept) (Ok tt) ≡ Ok true → (old new : Output) (ending : Ending)
-        → Runs (Job.LastKept entries n (Some id)) tries (change m b old new) ending → Runs (Job.Tail entries n) tries (change s b old new) ending
+        → Runs x (Job.LastKept entries n (Some id)) tries (change m b old new) ending → Runs x (Job.Tail entries n) tries (change s b old new) ending
     tail_there done is old new ending runs = tail_run m b old new ending (Some id) (omega (arith, asked, runs.calls)) after_info (λ h. sym ((found h).is tt)) runs (λ h same.
         let first = (after_info h).stays in
         let since = between s m b first (runs.why first.honest).stays same in
@@ -350,12 +351,12 @@ module _ (entries : Entries) (n : ℕ) (tries : Tries) (s m : Seen) (asked : m.c
         (λ walk end w ends.
         let on = prints walk end w ends in
         subst (λ (all : Bool). OnTried all id walk end entries n tries s.store (H m b old new ending))
-        (sym (has entries n (IsPieceOver s.store) (Id id) walk end old kept (rw done at (along walk end w ends).0) is))
-        (after_allowed (IsPieceOver s.store) (AtRecord 0 ∷ []) (last_plan entries n (Id id) walk end) old new ending on.0, omega (arith, on.1, asked))))
+        (sym (has entries n (IsPieceOver x s.store) (Id id) walk end old kept (rw done at (along walk end w ends).0) is))
+        (after_allowed (IsPieceOver x s.store) (AtRecord 0 ∷ []) (last_plan entries n (Id id) walk end) old new ending on.0, omega (arith, on.1, asked))))
 
     -- it does not have them
     pub tail_elsewhere : is_tail n (length kept) walked ≡ Ok false → (s' : Seen) (old new : Output) (ending : Ending)
-        → Runs (Job.LastKept entries n None) tries (change b s' old new) ending → Runs (Job.Tail entries n) tries (change s s' old new) ending
+        → Runs x (Job.LastKept entries n None) tries (change b s' old new) ending → Runs x (Job.Tail entries n) tries (change s s' old new) ending
     tail_elsewhere is s' old new ending runs = tail_run b s' old new ending None (omega (arith, asked, calls, runs.calls)) (after_walk false is old) (λ h. tt) runs (λ h same.
         let first = (after_info h).stays in
         let walk_ = (keeps first.honest old).ends.stays in
@@ -368,16 +369,16 @@ module _ (entries : Entries) (n : ℕ) (tries : Tries) (s m : Seen) (asked : m.c
         (λ walk end w ends.
         let on = along walk end w ends in
         subst (λ (all : Bool). OnTried all id walk end entries n tries s.store (H b s' old new ending))
-        (sym (has_not entries n (IsPieceOver s.store) (Id id) walk end old kept walked on.0 is))
+        (sym (has_not entries n (IsPieceOver x s.store) (Id id) walk end old kept walked on.0 is))
         (whole_prints b s' old new ending (AtRecord 0 ∷ points_of_walk (Id id) walk end) (tries.count + 1 + walk_call_bound Form.Skipped s.store tries walk)
         (omega (arith, asked, on.1)) (both.store.stays since.0) (runs.prints both.honest since.1))))
 
     -- it failed
     pub tail_failed : (failure : Failure) → walked ≡ Err failure → is_tail n (length kept) (Err failure) ≡ Err failure → (text : Output)
-        → EndsListing Form.Skipped b (Err failure) → Runs (Job.Tail entries n) tries (change s b text text) (Err failure)
+        → EndsListing Form.Skipped b (Err failure) → Runs x (Job.Tail entries n) tries (change s b text text) (Err failure)
     tail_failed failure failed is text may =
-        let of : (h : IsHonest m) (text : Output) → KeepsEntries n (Id id) tries m b text kept (Err failure) = rw failed at keeps in
-        let runs = kept_failed entries n (Some id) tries m b kept calls text failure may (λ h. of h text) in
+        let of : (h : IsHonest m) (text : Output) → KeepsEntries x n (Id id) tries m b text kept (Err failure) = rw failed at keeps in
+        let runs = kept_failed x entries n (Some id) tries m b kept calls text failure may (λ h. of h text) in
         tail_run m b text text (Err failure) (Some id) (omega (arith, asked, calls)) after_info (λ h. sym ((found h).is tt)) runs (λ h same.
         let first = (after_info h).stays in
         let since = between s m b first (runs.why first.honest).stays same in
@@ -386,23 +387,23 @@ module _ (entries : Entries) (n : ℕ) (tries : Tries) (s m : Seen) (asked : m.c
         subst (λ (start : Option ℕ). OnTailFrom start entries n tries s.store (H m b text text (Err failure))) (rw store at ((found h).is tt))
         (λ walk end w ends. let on = along walk end w ends in by walk end on.0 on.1 (has_last n walk end)))
       where
-        by : (walk : List Row) (end : WalkEnd) → Keeps n (IsPieceOver s.store) (Id id) walk end text kept (Err failure)
+        by : (walk : List Row) (end : WalkEnd) → Keeps n (IsPieceOver x s.store) (Id id) walk end text kept (Err failure)
             → b.calls ≤ m.calls + walk_call_bound Form.Skipped s.store tries walk → (all : Bool)
             → OnTried all id walk end entries n tries s.store (H m b text text (Err failure))
         by walk end stop walk_calls true =
-            (after_allowed (IsPieceOver s.store) (AtRecord 0 ∷ []) (last_plan entries n (Id id) walk end) text text (Err failure) (stop entries n), omega (arith, asked, walk_calls))
+            (after_allowed (IsPieceOver x s.store) (AtRecord 0 ∷ []) (last_plan entries n (Id id) walk end) text text (Err failure) (stop entries n), omega (arith, asked, walk_calls))
         by walk end stop walk_calls false = λ rows at w ends.
-            (stopped_allowed (IsPieceOver s.store) entries n (length kept) (Id id) walk end (last_plan entries n First rows at) text failure is (stop entries 0), omega (arith, asked, walk_calls))
+            (stopped_allowed (IsPieceOver x s.store) entries n (length kept) (Id id) walk end (last_plan entries n First rows at) text failure is (stop entries 0), omega (arith, asked, walk_calls))
 
-    pub tail_found : is_tail n (length kept) walked ≡ Ok true → (old new : Output) (ending : Ending) → PrintsKept entries kept old new ending
-        → EndsPrinting ending → Runs (Job.Tail entries n) tries (change s b old new) ending
+    pub tail_found : is_tail n (length kept) walked ≡ Ok true → (old new : Output) (ending : Ending) → PrintsKept x entries kept old new ending
+        → EndsPrinting ending → Runs x (Job.Tail entries n) tries (change s b old new) ending
     tail_found is old new ending prints may =
         let of = tail_ok n (length kept) walked is in
         tail_there of.0 of.1 old new ending
-        (kept_run entries n (Some id) tries m b kept calls old new ending prints may (λ h. subst (KeepsEntries n (Id id) tries m b old kept) of.0 (keeps h old)))
+        (kept_run x entries n (Some id) tries m b kept calls old new ending prints may (λ h. subst (KeepsEntries x n (Id id) tries m b old kept) of.0 (keeps h old)))
 
     pub tail_stopped : (failure : Failure) → is_tail n (length kept) walked ≡ Err failure → EndsListing Form.Skipped b walked → (text : Output)
-        → Runs (Job.Tail entries n) tries (change s b text text) (Err failure)
+        → Runs x (Job.Tail entries n) tries (change s b text text) (Err failure)
     tail_stopped failure is may text =
         let of = tail_err n (length kept) walked failure is in
         tail_failed failure of.0 of.1 text (subst (EndsListing Form.Skipped b) of.0 may)

@@ -6,6 +6,7 @@ use Rattle.ipmi_commands.specs.Prelude.{cause_of_unread, Change, change, end_of,
 use Rattle.ipmi_commands.specs.Output.{and_then, IsCut, no_output, Output}
 use Rattle.ipmi_commands.proofs.NameLemmas.{Wrote}
 use Rattle.ipmi_commands.proofs.OutputLemmas.{nothing_then, then_assoc, then_nothing}
+use Rattle.ipmi_commands.specs.Format.{Texts}
 
 -- ---- one more step
 
@@ -43,46 +44,46 @@ pub next_more : (steps : List Stepped) (step : Stepped) (last : Seen)
 next_more [] step last = refl
 next_more (one ∷ steps) step last = refl
 
-texts_more : (form : Form) (steps : List Stepped) (step : Stepped) (last : Seen) (a b : Output)
-    → AreTextsOfSteps form steps step.before a → IsTextOfResult form step.result step.seen last b
-    → AreTextsOfSteps form (steps ++ step ∷ []) last (and_then a b)
-texts_more form [] step last a b are is = record { first = b; rest = no_output; is_first = is; is_rest = refl; joined = ap (λ (o : Output). and_then o b) are ∙ nothing_then b ∙ sym (then_nothing b) }
-texts_more form (one ∷ steps) step last a b are is = record {
+texts_more : (x : Texts) → (form : Form) (steps : List Stepped) (step : Stepped) (last : Seen) (a b : Output)
+    → AreTextsOfSteps x form steps step.before a → IsTextOfResult x form step.result step.seen last b
+    → AreTextsOfSteps x form (steps ++ step ∷ []) last (and_then a b)
+texts_more x form [] step last a b are is = record { first = b; rest = no_output; is_first = is; is_rest = refl; joined = ap (λ (o : Output). and_then o b) are ∙ nothing_then b ∙ sym (then_nothing b) }
+texts_more x form (one ∷ steps) step last a b are is = record {
   first = are.first;
   rest = and_then are.rest b;
-  is_first = subst (λ (s : Seen). IsTextOfResult form one.result one.seen s are.first) (sym (next_more steps step last)) are.is_first;
-  is_rest = texts_more form steps step last are.rest b are.is_rest is;
+  is_first = subst (λ (s : Seen). IsTextOfResult x form one.result one.seen s are.first) (sym (next_more steps step last)) are.is_first;
+  is_rest = texts_more x form steps step last are.rest b are.is_rest is;
   joined = ap (λ (o : Output). and_then o b) are.joined ∙ then_assoc are.first are.rest b;
 }
 
-prints_more : (form : Form) (steps : List Stepped) (step : Stepped) (last : Seen) (old mid new text : Output)
-    → PrintsSteps form steps step.before old mid → IsTextOfResult form step.result step.seen last text
-    → new ≡ and_then mid text → PrintsSteps form (steps ++ step ∷ []) last old new
-prints_more form steps step last old mid new text before is written = record {
+prints_more : (x : Texts) → (form : Form) (steps : List Stepped) (step : Stepped) (last : Seen) (old mid new text : Output)
+    → PrintsSteps x form steps step.before old mid → IsTextOfResult x form step.result step.seen last text
+    → new ≡ and_then mid text → PrintsSteps x form (steps ++ step ∷ []) last old new
+prints_more x form steps step last old mid new text before is written = record {
   text = and_then before.text text;
-  are = texts_more form steps step last before.text text before.are is;
+  are = texts_more x form steps step last before.text text before.are is;
   new_is = written ∙ ap (λ (o : Output). and_then o text) before.new_is ∙ then_assoc old before.text text;
 }
 
 -- ---- a listing that goes on
 
-pub record Tracing (form : Form) (count : ℕ) (begun now : CursorState) (c : Change) : Type 0 where
+pub record Tracing (x : Texts) (form : Form) (count : ℕ) (begun now : CursorState) (c : Change) : Type 0 where
   pub steps : List Stepped
   pub traced : IsTraced begun now c.seen c.seen' steps
-  pub printed : PrintsSteps form steps c.seen' c.old c.new
+  pub printed : PrintsSteps x form steps c.seen' c.old c.new
   pub count_is : count ≡ length (handed_out steps)
 
-unfoldable pub traced_none : (form : Form) (begun : CursorState) (s : Seen) (text : Output) → IsHonest s
-    → Tracing form 0 begun begun (change s s text text)
-traced_none form begun s text honest = record {
+unfoldable pub traced_none : (x : Texts) → (form : Form) (begun : CursorState) (s : Seen) (text : Output) → IsHonest s
+    → Tracing x form 0 begun begun (change s s text text)
+traced_none x form begun s text honest = record {
   steps = [];
   traced = record { are = tt; cursor = refl; stays = stays_refl s honest };
   printed = record { text = no_output; are = refl; new_is = sym (then_nothing text) };
   count_is = refl;
 }
 
-module _ {form : Form} {count : ℕ} {begun now : CursorState} {s s' : Seen} {old new : Output}
-    (t : Tracing form count begun now (change s s' old new)) {next : CursorState} {s'' : Seen}
+module _ (x : Texts) {form : Form} {count : ℕ} {begun now : CursorState} {s s' : Seen} {old new : Output}
+    (t : Tracing x form count begun now (change s s' old new)) {next : CursorState} {s'' : Seen}
     {result : Result (Option Row) Ended} (step : IsStep now next s' s'' result) where
   abbrev last_step : Stepped
   last_step = record { before = s'; result = result; cursor = next; seen = s'' }
@@ -101,118 +102,118 @@ module _ {form : Form} {count : ℕ} {begun now : CursorState} {s s' : Seen} {ol
   handed_more = handed_joined t.steps (last_step ∷ [])
 
   -- a step without a record has no text
-  none_more : (last : Seen) → IsTextOfResult form result s'' last no_output → PrintsSteps form all_steps last old new
-  none_more last is = prints_more form t.steps last_step last old new new no_output t.printed is (sym (then_nothing new))
+  none_more : (last : Seen) → IsTextOfResult x form result s'' last no_output → PrintsSteps x form all_steps last old new
+  none_more last is = prints_more x form t.steps last_step last old new new no_output t.printed is (sym (then_nothing new))
 
 -- ---- a listing that ends
 
 -- after its last record
-pub traced_whole : (form : Form) (wrote : Bool) (count : ℕ) {most : Option ℕ} {begun now : CursorState}
+pub traced_whole : (x : Texts) → (form : Form) (wrote : Bool) (count : ℕ) {most : Option ℕ} {begun now : CursorState}
     {c : Change} (steps : List Stepped) → IsTraced begun now c.seen c.seen' steps
-    → IsListed form most now steps c count → Wrote wrote c.old c.new
-    → TracesListing form most begun now c (end_of form wrote count)
-traced_whole (Form.Block wording name) false count steps traced listed none = record {
+    → IsListed x form most now steps c count → Wrote wrote c.old c.new
+    → TracesListing x form most begun now c (end_of form wrote count)
+traced_whole x (Form.Block name) false count steps traced listed none = record {
   steps = steps;
   traced = traced;
-  ends = inr (inr (inr (record { wording = wording; name = name; searched = refl; is = refl; count = count; listed = listed; nothing = none })));
+  ends = inr (inr (inr (record { name = name; searched = refl; is = refl; count = count; listed = listed; nothing = none })));
 }
-traced_whole (Form.Block wording name) true count steps traced listed some = record { steps = steps; traced = traced; ends = (listed, some) }
-traced_whole _ wrote count steps traced listed has = record { steps = steps; traced = traced; ends = (listed, tt) }
+traced_whole x (Form.Block name) true count steps traced listed some = record { steps = steps; traced = traced; ends = (listed, some) }
+traced_whole x _ wrote count steps traced listed has = record { steps = steps; traced = traced; ends = (listed, tt) }
 
 -- at its limit
-pub traced_full : {form : Form} (wrote : Bool) {count : ℕ} {begun now : CursorState} {s s' : Seen}
-    {old new : Output} (most : Option ℕ) → Tracing form count begun now (change s s' old new)
+pub traced_full : (x : Texts) → {form : Form} (wrote : Bool) {count : ℕ} {begun now : CursorState} {s s' : Seen}
+    {old new : Output} (most : Option ℕ) → Tracing x form count begun now (change s s' old new)
     → most ≡ Some count → IsWithin most count → Wrote wrote old new
-    → TracesListing form most begun now (change s s' old new) (end_of form wrote count)
-traced_full {form} wrote {count} most t limit within has =
-    traced_whole form wrote count t.steps t.traced (record { count_is = t.count_is; within = within; done = inl limit; printed = t.printed }) has
+    → TracesListing x form most begun now (change s s' old new) (end_of form wrote count)
+traced_full x {form} wrote {count} most t limit within has =
+    traced_whole x form wrote count t.steps t.traced (record { count_is = t.count_is; within = within; done = inl limit; printed = t.printed }) has
 
 -- the cursor returned no record, for this reason
-pub traced_ended : {form : Form} {count : ℕ} {begun now : CursorState} {s s' : Seen}
-    {old new : Output} (most : Option ℕ) (t : Tracing form count begun now (change s s' old new))
+pub traced_ended : (x : Texts) → {form : Form} {count : ℕ} {begun now : CursorState} {s s' : Seen}
+    {old new : Output} (most : Option ℕ) (t : Tracing x form count begun now (change s s' old new))
     {next : CursorState} {s'' : Seen} (ended : Ended) (step : IsStep now next s' s'' (Err ended))
     → IsHonest s' → IsWithin most (count + 1)
-    → TracesListing form most begun next (change s s'' old new) (Err (Failure.Ended ended))
-traced_ended {form} {count} {begun} {now} {s} {s'} {old} {new} most t {next} {s''} ended step honest within =
-    let rows : handed_out (all_steps t step) ≡ handed_out t.steps = handed_more t step ∙ append-nil (handed_out t.steps) in
-    let here : count + 1 ≡ length (handed_out (all_steps t step)) + 1 = omega (arith, t.count_is, ap (length {A = Row}) rows) in
+    → TracesListing x form most begun next (change s s'' old new) (Err (Failure.Ended ended))
+traced_ended x {form} {count} {begun} {now} {s} {s'} {old} {new} most t {next} {s''} ended step honest within =
+    let rows : handed_out (all_steps x t step) ≡ handed_out t.steps = handed_more x t step ∙ append-nil (handed_out t.steps) in
+    let here : count + 1 ≡ length (handed_out (all_steps x t step)) + 1 = omega (arith, t.count_is, ap (length {A = Row}) rows) in
     record {
-      steps = all_steps t step;
-      traced = all_traced t step s'' (stays_refl s'' (step.honest honest).stays.honest);
+      steps = all_steps x t step;
+      traced = all_traced x t step s'' (stays_refl s'' (step.honest honest).stays.honest);
       ends = inl (record {
         ended = ended;
         is = refl;
         done = t.steps;
-        step = last_step t step;
+        step = last_step x t step;
         are = refl;
         returned = refl;
         within = subst (IsWithin most) here within;
-        printed = none_more t step s'' refl;
+        printed = none_more x t step s'' refl;
       });
     }
 
 -- there are no more records
-pub traced_done : {form : Form} (wrote : Bool) {count : ℕ} {begun now : CursorState} {s s' : Seen}
-    {old new : Output} (most : Option ℕ) (t : Tracing form count begun now (change s s' old new))
+pub traced_done : (x : Texts) → {form : Form} (wrote : Bool) {count : ℕ} {begun now : CursorState} {s s' : Seen}
+    {old new : Output} (most : Option ℕ) (t : Tracing x form count begun now (change s s' old new))
     {next : CursorState} {s'' : Seen} (step : IsStep now next s' s'' (Ok None))
     → IsHonest s' → IsWithin most count → Wrote wrote old new
-    → TracesListing form most begun next (change s s'' old new) (end_of form wrote count)
-traced_done {form} wrote {count} {begun} {now} {s} {s'} {old} {new} most t {next} {s''} step honest within has =
-    let rows : handed_out (all_steps t step) ≡ handed_out t.steps = handed_more t step ∙ append-nil (handed_out t.steps) in
-    traced_whole form wrote count (all_steps t step) (all_traced t step s'' (stays_refl s'' (step.honest honest).stays.honest))
-    (record { count_is = t.count_is ∙ ap (length {A = Row}) (sym rows); within = within; done = inr step.leaves.1.place; printed = none_more t step s'' refl })
+    → TracesListing x form most begun next (change s s'' old new) (end_of form wrote count)
+traced_done x {form} wrote {count} {begun} {now} {s} {s'} {old} {new} most t {next} {s''} step honest within has =
+    let rows : handed_out (all_steps x t step) ≡ handed_out t.steps = handed_more x t step ∙ append-nil (handed_out t.steps) in
+    traced_whole x form wrote count (all_steps x t step) (all_traced x t step s'' (stays_refl s'' (step.honest honest).stays.honest))
+    (record { count_is = t.count_is ∙ ap (length {A = Row}) (sym rows); within = within; done = inr step.leaves.1.place; printed = none_more x t step s'' refl })
     has
 
 -- the last step returned no record
-traced_whole-steps : (form : Form) (wrote : Bool) (count : ℕ) {most : Option ℕ} {begun now : CursorState}
+traced_whole-steps : (x : Texts) → (form : Form) (wrote : Bool) (count : ℕ) {most : Option ℕ} {begun now : CursorState}
     {c : Change} (steps : List Stepped) (traced : IsTraced begun now c.seen c.seen' steps)
-    (listed : IsListed form most now steps c count) (has : Wrote wrote c.old c.new)
-    → (traced_whole form wrote count steps traced listed has).steps ≡ steps
+    (listed : IsListed x form most now steps c count) (has : Wrote wrote c.old c.new)
+    → (traced_whole x form wrote count steps traced listed has).steps ≡ steps
 unfolding traced_whole
-traced_whole-steps (Form.Block wording name) false count steps traced listed none = refl
-traced_whole-steps (Form.Block wording name) true count steps traced listed some = refl
-traced_whole-steps _ wrote count steps traced listed has = refl
+traced_whole-steps x (Form.Block name) false count steps traced listed none = refl
+traced_whole-steps x (Form.Block name) true count steps traced listed some = refl
+traced_whole-steps x _ wrote count steps traced listed has = refl
 
-pub traced_done-handed : {form : Form} (wrote : Bool) {count : ℕ} {begun now : CursorState} {s s' : Seen}
-    {old new : Output} (most : Option ℕ) (t : Tracing form count begun now (change s s' old new))
+pub traced_done-handed : (x : Texts) → {form : Form} (wrote : Bool) {count : ℕ} {begun now : CursorState} {s s' : Seen}
+    {old new : Output} (most : Option ℕ) (t : Tracing x form count begun now (change s s' old new))
     {next : CursorState} {s'' : Seen} (step : IsStep now next s' s'' (Ok None))
     (honest : IsHonest s') (within : IsWithin most count) (has : Wrote wrote old new)
-    → handed_out (traced_done wrote most t step honest within has).steps ≡ handed_out t.steps
+    → handed_out (traced_done x wrote most t step honest within has).steps ≡ handed_out t.steps
 unfolding traced_done
-traced_done-handed {form} wrote {count} most t step honest within has =
-    ap handed_out (traced_whole-steps form wrote count (all_steps t step) _ _ has) ∙ handed_more t step ∙ append-nil (handed_out t.steps)
+traced_done-handed x {form} wrote {count} most t step honest within has =
+    ap handed_out (traced_whole-steps x form wrote count (all_steps x t step) _ _ has) ∙ handed_more x t step ∙ append-nil (handed_out t.steps)
 
 -- a record was returned
-module _ {form : Form} {count : ℕ} {begun now : CursorState} {s s' : Seen} {old new : Output}
-    (most : Option ℕ) (t : Tracing form count begun now (change s s' old new)) {next : CursorState} {s'' : Seen}
+module _ (x : Texts) {form : Form} {count : ℕ} {begun now : CursorState} {s s' : Seen} {old new : Output}
+    (most : Option ℕ) (t : Tracing x form count begun now (change s s' old new)) {next : CursorState} {s'' : Seen}
     {row : Row} (step : IsStep now next s' s'' (Ok (Some row))) (last : Seen)
     (stays : StaysHonest s'' last) where
-  count_more : count + 1 ≡ length (handed_out (all_steps t step))
-  count_more = ap (λ (n : ℕ). n + 1) t.count_is ∙ sym (ap (length {A = Row}) (handed_more t step) ∙ length-append (handed_out t.steps) (row ∷ []))
+  count_more : count + 1 ≡ length (handed_out (all_steps x t step))
+  count_more = ap (λ (n : ℕ). n + 1) t.count_is ∙ sym (ap (length {A = Row}) (handed_more x t step) ∙ length-append (handed_out t.steps) (row ∷ []))
 
-  returns_last : IsWithin most (count + 1) → ReturnsLast most (all_steps t step) t.steps (last_step t step) row
+  returns_last : IsWithin most (count + 1) → ReturnsLast most (all_steps x t step) t.steps (last_step x t step) row
   returns_last within = record { are = refl; returned = refl; within = subst (IsWithin most) count_more within }
 
   -- its text was not found
   pub traced_lost : IsWithin most (count + 1) → (unread : ReadError)
       → IsStopAmong (points_because_of form row) (cause_of_unread unread)
-      → TracesListing form most begun next (change s last old new) (Err (failure_of unread))
+      → TracesListing x form most begun next (change s last old new) (Err (failure_of unread))
   traced_lost within unread there = record {
-    steps = all_steps t step;
-    traced = all_traced t step last stays;
-    ends = inr (inl (record { done = t.steps; step = last_step t step; row = row; last = returns_last within; there = there; printed = t.printed }));
+    steps = all_steps x t step;
+    traced = all_traced x t step last stays;
+    ends = inr (inl (record { done = t.steps; step = last_step x t step; row = row; last = returns_last within; there = there; printed = t.printed }));
   }
 
   -- a part of its text was written
-  pub traced_cut : IsWithin most (count + 1) → (text piece_text : Output) → IsTextAfter form row s'' last piece_text
+  pub traced_cut : IsWithin most (count + 1) → (text piece_text : Output) → IsTextAfter x form row s'' last piece_text
       → 0 < length piece_text.bytes → IsCut new text piece_text
-      → TracesListing form most begun next (change s last old text) (Err Failure.WriteFault)
+      → TracesListing x form most begun next (change s last old text) (Err Failure.WriteFault)
   traced_cut within text piece_text is some part = record {
-    steps = all_steps t step;
-    traced = all_traced t step last stays;
+    steps = all_steps x t step;
+    traced = all_traced x t step last stays;
     ends = inr (inr (inl (record {
       done = t.steps;
-      step = last_step t step;
+      step = last_step x t step;
       row = row;
       last = returns_last within;
       is = refl;
@@ -226,16 +227,16 @@ module _ {form : Form} {count : ℕ} {begun now : CursorState} {s s' : Seen} {ol
   }
 
   -- its text was written
-  pub traced_more : (text piece_text : Output) → IsTextAfter form row s'' last piece_text
-      → text ≡ and_then new piece_text → Tracing form (count + 1) begun next (change s last old text)
+  pub traced_more : (text piece_text : Output) → IsTextAfter x form row s'' last piece_text
+      → text ≡ and_then new piece_text → Tracing x form (count + 1) begun next (change s last old text)
   traced_more text piece_text is written = record {
-    steps = all_steps t step;
-    traced = all_traced t step last stays;
-    printed = prints_more form t.steps (last_step t step) last old new text piece_text t.printed is written;
+    steps = all_steps x t step;
+    traced = all_traced x t step last stays;
+    printed = prints_more x form t.steps (last_step x t step) last old new text piece_text t.printed is written;
     count_is = count_more;
   }
 
-  pub traced_more-handed : (text piece_text : Output) (is : IsTextAfter form row s'' last piece_text) (written : text ≡ and_then new piece_text)
+  pub traced_more-handed : (text piece_text : Output) (is : IsTextAfter x form row s'' last piece_text) (written : text ≡ and_then new piece_text)
       → handed_out (traced_more text piece_text is written).steps ≡ handed_out t.steps ++ row ∷ []
   unfolding traced_more
-  traced_more-handed text piece_text is written = handed_more t step
+  traced_more-handed text piece_text is written = handed_more x t step

@@ -8,6 +8,7 @@ use Rattle.ipmi_commands.specs.Below.{CursorState, Ending, Failure, is_whole_rec
 use Rattle.ipmi_commands.specs.Prelude.{Form, shelf_of, ShowsRow, WritesRecords, WritesWhole}
 use Rattle.ipmi_commands.specs.Output.{Output}
 use Rattle.ipmi_commands.proofs.CallLemmas.{HasCalled}
+use Rattle.ipmi_commands.specs.Format.{Texts}
 
 pub whole_record : (bytes : List ℕ) → length bytes ≡ sdr_len bytes → is_whole_record bytes ≡ true
 whole_record bytes is = grind (arith, nat_tests)
@@ -37,12 +38,12 @@ one_record count old new text bytes more before len is more_is = record {
   new_is = more_is ∙ rw (is, before.new_is, concat-append before.records bytes) (append_assoc old (concat before.records) bytes);
 }
 
-pub writes_more : (form : Form) (count : ℕ) (old new text more : List ℕ) (row : Row) (seen : Seen) (piece : Output)
+pub writes_more : (x : Texts) → (form : Form) (count : ℕ) (old new text more : List ℕ) (row : Row) (seen : Seen) (piece : Output)
     → WritesSoFar form count old new → length row.bytes ≡ whole_len (shelf_of form) row.bytes
-    → ShowsRow form row seen piece → text ≡ piece.bytes → more ≡ new ++ text → WritesSoFar form (count + 1) old more
-writes_more Form.Bytes count old new text more row seen piece before len shows is more_is =
+    → ShowsRow x form row seen piece → text ≡ piece.bytes → more ≡ new ++ text → WritesSoFar form (count + 1) old more
+writes_more x Form.Bytes count old new text more row seen piece before len shows is more_is =
     one_record count old new text row.bytes more before len (is ∙ shows) more_is
-writes_more _ count old new text more row seen piece before len shows is more_is = tt
+writes_more x _ count old new text more row seen piece before len shows is more_is = tt
 
 -- at most as many as there are ids
 pub writes_whole : {each : ℕ} {begun now : CursorState} {s s' : Seen} (form : Form) (count : ℕ) (old new : List ℕ) (ending : Ending)

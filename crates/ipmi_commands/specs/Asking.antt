@@ -4,8 +4,9 @@ use Rattle.std.specs.Prelude.{◌≡◌, ℕ, ◌+◌, ◌≤◌, ◌==◌, if�
 use Rattle.std.specs.declared.alloc.Global.{Global}
 use Rattle.ipmi_commands.specs.Below.{fru_of, FruEnded, KeepsReservations, LastFruCallSays, printed_name, ReadsInventory, ReadsRetryingParts, Row, sdr_view_of, SdrFault, SdrView, Store, Shelf, Seen, Failure}
 use Rattle.ipmi_commands.specs.declared.limits.Tries.{Tries}
+use Rattle.ipmi_commands.specs.declared.format.Detail.{Detail}
 use Rattle.ipmi_commands.specs.declared.job.Form.{Form}
-use Rattle.ipmi_commands.specs.declared.job.Wording.{Wording}
+use Rattle.ipmi_commands.specs.Format.{Texts}
 use Rattle.ipmi_commands.specs.declared.piece.Piece.{Piece}
 use Rattle.ipmi_commands.specs.declared.piece.RowText.{RowText}
 use Rattle.ipmi_commands.specs.declared.read_error.ReadError.{ReadError}
@@ -15,7 +16,7 @@ use Rattle.ipmi_commands.specs.Meanwhile.{KeepsAt}
 use Rattle.ipmi_commands.specs.Plan.{locator_points, ReadPoint}
 use Rattle.ipmi_commands.specs.Run.{LacksValue, NoneIsTrue, ShowsInventory}
 use Rattle.ipmi_commands.specs.Output.{Output, piece_of}
-use Rattle.ipmi_commands.specs.Texts.{IsDevicePiece, IsElsewhereIn, IsInfoIn, is_faulty_there, IsPieceOver, OfRow}
+use Rattle.ipmi_commands.specs.Texts.{IsDevicePiece, is_faulty_there, IsPieceOver, OfRow}
 use Rattle.ipmi_commands.specs.Traced.{IsStopAmong}
 
 -- ---- found, or not
@@ -69,14 +70,14 @@ abbrev pub row_piece : List ℕ → RowText → Output
 row_piece line text = piece_of (bytes_of line text) (row_has_fault text)
 
 -- a text of a locator's device, and what is counted for it
-pub record IsCountedDevice (wording : Wording) (store : Store) (name : List ℕ) (id : Option ℕ) (piece : Output) : Type 0 where
-  pub is_text : IsDevicePiece wording store name id piece.bytes
-  pub counted : piece ≡ piece_of piece.bytes (is_faulty_there wording store id)
+pub record IsCountedDevice (x : Texts) (store : Store) (name : List ℕ) (id : Option ℕ) (piece : Output) : Type 0 where
+  pub is_text : IsDevicePiece x store name id piece.bytes
+  pub counted : piece ≡ piece_of piece.bytes (is_faulty_there x store id)
 
 -- the result for the device of a record with these bytes, whatever its ids
-abbrev pub FindsLocator : Wording → List ℕ → Tries → Seen → Seen → Result Piece ReadError → Type 0
-FindsLocator wording bytes tries s s' result = (id next : ℕ) → Finds (λ store piece.
-    IsPieceOver store (OfRow (Form.Device wording) (record { id = id; next = next; bytes = bytes })) (shown piece))
+abbrev pub FindsLocator : Texts → List ℕ → Tries → Seen → Seen → Result Piece ReadError → Type 0
+FindsLocator x bytes tries s s' result = (id next : ℕ) → Finds (λ store piece.
+    IsPieceOver x store (OfRow Form.Device (record { id = id; next = next; bytes = bytes })) (shown piece))
     (locator_points (sdr_view_of bytes)) tries s s' result
 
 -- reading an inventory, over an honest controller, with so many tries for each part of it or for the whole
@@ -94,10 +95,10 @@ abbrev pub unread_inventory : ℕ → FruEnded → Result (Option (Vec ℕ Globa
 unread_inventory id ended = if is_absent ended then Ok None else Err (ReadError.Inventory id ended)
 
 -- the text of a shelf's info, if the store has one; otherwise none
-abbrev pub IsInfoText : Wording → Shelf → Option (List ℕ) → Option (List ℕ) → Type 0
-IsInfoText wording shelf None None = Unit {0}
-IsInfoText wording shelf (Some info) (Some text) = IsInfoIn wording shelf info text
-IsInfoText wording shelf _ _ = ⊥
+abbrev pub IsInfoText : Texts → Shelf → Option (List ℕ) → Option (List ℕ) → Type 0
+IsInfoText x shelf None None = Unit {0}
+IsInfoText x shelf (Some info) (Some text) = x.IsInfo shelf info text
+IsInfoText x shelf _ _ = ⊥
 
 -- ---- over any controller: the last call agrees with why nothing was found
 
@@ -109,29 +110,29 @@ LacksInventory _ seen = ⊥
 
 -- the text of a record in this form is missing
 abbrev pub PieceErrorIsTrue : Form → ReadError → Seen → Type 0
-PieceErrorIsTrue (Form.Line detail kind) unread seen = LacksValue unread seen
-PieceErrorIsTrue (Form.Block wording name) unread seen = LacksValue unread seen
-PieceErrorIsTrue (Form.Device wording) unread seen = LacksInventory unread seen
+PieceErrorIsTrue (Form.Record detail kind) unread seen = LacksValue unread seen
+PieceErrorIsTrue (Form.Block name) unread seen = LacksValue unread seen
+PieceErrorIsTrue Form.Device unread seen = LacksInventory unread seen
 PieceErrorIsTrue _ unread seen = unread ≡ ReadError.Memory
 
 -- the text for a device of this name that a locator names: that it is elsewhere; nothing for device 0, which was already printed; or the
 -- text of some inventory, or of none if the last call says that there is none
-abbrev pub ShowsDevice : Wording → List ℕ → Option ℕ → Seen → Output → Type 0
-ShowsDevice wording name None seen text = IsElsewhereIn wording name text.bytes × (text ≡ piece_of text.bytes false)
-ShowsDevice wording name (Some id) seen text =
-    MatchBool (id == 0) (text ≡ piece_of [] false) (ShowsInventory wording id (Some name) seen text)
+abbrev pub ShowsDevice : Texts → List ℕ → Option ℕ → Seen → Output → Type 0
+ShowsDevice x name None seen text = x.IsElsewhere name text.bytes × (text ≡ piece_of text.bytes false)
+ShowsDevice x name (Some id) seen text =
+    MatchBool (id == 0) (text ≡ piece_of [] false) (ShowsInventory x Detail.Line id (Some name) seen text)
 
 -- the same for a record; nothing if it is no FRU device locator
-abbrev pub ShowsLocator : Wording → Result SdrView SdrFault → Seen → Output → Type 0
-ShowsLocator wording (Ok (SdrView.Fru bytes)) seen text =
-    ShowsDevice wording (printed_name (SdrView.Fru bytes)) (fru_of (SdrView.Fru bytes)) seen text
-ShowsLocator wording _ seen text = text ≡ piece_of [] false
+abbrev pub ShowsLocator : Texts → Result SdrView SdrFault → Seen → Output → Type 0
+ShowsLocator x (Ok (SdrView.Fru bytes)) seen text =
+    ShowsDevice x (printed_name (SdrView.Fru bytes)) (fru_of (SdrView.Fru bytes)) seen text
+ShowsLocator x _ seen text = text ≡ piece_of [] false
 
 -- the same for a row in a listing of devices; in a listing of bytes, those of the record; nothing is said of other forms
-abbrev pub ShowsRow : Form → Row → Seen → Output → Type 0
-ShowsRow Form.Bytes row seen text = text.bytes ≡ row.bytes
-ShowsRow (Form.Device wording) row seen text = ShowsLocator wording (sdr_view_of row.bytes) seen text
-ShowsRow form row seen text = Unit {0}
+abbrev pub ShowsRow : Texts → Form → Row → Seen → Output → Type 0
+ShowsRow x Form.Bytes row seen text = text.bytes ≡ row.bytes
+ShowsRow x Form.Device row seen text = ShowsLocator x (sdr_view_of row.bytes) seen text
+ShowsRow x form row seen text = Unit {0}
 
 -- an info was read, or the last call says that there is none or why it was not read
 abbrev pub InfoSays : {T : Type 0} → Result (Option T) ReadError → Seen → Type 0

@@ -2,18 +2,16 @@
 use Rattle.std.specs.Prelude.{ℕ, ◌<◌, ◌≤◌, ◌&&◌, not, Bool, true, false, is_none, Option, None, Some, List}
 use Rattle.std.specs.Option.{ForSome}
 use Rattle.ipmi_commands.specs.Below.{Place, First, Id, End, start_of, Shelf, Sdr, Sel, Count, IsCount, Task}
-use Rattle.ipmi_commands.specs.declared.job.Detail.{Detail}
-use Rattle.ipmi_commands.specs.declared.job.Entries.{Entries}
+use Rattle.ipmi_commands.specs.declared.format.Detail.{Detail}
+use Rattle.ipmi_commands.specs.declared.job.EntryText.{EntryText}
 use Rattle.ipmi_commands.specs.declared.job.Form.{Form}
 use Rattle.ipmi_commands.specs.declared.job.Job.{Job}
 use Rattle.ipmi_commands.specs.declared.job.Listing.{Listing}
 use Rattle.ipmi_commands.specs.declared.job.NameLookup.{NameLookup}
-use Rattle.ipmi_commands.specs.declared.job.Wording.{Wording}
 
 -- the shelf of the records that are printed in this form
 abbrev pub shelf_of : Form → Shelf
-shelf_of (Form.EntryLine names) = Sel
-shelf_of Form.EntryBlock = Sel
+shelf_of (Form.Entry entries) = Sel
 shelf_of Form.Skipped = Sel
 shelf_of _ = Sdr
 
@@ -21,83 +19,62 @@ shelf_of _ = Sdr
 abbrev pub listing : Form → Place → Option ℕ → Listing
 listing form start most = record { form = form; start = start; most = most }
 
--- the lines of entries in a wording, with the names of these sensors; in codes, events have no names
-abbrev pub entries_in : Wording → List (List ℕ) → Entries
-entries_in Wording.Plain sensors = Entries.Plain
-entries_in Wording.Descriptive sensors = Entries.Descriptive sensors
-entries_in (Wording.Json labels) sensors = Entries.Json sensors labels
+-- entries with the names of these sensors
+abbrev pub named_entries : Detail → List (List ℕ) → EntryText
+named_entries detail sensors = record { detail = detail; sensors = Some sensors }
 
--- the job of listing the entries that `count` selects, each as such a line
-abbrev pub entries_job : Entries → Count → Option ℕ → Job
+-- the job of listing the entries that `count` selects, each as such a text
+abbrev pub entries_job : EntryText → Count → Option ℕ → Job
 entries_job entries Count.All from =
-    Job.Records (listing (Form.EntryLine entries) (start_of from) None)
+    Job.Records (listing (Form.Entry entries) (start_of from) None)
 entries_job entries (Count.First n) from =
-    Job.Records (listing (Form.EntryLine entries) (start_of from) (Some n))
+    Job.Records (listing (Form.Entry entries) (start_of from) (Some n))
 entries_job entries (Count.Last n) from = Job.Last entries n from
 entries_job entries (Count.Tail n) from = Job.Tail entries n
+
+-- the same, after the sensor data records were read for the names of sensors, if the form has names there
+abbrev pub events_job : Bool → Detail → Count → Option ℕ → Job
+events_job true detail count from = Job.NameLookup (NameLookup.Events detail count from)
+events_job false detail count from = entries_job (record { detail = detail; sensors = None }) count from
+
+-- all devices, that of id 0 with its name if the form has names
+abbrev pub devices_job : Bool → Job
+devices_job true = Job.NameLookup NameLookup.Devices
+devices_job false = Job.AllInventories None
 
 -- the same job, but the last entries of the log are kept in memory along one walk, and not counted on a first one
 abbrev pub keeping_last : Job → Job
 keeping_last (Job.Last entries n from) = Job.LastKept entries n from
 keeping_last job = job
 
--- the job of a task; a listing starts at the id `from`, or at the first record if there is none; `image
--- rewrite` has none, since only an image can do it
-abbrev pub job_of : Task → Option ℕ → Option Job
-job_of Task.Hex from = Some (Job.Records (listing Form.Raw (start_of from) None))
-job_of (Task.List kind) from =
-    Some (Job.Records (listing (Form.Line Detail.Short kind) (start_of from) None))
-job_of (Task.Elist kind) from =
-    Some (Job.Records (listing (Form.Line Detail.Extended kind) (start_of from) None))
-job_of (Task.Get name) from =
-    Some (Job.Records (listing (Form.Block Wording.Plain name) (start_of from) None))
-job_of (Task.SelList count) from = Some (entries_job Entries.Plain count from)
-job_of (Task.SelGet id) from = Some (Job.Records (listing Form.EntryBlock (Id id) (Some 1)))
-job_of (Task.Info shelf) from = Some (Job.Info Wording.Plain shelf)
-job_of (Task.Fru None) from = Some (Job.AllInventories Wording.Plain None)
-job_of (Task.Fru (Some id)) from = Some (Job.Inventory Wording.Plain id None)
-job_of Task.Rewrite from = None
-
--- The job of a task in a wording. With `Descriptive`, it prints the words of the standard's tables, and
--- one line for each device; a task without such a text is printed in codes. With `Json`, each job
--- prints objects, and `sel get` is a listing of one entry.
-abbrev pub job_in : Wording → Task → Option ℕ → Option Job
-job_in Wording.Descriptive (Task.List kind) from =
-    Some (Job.Records (listing (Form.Line Detail.Descriptive kind) (start_of from) None))
-job_in Wording.Descriptive (Task.Get name) from =
-    Some (Job.Records (listing (Form.Block Wording.Descriptive name) (start_of from) None))
-job_in Wording.Descriptive (Task.SelList count) from =
-    Some (Job.NameLookup Wording.Descriptive (NameLookup.Events count from))
-job_in Wording.Descriptive (Task.Fru None) from = Some (Job.NameLookup Wording.Descriptive NameLookup.Devices)
-job_in (Wording.Json labels) Task.Hex from =
-    Some (Job.Records (listing (Form.RawObject labels) (start_of from) None))
-job_in (Wording.Json labels) (Task.List kind) from =
-    Some (Job.Records (listing (Form.Line (Detail.Json labels) kind) (start_of from) None))
-job_in (Wording.Json labels) (Task.Elist kind) from =
-    Some (Job.Records (listing (Form.Line (Detail.Json labels) kind) (start_of from) None))
-job_in (Wording.Json labels) (Task.Get name) from =
-    Some (Job.Records (listing (Form.Block (Wording.Json labels) name) (start_of from) None))
-job_in (Wording.Json labels) (Task.SelList count) from =
-    Some (Job.NameLookup (Wording.Json labels) (NameLookup.Events count from))
-job_in (Wording.Json labels) (Task.SelGet id) from =
-    Some (Job.NameLookup (Wording.Json labels) (NameLookup.Events (Count.First 1) (Some id)))
-job_in (Wording.Json labels) (Task.Info shelf) from = Some (Job.Info (Wording.Json labels) shelf)
-job_in (Wording.Json labels) (Task.Fru None) from = Some (Job.NameLookup (Wording.Json labels) NameLookup.Devices)
-job_in (Wording.Json labels) (Task.Fru (Some id)) from =
-    Some (Job.Inventory (Wording.Json labels) id None)
-job_in _ task from = job_of task from
+-- The job of a task, in a form of output that has names in these details. A listing starts at the id `from`, or at the
+-- first record if there is none. `image rewrite` has no job, since only an image can do it.
+abbrev pub job_of : (Detail → Bool) → Task → Option ℕ → Option Job
+job_of has_names Task.Hex from = Some (Job.Records (listing Form.Hex (start_of from) None))
+job_of has_names (Task.List kind) from =
+    Some (Job.Records (listing (Form.Record Detail.Line kind) (start_of from) None))
+job_of has_names (Task.Elist kind) from =
+    Some (Job.Records (listing (Form.Record Detail.Long kind) (start_of from) None))
+job_of has_names (Task.Get name) from = Some (Job.Records (listing (Form.Block name) (start_of from) None))
+job_of has_names (Task.SelList count) from = Some (events_job (has_names Detail.Line) Detail.Line count from)
+job_of has_names (Task.SelGet id) from =
+    Some (events_job (has_names Detail.Block) Detail.Block (Count.First 1) (Some id))
+job_of has_names (Task.Info shelf) from = Some (Job.Info shelf)
+job_of has_names (Task.Fru None) from = Some (devices_job (has_names Detail.Line))
+job_of has_names (Task.Fru (Some id)) from = Some (Job.Inventory Detail.Block id None)
+job_of has_names Task.Rewrite from = None
 
 -- ---- listings of a whole shelf
 
 -- the form searches for a name
 abbrev pub searches : Form → Bool
-searches (Form.Block wording name) = true
+searches (Form.Block name) = true
 searches _ = false
 
 -- the job lists all records of a shelf, and searches for no name, so it can be done in pages
 abbrev pub lists_all : Job → Bool
 lists_all (Job.Records l) = is_none l.most && not (searches l.form)
-lists_all (Job.NameLookup wording (NameLookup.Events Count.All from)) = true
+lists_all (Job.NameLookup (NameLookup.Events detail Count.All from)) = true
 lists_all _ = false
 
 -- ---- for the contracts of private functions
@@ -115,7 +92,7 @@ IsFrom from = ForSome from (λ id. (0 < id) × (id < 65535))
 
 -- the same of what is listed with names
 abbrev pub IsNamed : NameLookup → Type 0
-IsNamed (NameLookup.Events count from) = IsCount count × IsFrom from
+IsNamed (NameLookup.Events detail count from) = IsCount count × IsFrom from
 IsNamed NameLookup.Devices = Unit {0}
 
 -- the job starts at such a place or id, and a number of first or last entries is at least 1
@@ -124,7 +101,7 @@ IsJob (Job.Records l) = IsPlace l.start
 IsJob (Job.Last entries n from) = (1 ≤ n) × IsFrom from
 IsJob (Job.LastKept entries n from) = (1 ≤ n) × IsFrom from
 IsJob (Job.Tail entries n) = 1 ≤ n
-IsJob (Job.NameLookup wording named) = IsNamed named
+IsJob (Job.NameLookup named) = IsNamed named
 IsJob _ = Unit {0}
 
 -- the listing, if the job is `Job.Records`

@@ -3,7 +3,7 @@ use Rattle.std.specs.Prelude.{◌≡◌, ◌⊎◌, ℕ, ◌+◌, ◌-◌, ◌�
 use Rattle.std.specs.FinSet as set
 use Rattle.ipmi_commands.specs.Below.{CursorState, Done, Ending, Failure, handed_out, IsHonest, OnGrowing, Place, Row, Seen, Sel, Store, WalkEnd}
 use Rattle.ipmi_commands.specs.declared.limits.Tries.{Tries}
-use Rattle.ipmi_commands.specs.declared.job.Entries.{Entries}
+use Rattle.ipmi_commands.specs.declared.job.EntryText.{EntryText}
 use Rattle.ipmi_commands.specs.declared.job.Form.{Form}
 use Rattle.ipmi_commands.specs.declared.kept.KeptEntry.{KeptEntry}
 use Rattle.ipmi_commands.specs.Allowed.{cause_of, change, ending_of, EndsFor, IsAllowed}
@@ -14,6 +14,7 @@ use Rattle.ipmi_commands.specs.Output.{Output}
 use Rattle.ipmi_commands.specs.Plan.{last_plan, OnWalk, ReadPoint, row_items}
 use Rattle.ipmi_commands.specs.Texts.{IsPieceOver, Subject}
 use Rattle.ipmi_commands.specs.Traced.{TracesListing}
+use Rattle.ipmi_commands.specs.Format.{Texts}
 
 -- the last n of some items, or all if there are fewer
 abbrev pub last_of : {T : Type 0} → ℕ → List T → List T
@@ -28,11 +29,11 @@ kept_rows rows = map kept_row rows
 
 -- A walk by a cursor. It is a listing that skips each entry, so it leaves any output as it was. Over an honest controller,
 -- the last n of the entries that it returned were kept.
-pub record KeepsByCursor (n : ℕ) (tries : Tries) (begun now : CursorState) (s s' : Seen) (text : Output)
+pub record KeepsByCursor (x : Texts) (n : ℕ) (tries : Tries) (begun now : CursorState) (s s' : Seen) (text : Output)
     (kept : List KeptEntry) (ending : Ending) : Type 0 where
   pub listed : Result ℕ Failure
   pub is : ending ≡ ending_of listed
-  pub lists : Lists Form.Skipped tries None begun now (change s s' text text) listed
+  pub lists : Lists x Form.Skipped tries None begun now (change s s' text text) listed
   pub kept_are : (h : IsHonest s) → IfOk listed (λ count.
       kept ≡ last_of n (kept_rows (handed_out (lists.honest h).traces.steps)))
 
@@ -41,10 +42,10 @@ abbrev pub Keeps : ℕ → (Subject → Output → Type 0) → Place → List Ro
     → Type 0
 Keeps n IsText start walk end text kept (Ok done) = (end ≡ Done) × (kept ≡ last_of n (kept_rows walk))
 Keeps n IsText start walk end text kept (Err failure) =
-    (entries : Entries) (most : ℕ) → IsAllowed IsText (last_plan entries most start walk end) text text (Err failure)
+    (entries : EntryText) (most : ℕ) → IsAllowed IsText (last_plan entries most start walk end) text text (Err failure)
 
 -- the walk of the cursor that kept them
-pub record KeepsFrom (n : ℕ) (start : Place) (s s' : Seen) (text : Output) (kept : List KeptEntry) (ending : Ending) : Type 0 where
+pub record KeepsFrom (x : Texts) (n : ℕ) (start : Place) (s s' : Seen) (text : Output) (kept : List KeptEntry) (ending : Ending) : Type 0 where
   pub begun : CursorState
   pub now : CursorState
   pub walked : Result ℕ Failure
@@ -52,24 +53,24 @@ pub record KeepsFrom (n : ℕ) (start : Place) (s s' : Seen) (text : Output) (ke
   pub shelf : begun.shelf ≡ Sel
   pub place : begun.place ≡ start
   pub ids : begun.ids ≡ set.empty
-  pub walk : TracesListing Form.Skipped None begun now (change s s' text text) walked
+  pub walk : TracesListing x Form.Skipped None begun now (change s s' text text) walked
   pub kept_are : IfOk walked (λ count. kept ≡ last_of n (kept_rows (handed_out walk.steps)))
 
-pub record KeepsEntries (n : ℕ) (start : Place) (tries : Tries) (s s' : Seen) (text : Output)
+pub record KeepsEntries (x : Texts) (n : ℕ) (start : Place) (tries : Tries) (s s' : Seen) (text : Output)
     (kept : List KeptEntry) (ending : Ending) : Type 0 where
   pub ends : EndsFor tries (IsTrue s.plain) s s' (cause_of ending)
   pub along : s'.stores_added ≡ s.stores_added
-      → OnWalk Sel start s.store (λ walk end. Keeps n (IsPieceOver s.store) start walk end text kept ending
+      → OnWalk Sel start s.store (λ walk end. Keeps n (IsPieceOver x s.store) start walk end text kept ending
       × (s'.calls ≤ s.calls + walk_call_bound Form.Skipped s.store tries walk))
-  pub grows : OnGrowing Sel start s s' (λ log. Keeps n (IsTextWhile s s') start log Done text kept ending)
-  pub traces : ((ending ≡ Err Failure.OutOfMemory) × (s' ≡ s)) ⊎ KeepsFrom n start s s' text kept ending
+  pub grows : OnGrowing Sel start s s' (λ log. Keeps n (IsTextWhile x s s') start log Done text kept ending)
+  pub traces : ((ending ≡ Err Failure.OutOfMemory) × (s' ≡ s)) ⊎ KeepsFrom x n start s s' text kept ending
 
 -- their lines were printed, those of rows with these ids and bytes; wherever a run with these items may stop
-abbrev pub PrintsKept : Entries → List KeptEntry → Output → Output → Ending → Type 0
-PrintsKept entries kept old new ending =
+abbrev pub PrintsKept : Texts → EntryText → List KeptEntry → Output → Output → Ending → Type 0
+PrintsKept x entries kept old new ending =
     (store : Store) (rows : List Row) (start : Place) (points : List ReadPoint) → kept_rows rows ≡ kept
-    → IsAllowed (IsPieceOver store) (record {
-      items = row_items (Form.EntryLine entries) start rows;
+    → IsAllowed (IsPieceOver x store) (record {
+      items = row_items (Form.Entry entries) start rows;
       end = Ok tt;
       end_points = points;
     }) old new ending

@@ -2,6 +2,7 @@ pub mod Allowed
 pub mod Asking
 pub mod Below
 pub mod Calls
+pub mod Format
 pub mod Job
 pub mod Kept
 pub mod Laws
@@ -11,6 +12,7 @@ pub mod Named
 pub mod Output
 pub mod PagedRun
 pub mod Pages
+pub mod Plain
 pub mod Plan
 pub mod Prelude
 pub mod Printed

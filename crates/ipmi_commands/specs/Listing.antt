@@ -5,7 +5,7 @@ use Rattle.std.specs.FinSet as set
 use Rattle.std.specs.List.{AllPass, concat}
 use Rattle.ipmi_commands.specs.Below.{step_call_bound, digits, IsLog, OnGrowing, is_whole_record, OnlyGrew, WasLog, End, Place, Row, Shelf, Sel, Store, rows_of, IsWalk, WalkEnd, Done, EndsBy, place_after_rows, Seen, IsHonest, CursorState, StandsAt, CursorHoldsCurrent, Ending, Failure}
 use Rattle.ipmi_commands.specs.declared.limits.Tries.{Tries}
-use Rattle.ipmi_commands.specs.declared.job.Entries.{Entries}
+use Rattle.ipmi_commands.specs.declared.job.EntryText.{EntryText}
 use Rattle.ipmi_commands.specs.declared.job.Form.{Form}
 use Rattle.ipmi_commands.specs.Allowed.{ending_of, IsAllowed, EndsFor, cause_of, Change}
 use Rattle.ipmi_commands.specs.Calls.{calls_for, most_for_one, walk_call_bound}
@@ -15,6 +15,7 @@ use Rattle.ipmi_commands.specs.Plan.{OnWalk, first_rows, listing_plan, last_plan
 use Rattle.ipmi_commands.specs.Output.{Output}
 use Rattle.ipmi_commands.specs.Texts.{IsPieceOver, Subject}
 use Rattle.ipmi_commands.specs.Traced.{TracesListing}
+use Rattle.ipmi_commands.specs.Format.{Texts}
 
 -- ---- over any controller
 
@@ -26,7 +27,7 @@ is_reached (Some n) count = n == count
 -- the result of a listing after its last record: Ok, unless the listing searches for a name and
 -- wrote nothing
 abbrev pub end_of : {T : Type 0} → Form → Bool → T → Result T Failure
-end_of (Form.Block wording name) false with_ = Err (Failure.NoName name)
+end_of (Form.Block name) false with_ = Err (Failure.NoName name)
 end_of _ wrote with_ = Ok with_
 
 -- the limit is reached, or the cursor is at the end of the shelf; so it is if no record had the name
@@ -103,17 +104,17 @@ pub record ListsAll (form : Form) (tries : Tries) (most : Option ℕ) (begun now
 
 -- along a walk: the output is possible for a listing of the rest of the walk, the number of calls
 -- is bounded, and after Ok the cursor is after the returned rows
-pub record ListsAlong (form : Form) (tries : Tries) (most : Option ℕ) (begun now : CursorState)
+pub record ListsAlong (x : Texts) (form : Form) (tries : Tries) (most : Option ℕ) (begun now : CursorState)
     (c : Change) (result : Result ℕ Failure) (start : Place) (walk : List Row) (end : WalkEnd)
     (k : ℕ) : Type 0 where
-  pub leaves : IsAllowed (IsPieceOver c.seen.store)
+  pub leaves : IsAllowed (IsPieceOver x c.seen.store)
       (listing_plan (listing form (place_after_rows start (take k walk)) most) (drop k walk) end)
       c.old c.new (ending_of result)
   pub calls : CallsAlong form tries (first_rows most (drop k walk)) begun c.seen c.seen'
   pub all : IfOk result (λ count. ListsAll form tries most begun now c.seen c.seen' start walk k count)
 
 -- a listing by a cursor, over an honest controller
-pub record ListsHonestly (form : Form) (tries : Tries) (most : Option ℕ) (begun now : CursorState)
+pub record ListsHonestly (x : Texts) (form : Form) (tries : Tries) (most : Option ℕ) (begun now : CursorState)
     (c : Change) (result : Result ℕ Failure) : Type 0 where
   pub ends : EndsFor tries (IsTrue c.seen.plain × CursorHoldsCurrent begun c.seen) c.seen c.seen'
       (cause_of (ending_of result))
@@ -121,15 +122,15 @@ pub record ListsHonestly (form : Form) (tries : Tries) (most : Option ℕ) (begu
       → CursorHoldsCurrent now c.seen')
   pub along : c.seen'.stores_added ≡ c.seen.stores_added
       → OnEachWalk (shelf_of form) begun c.seen.store
-      (λ start walk end k. ListsAlong form tries most begun now c result start walk end k)
-  pub traces : TracesListing form most begun now c result
+      (λ start walk end k. ListsAlong x form tries most begun now c result start walk end k)
+  pub traces : TracesListing x form most begun now c result
 
 -- the contract of a listing by a cursor
-pub record Lists (form : Form) (tries : Tries) (most : Option ℕ) (begun now : CursorState) (c : Change)
+pub record Lists (x : Texts) (form : Form) (tries : Tries) (most : Option ℕ) (begun now : CursorState) (c : Change)
     (result : Result ℕ Failure) : Type 0 where
   pub keeps : KeepsListing begun now
   pub calls : ListingCalls (most_for_one form tries) most begun now c.seen c.seen' result
-  pub honest : IsHonest c.seen → ListsHonestly form tries most begun now c result
+  pub honest : IsHonest c.seen → ListsHonestly x form tries most begun now c result
 
 -- ---- the last entries
 
@@ -140,28 +141,28 @@ abbrev pub Counted : (Subject → Output → Type 0) → Place → List Row → 
 Counted IsText start walk end old new (Ok count) =
     (count ≡ length walk) × (end ≡ Done) × (new ≡ old)
 Counted IsText start walk end old new (Err failure) =
-    (entries : Entries) (n : ℕ)
+    (entries : EntryText) (n : ℕ)
     → IsAllowed IsText (last_plan entries n start walk end) old new (Err failure)
 
-pub record CountsEntries (start : Place) (tries : Tries) (c : Change)
+pub record CountsEntries (x : Texts) (start : Place) (tries : Tries) (c : Change)
     (result : Result ℕ Failure) : Type 0 where
   pub ends : EndsFor tries (IsTrue c.seen.plain) c.seen c.seen' (cause_of (ending_of result))
   pub along : c.seen'.stores_added ≡ c.seen.stores_added
       → OnWalk Sel start c.seen.store (λ walk end.
-      Counted (IsPieceOver c.seen.store) start walk end c.old c.new result
+      Counted (IsPieceOver x c.seen.store) start walk end c.old c.new result
       × (c.seen'.calls ≤ c.seen.calls + walk_call_bound Form.Skipped c.seen.store tries walk))
   pub grows : OnGrowing Sel start c.seen c.seen' (λ log.
-      Counted (IsTextWhile c.seen c.seen') start log Done c.old c.new result)
+      Counted (IsTextWhile x c.seen c.seen') start log Done c.old c.new result)
 
 -- `passed` entries were skipped and those after them listed; these are the last entries of a walk
 -- that ends with `Done`
-pub record ListsAfter (entries : Entries) (start : Place) (passed : ℕ) (tries : Tries)
+pub record ListsAfter (x : Texts) (entries : EntryText) (start : Place) (passed : ℕ) (tries : Tries)
     (c : Change) (ending : Ending) : Type 0 where
   pub ends : EndsFor tries (IsTrue c.seen.plain) c.seen c.seen' (cause_of ending)
   pub along : c.seen'.stores_added ≡ c.seen.stores_added
       → OnWalk Sel start c.seen.store (λ walk end. (n : ℕ) → end ≡ Done → passed ≡ length walk - n
-      → IsAllowed (IsPieceOver c.seen.store) (last_plan entries n start walk end) c.old c.new ending
+      → IsAllowed (IsPieceOver x c.seen.store) (last_plan entries n start walk end) c.old c.new ending
       × (c.seen'.calls ≤ c.seen.calls + walk_call_bound Form.Skipped c.seen.store tries walk))
   pub grows : (first : List Row) → passed ≤ length first → IsLog Sel start c.seen.store first
       → OnlyGrew Sel start c.seen c.seen' → (log : List Row) × WasLog Sel start c.seen c.seen' first log
-      × IsAllowed (IsTextWhile c.seen c.seen') (last_plan entries (length log - passed) start log Done) c.old c.new ending
+      × IsAllowed (IsTextWhile x c.seen c.seen') (last_plan entries (length log - passed) start log Done) c.old c.new ending

@@ -8,13 +8,14 @@ use Rattle.ipmi_commands.specs.Job.{shelf_of}
 use Rattle.ipmi_commands.specs.Plan.{listing_plan, Plan, ReadPoint, AtRecord, AtInventory}
 use Rattle.ipmi_commands.specs.Output.{Output}
 use Rattle.ipmi_commands.specs.Texts.{IsPieceOver, Subject}
+use Rattle.ipmi_commands.specs.Format.{Texts}
 
 -- a text of the subject over a store that the controller held meanwhile; each text may be over another
 -- one
-pub record IsTextWhile (s s' : Seen) (subject : Subject) (text : Output) : Type 0 where
+pub record IsTextWhile (x : Texts) (s s' : Seen) (subject : Subject) (text : Output) : Type 0 where
   pub store : Store
   pub held : WasHeld s s' store
-  pub is : IsPieceOver store subject text
+  pub is : IsPieceOver x store subject text
 
 -- the inventories at these points did not change from the first state to the second
 abbrev pub KeepsAt : List ReadPoint → Seen → Seen → Type 0
@@ -24,7 +25,7 @@ KeepsAt (AtInventory id ∷ points) s s' = Keeps (inventory_of id) s s' × Keeps
 
 -- if inventories are printed in this form, none changed
 abbrev pub KeepsFor : Form → Seen → Seen → Type 0
-KeepsFor (Form.Device wording) s s' = Keeps (λ store. store.inventories) s s'
+KeepsFor Form.Device s s' = Keeps (λ store. store.inventories) s s'
 KeepsFor form s s' = Unit {0}
 
 -- ---- records that are appended

@@ -13,6 +13,7 @@ use Rattle.ipmi_commands.specs.Plan.{OnWalk, Plan, first_rows, listing_plan}
 use Rattle.ipmi_commands.specs.Output.{Output}
 use Rattle.ipmi_commands.specs.Texts.{IsPieceOver}
 use Rattle.ipmi_commands.specs.Traced.{Traces}
+use Rattle.ipmi_commands.specs.Format.{Texts}
 
 -- the initial cursor of a listing, at the id `from` or at the first record, with these limits
 abbrev pub listing_cursor : RequestLimits → Form → Option ℕ → CursorState
@@ -45,9 +46,9 @@ GoesOn rows start used next =
     ⊎ ((next ≡ End) × (start ≡ First) × (first_row rows ≡ None))
 
 -- a page along the walk from its start: its output, its calls, and where the next page begins
-pub record PageAlong (form : Form) (start : Place) (tries : Tries) (most : Option ℕ) (c : Change)
+pub record PageAlong (x : Texts) (form : Form) (start : Place) (tries : Tries) (most : Option ℕ) (c : Change)
     (result : Result Place Failure) (walk : List Row) (end : WalkEnd) : Type 0 where
-  pub leaves : IsAllowed (IsPieceOver c.seen.store)
+  pub leaves : IsAllowed (IsPieceOver x c.seen.store)
       (listing_plan (listing form start most) walk end) c.old c.new (ending_of result)
   pub calls : c.seen'.calls ≤ c.seen.calls
       + walk_call_bound form c.seen.store tries (first_rows most walk)
@@ -55,38 +56,38 @@ pub record PageAlong (form : Form) (start : Place) (tries : Tries) (most : Optio
       (first_rows most walk) next)
 
 -- a page of at most `most` records if that is Some, over an honest controller
-pub record IsPage (form : Form) (start : Place) (tries : Tries) (most : Option ℕ) (c : Change)
+pub record IsPage (x : Texts) (form : Form) (start : Place) (tries : Tries) (most : Option ℕ) (c : Change)
     (result : Result Place Failure) : Type 0 where
   pub ends : EndsFor tries (IsTrue c.seen.plain) c.seen c.seen' (cause_of (ending_of result))
   pub none : most ≡ Some 0 → c.seen' ≡ c.seen
   pub along : c.seen'.stores_added ≡ c.seen.stores_added
       → OnWalk (shelf_of form) start c.seen.store
-      (λ walk end. PageAlong form start tries most c result walk end)
+      (λ walk end. PageAlong x form start tries most c result walk end)
   pub grows : OnGrowingListing (listing form start most) c.seen c.seen'
-      (λ plan. IsAllowed (IsTextWhile c.seen c.seen') plan c.old c.new (ending_of result))
-  pub traces : Traces form start most c result
+      (λ plan. IsAllowed (IsTextWhile x c.seen c.seen') plan c.old c.new (ending_of result))
+  pub traces : Traces x form start most c result
 
 -- ---- pages
 
 -- a page, and then the rest of the listing
-pub record PageThen (form : Form) (start : Place) (tries : Tries) (size : ℕ) (s : Seen) (old : Output)
+pub record PageThen (x : Texts) (form : Form) (start : Place) (tries : Tries) (size : ℕ) (s : Seen) (old : Output)
     (Rest : Place → Seen → Output → Type 0) : Type 0 where
   pub next : Place
   pub seen : Seen
   pub text : Output
-  pub page : IsPage form start tries (Some size) (change s seen old text) (Ok next)
+  pub page : IsPage x form start tries (Some size) (change s seen old text) (Ok next)
   pub rest : Rest next seen text
 
 -- pages of these sizes, then a page without a limit; a page that fails ends the listing
-abbrev pub ArePages : Form → Tries → Place → List ℕ → Change → Ending → Type 0
-ArePages form tries start [] c ending =
+abbrev pub ArePages : Texts → Form → Tries → Place → List ℕ → Change → Ending → Type 0
+ArePages x form tries start [] c ending =
     (result : Result Place Failure) × (ending ≡ ending_of result)
-    × IsPage form start tries None c result
-ArePages form tries start (size ∷ sizes) c ending =
+    × IsPage x form start tries None c result
+ArePages x form tries start (size ∷ sizes) c ending =
     ((failure : Failure) × (ending ≡ Err failure)
-    × IsPage form start tries (Some size) c (Err failure))
-    ⊎ PageThen form start tries size c.seen c.old (λ next seen text.
-    ArePages form tries next sizes (change seen c.seen' text c.new) ending)
+    × IsPage x form start tries (Some size) c (Err failure))
+    ⊎ PageThen x form start tries size c.seen c.old (λ next seen text.
+    ArePages x form tries next sizes (change seen c.seen' text c.new) ending)
 
 -- the number of pages that may make calls: those of a size above 0, and the last one
 abbrev pub pages_made : List ℕ → ℕ
@@ -103,15 +104,15 @@ IsOpen _ = Unit {0}
 -- along a walk that does not end with a cycle, the pages have an output that is possible for one
 -- listing: `after` gives the plan of the whole run; they take no more calls than `before`, for the
 -- rows, and for each page that may make calls
-abbrev pub IsOneListingAfter : (Plan → Plan) → ℕ → Form → Place → Tries → List ℕ → Change → Ending → Type 0
-IsOneListingAfter after before form start tries sizes c ending =
+abbrev pub IsOneListingAfter : Texts → (Plan → Plan) → ℕ → Form → Place → Tries → List ℕ → Change → Ending → Type 0
+IsOneListingAfter x after before form start tries sizes c ending =
     OnWalk (shelf_of form) start c.seen.store (λ walk end. IsOpen end
-    → IsAllowed (IsPieceOver c.seen.store) (after (listing_plan (listing form start None) walk end))
+    → IsAllowed (IsPieceOver x c.seen.store) (after (listing_plan (listing form start None) walk end))
     c.old c.new ending
     × (c.seen'.calls ≤ c.seen.calls + before + calls_for form c.seen.store tries walk
     + pages_made sizes * (step_call_bound tries.count 0 + 7)))
 
 -- the pages alone
-abbrev pub IsOneListing : Form → Place → Tries → List ℕ → Change → Ending → Type 0
-IsOneListing form start tries sizes c ending =
-    IsOneListingAfter (λ plan. plan) 0 form start tries sizes c ending
+abbrev pub IsOneListing : Texts → Form → Place → Tries → List ℕ → Change → Ending → Type 0
+IsOneListing x form start tries sizes c ending =
+    IsOneListingAfter x (λ plan. plan) 0 form start tries sizes c ending

@@ -3,11 +3,11 @@
 use Rattle.std.specs.Prelude.{ℕ, ◌-◌, ◌==◌, nat_le, ◌||◌, Bool, false, if◌then◌else◌, Option, Some, None, is_some, Result, Ok, Err, List, [], ◌∷◌, ◌++◌, length, map, take, drop}
 use Rattle.ipmi_commands.specs.Below.{Place, First, Shelf, Row, Store, rows_of, IsWalk, EndsBy, asked_at, WalkEnd, Done, CycleAt, MissingAt, place_after, place_after_rows, SdrFault, SdrView, Kind, Cycle, Missing, Ending, Failure}
 use Rattle.ipmi_records.specs.Sdr as sdr
-use Rattle.ipmi_commands.specs.declared.job.Entries.{Entries}
+use Rattle.ipmi_commands.specs.declared.job.EntryText.{EntryText}
 use Rattle.ipmi_commands.specs.declared.job.Form.{Form}
 use Rattle.ipmi_commands.specs.declared.job.Listing.{Listing}
-use Rattle.ipmi_commands.specs.declared.job.Wording.{Wording}
-use Rattle.ipmi_commands.specs.Texts.{row_is_of_kind, is_name, Subject, OfRow, OfInventory, OfInfo, OfImage}
+use Rattle.ipmi_commands.specs.declared.format.Detail.{Detail}
+use Rattle.ipmi_commands.specs.Texts.{row_is_of_kind, is_name, Subject, OfRow, OfInventory, OfInfo}
 
 -- `Holds` for each walk of a shelf from this place that has an end, and for that end; by a law of
 -- ipmi_bus there is exactly one
@@ -68,9 +68,9 @@ locator_points (Err fault) = []
 
 -- the points of the reading or inventory that a row requires
 abbrev pub points_because_of : Form → Row → List ReadPoint
-points_because_of (Form.Line detail kind) row = listed_points kind row
-points_because_of (Form.Block wording name) row = named_points name row.id (sdr.sdr_view_of row.bytes)
-points_because_of (Form.Device wording) row = locator_points (sdr.sdr_view_of row.bytes)
+points_because_of (Form.Record detail kind) row = listed_points kind row
+points_because_of (Form.Block name) row = named_points name row.id (sdr.sdr_view_of row.bytes)
+points_because_of Form.Device row = locator_points (sdr.sdr_view_of row.bytes)
 points_because_of _ row = []
 
 -- the ids requested along the rows
@@ -125,7 +125,7 @@ some_has_name name (row ∷ rows) =
 abbrev pub rows_end : Form → List Row → WalkEnd → Ending
 rows_end form rows (CycleAt n) = Err (Failure.Ended (Cycle n))
 rows_end form rows (MissingAt n) = Err (Failure.Ended (Missing n))
-rows_end (Form.Block wording name) rows Done =
+rows_end (Form.Block name) rows Done =
     if some_has_name name rows then Ok tt else Err (Failure.NoName name)
 rows_end form rows Done = Ok tt
 
@@ -149,15 +149,15 @@ abbrev pub end_points_of_last : List ReadPoint → List Item → List ReadPoint 
 end_points_of_last points [] at_end = points
 end_points_of_last points (item ∷ items) at_end = at_end
 
-abbrev pub last_items : Entries → ℕ → Place → List Row → WalkEnd → List Item
-last_items entries n start walk end = row_items (Form.EntryLine entries)
+abbrev pub last_items : EntryText → ℕ → Place → List Row → WalkEnd → List Item
+last_items entries n start walk end = row_items (Form.Entry entries)
     (place_after_rows start (take (length walk - n) walk)) (last_rows n walk end)
 
 -- the plan of a listing of the last n entries
-abbrev pub last_plan : Entries → ℕ → Place → List Row → WalkEnd → Plan
+abbrev pub last_plan : EntryText → ℕ → Place → List Row → WalkEnd → Plan
 last_plan entries n start walk end = record {
   items = with_first_points (points_of_walk start walk end) (last_items entries n start walk end);
-  end = rows_end (Form.EntryLine entries) walk end;
+  end = rows_end (Form.Entry entries) walk end;
   end_points = end_points_of_last (points_of_walk start walk end) (last_items entries n start walk end)
       (points_at_walk_end start walk end);
 }
@@ -200,28 +200,24 @@ text_plan subject points = record {
   end_points = [];
 }
 
-abbrev pub inventory_item : Wording → ℕ → Option (List ℕ) → Item
-inventory_item wording id name =
-    record { subject = OfInventory wording id name; points = AtInventory id ∷ [] }
+abbrev pub inventory_item : Detail → ℕ → Option (List ℕ) → Item
+inventory_item detail id name =
+    record { subject = OfInventory detail id name; points = AtInventory id ∷ [] }
 
--- the plan of one inventory, in this wording
-abbrev pub inventory_plan : Wording → ℕ → Option (List ℕ) → Plan
-inventory_plan wording id name = text_plan (OfInventory wording id name) (AtInventory id ∷ [])
+-- the plan of one inventory
+abbrev pub inventory_plan : Detail → ℕ → Option (List ℕ) → Plan
+inventory_plan detail id name = text_plan (OfInventory detail id name) (AtInventory id ∷ [])
 
 -- the plan of all inventories: that of device 0, with this name, then those of the locators
-abbrev pub inventories_plan : Wording → Option (List ℕ) → List Row → WalkEnd → Plan
-inventories_plan wording name walk end = record {
-  items = inventory_item wording 0 name ∷ row_items (Form.Device wording) First walk;
-  end = rows_end (Form.Device wording) walk end;
+abbrev pub inventories_plan : Option (List ℕ) → List Row → WalkEnd → Plan
+inventories_plan name walk end = record {
+  items = inventory_item Detail.Line 0 name ∷ row_items Form.Device First walk;
+  end = rows_end Form.Device walk end;
   end_points = points_at_walk_end First walk end;
 }
 
--- the plan of a shelf's info, in this wording: its text, or a failure if there is none
-abbrev pub info_plan : Wording → Shelf → Option (List ℕ) → Plan
-info_plan wording shelf None =
+-- the plan of a shelf's info: its text, or a failure if there is none
+abbrev pub info_plan : Shelf → Option (List ℕ) → Plan
+info_plan shelf None =
     record { items = []; end = Err Failure.NoInfo; end_points = AtRecord 0 ∷ [] }
-info_plan wording shelf (Some info) = text_plan (OfInfo wording shelf info) (AtRecord 0 ∷ [])
-
--- the plan of `image rewrite`
-abbrev pub rewrite_plan : Plan
-rewrite_plan = text_plan OfImage []
+info_plan shelf (Some info) = text_plan (OfInfo shelf info) (AtRecord 0 ∷ [])

@@ -1,24 +1,26 @@
 -- The contract of a run: over any controller, over an honest one, in pages, and over an image.
 use Rattle.std.specs.Prelude.{◌≡◌, ◌⊎◌, ℕ, ◌+◌, ◌*◌, ◌<◌, ◌≤◌, ◌-◌, IsTrue, false, Option, None, Some, Result, Ok, Err, List, [], length}
-use Rattle.ipmi_commands.specs.Below.{Count, device_name, Ended, FruEnded, LastCallSays, LastFailed, LastFruCallSays, NoneCame, NotPresent, RefusesRecord, RefusesValue, Seen, Shelf, start_of, Place, First, Sdr, Sel, Row, Store, Done, OnGrowing, WasLog, info_of, inventory_of, Keeps, WalkEnd, IsHonest, ImageFault, UsageFault, CommandState, Received, ReceivesText, Ending, Failure, failure_of_usage, said_of, status_of}
+use Rattle.ipmi_commands.specs.Below.{Count, device_name, image_text_of, Ended, FruEnded, LastCallSays, LastFailed, LastFruCallSays, NoneCame, NotPresent, RefusesRecord, RefusesValue, Seen, Shelf, start_of, Place, First, Sdr, Sel, Row, Store, Done, OnGrowing, WasLog, info_of, inventory_of, Keeps, WalkEnd, IsHonest, ImageFault, UsageFault, CommandState, Received, ReceivesText, Ending, Failure, failure_of_usage, said_of, status_of}
+use Rattle.ipmi_commands.specs.Plain.{plain_texts}
 use Rattle.ipmi_image.specs.Snapshot.{Saved, saved_text_of}
 use Rattle.ipmi_commands.specs.declared.limits.Tries.{Tries}
-use Rattle.ipmi_commands.specs.declared.job.Entries.{Entries}
+use Rattle.ipmi_commands.specs.declared.job.EntryText.{EntryText}
 use Rattle.ipmi_commands.specs.declared.job.Form.{Form}
 use Rattle.ipmi_commands.specs.declared.job.Job.{Job}
 use Rattle.ipmi_commands.specs.declared.job.Listing.{Listing}
 use Rattle.ipmi_commands.specs.declared.job.NameLookup.{NameLookup}
-use Rattle.ipmi_commands.specs.declared.job.Wording.{Wording}
+use Rattle.ipmi_commands.specs.declared.format.Detail.{Detail}
+use Rattle.ipmi_commands.specs.Format.{Texts}
 use Rattle.ipmi_commands.specs.declared.read_error.ReadError.{ReadError}
 use Rattle.ipmi_commands.specs.Allowed.{NoMemory, cause_of, ending_of, EndsFor, IsAllowed, IsFine, Change}
 use Rattle.ipmi_commands.specs.Calls.{calls_for_devices, calls_for_point, for_inventory, inventory_call_bound, walk_call_bound, most_on_walk}
-use Rattle.ipmi_commands.specs.Job.{entries_in, shelf_of, job_of, listing}
+use Rattle.ipmi_commands.specs.Job.{named_entries, shelf_of, job_of, listing}
 use Rattle.ipmi_commands.specs.Meanwhile.{IsTextWhile, OnGrowingListing}
 use Rattle.ipmi_commands.specs.Output.{and_then, IsCut, Output, piece_of}
 use Rattle.ipmi_commands.specs.Pages.{ArePages, IsOneListing, pages_made}
-use Rattle.ipmi_commands.specs.Plan.{OnWalk, AtInventory, Plan, after_names, bytes_of_rows, first_rows, last_rows, listing_plan, last_plan, inventory_plan, inventories_plan, info_plan, rewrite_plan}
+use Rattle.ipmi_commands.specs.Plan.{OnWalk, AtInventory, Plan, after_names, bytes_of_rows, first_rows, last_rows, listing_plan, last_plan, inventory_plan, inventories_plan, info_plan}
 use Rattle.ipmi_commands.specs.Tail.{OnGrowingTail, OnTail, TracesTail}
-use Rattle.ipmi_commands.specs.Texts.{is_faulty_device, IsInventoryIn, IsPieceOver}
+use Rattle.ipmi_commands.specs.Texts.{is_faulty_device, IsPieceOver}
 use Rattle.ipmi_commands.specs.Traced.{Traces, TracesLast}
 
 -- ---- over any controller
@@ -30,8 +32,8 @@ most_on_tail tries = tries.count + 1 + (most_on_walk Form.Skipped tries + most_o
 -- the largest number of calls for what is listed with names, after the walk that reads them; an
 -- inventory has at most 65,535 bytes, and at most 65,536 records locate a device besides device 0
 abbrev pub most_named : NameLookup → Tries → ℕ
-most_named (NameLookup.Events (Count.Tail n) from) tries = most_on_tail tries
-most_named (NameLookup.Events count from) tries = most_on_walk Form.Skipped tries
+most_named (NameLookup.Events detail (Count.Tail n) from) tries = most_on_tail tries
+most_named (NameLookup.Events detail count from) tries = most_on_walk Form.Skipped tries
 most_named NameLookup.Devices tries = 65537 * inventory_call_bound tries 65535
 
 -- the largest number of calls of a job
@@ -41,12 +43,12 @@ most_calls (Job.Last entries n from) tries =
     most_on_walk Form.Skipped tries + most_on_walk Form.Skipped tries
 most_calls (Job.LastKept entries n from) tries = most_on_walk Form.Skipped tries
 most_calls (Job.Tail entries n) tries = most_on_tail tries
-most_calls (Job.NameLookup wording named) tries =
+most_calls (Job.NameLookup named) tries =
     most_on_walk Form.Bytes tries + most_named named tries
-most_calls (Job.Info wording shelf) tries = tries.count + 1
-most_calls (Job.Inventory wording id name) tries = inventory_call_bound tries 65535
-most_calls (Job.AllInventories wording name) tries =
-    inventory_call_bound tries 65535 + most_on_walk (Form.Device wording) tries
+most_calls (Job.Info shelf) tries = tries.count + 1
+most_calls (Job.Inventory detail id name) tries = inventory_call_bound tries 65535
+most_calls (Job.AllInventories name) tries =
+    inventory_call_bound tries 65535 + most_on_walk Form.Device tries
 
 -- an entry of the log has a fixed length, so only a sensor data record can be malformed
 abbrev pub MayEndOn : Shelf → Ended → Type 0
@@ -61,9 +63,9 @@ EndsListing form seen (Ok done) = Unit {0}
 EndsListing form seen (Err (Failure.Ended ended)) =
     LastCallSays RefusesRecord ended seen × MayEndOn (shelf_of form) ended
 EndsListing form seen (Err (Failure.Inventory id ended)) =
-    (wording : Wording) × ((form ≡ Form.Device wording) × LastFruCallSays ended seen)
+    (form ≡ Form.Device) × LastFruCallSays ended seen
 EndsListing form seen (Err (Failure.NoName name)) =
-    (wording : Wording) × (form ≡ Form.Block wording name)
+    form ≡ Form.Block name
 EndsListing form seen (Err Failure.WriteFault) = Unit {0}
 EndsListing form seen (Err Failure.OutOfMemory) = Unit {0}
 EndsListing form seen _ = ⊥
@@ -71,12 +73,12 @@ EndsListing form seen _ = ⊥
 -- The possible ends of a listing after the walk that reads names. If that walk did not end with
 -- `Done`, names of sensors may be missing. It is also the walk of the locators: if no record had the
 -- next id, the last call was for an inventory.
-abbrev pub EndsNamed : Wording → NameLookup → Seen → Ending → Type 0
-EndsNamed wording (NameLookup.Events count from) seen (Err (Failure.NamesCycle n)) = Unit {0}
-EndsNamed wording (NameLookup.Events count from) seen (Err (Failure.NamesMissing n)) = Unit {0}
-EndsNamed wording (NameLookup.Events count from) seen ending = EndsListing Form.Bytes seen ending
-EndsNamed wording NameLookup.Devices seen (Err (Failure.Ended (Ended.Missing n))) = Unit {0}
-EndsNamed wording NameLookup.Devices seen ending = EndsListing (Form.Device wording) seen ending
+abbrev pub EndsNamed : NameLookup → Seen → Ending → Type 0
+EndsNamed (NameLookup.Events detail count from) seen (Err (Failure.NamesCycle n)) = Unit {0}
+EndsNamed (NameLookup.Events detail count from) seen (Err (Failure.NamesMissing n)) = Unit {0}
+EndsNamed (NameLookup.Events detail count from) seen ending = EndsListing Form.Bytes seen ending
+EndsNamed NameLookup.Devices seen (Err (Failure.Ended (Ended.Missing n))) = Unit {0}
+EndsNamed NameLookup.Devices seen ending = EndsListing Form.Device seen ending
 
 -- the result of writing an item
 abbrev pub WritesPiece : Output → Output → Output → Ending → Type 0
@@ -109,37 +111,37 @@ NoneIsTrue None seen = LastFailed (λ class. class ≡ NotPresent) seen
 
 -- a text of a device with any inventory, and what is counted for it; if there is no inventory, the last
 -- call says so
-pub record ShowsInventory (wording : Wording) (id : ℕ) (name : Option (List ℕ)) (seen : Seen)
+pub record ShowsInventory (x : Texts) (detail : Detail) (id : ℕ) (name : Option (List ℕ)) (seen : Seen)
     (text : Output) : Type 0 where
   pub inventory : Option (List ℕ)
-  pub is_text : IsInventoryIn wording id name inventory text.bytes
-  pub counted : text ≡ piece_of text.bytes (is_faulty_device wording inventory)
+  pub is_text : x.IsDevice detail id name inventory text.bytes
+  pub counted : text ≡ piece_of text.bytes (is_faulty_device x detail inventory)
   pub none : NoneIsTrue inventory seen
 
 -- such a text was written, or a part of it
-pub record WritesInventory (wording : Wording) (id : ℕ) (name : Option (List ℕ)) (c : Change)
+pub record WritesInventory (x : Texts) (detail : Detail) (id : ℕ) (name : Option (List ℕ)) (c : Change)
     (ending : Ending) : Type 0 where
   pub text : Output
-  pub shows : ShowsInventory wording id name c.seen' text
+  pub shows : ShowsInventory x detail id name c.seen' text
   pub writes : WritesPiece text c.old c.new ending
 
 -- the possible ends for an inventory: its text was written, or the last call says why it was not read
-abbrev pub EndsInventory : Wording → ℕ → Option (List ℕ) → Change → Ending → Type 0
-EndsInventory wording id name c (Err (Failure.Inventory device ended)) =
+abbrev pub EndsInventory : Texts → Detail → ℕ → Option (List ℕ) → Change → Ending → Type 0
+EndsInventory x detail id name c (Err (Failure.Inventory device ended)) =
     LastFruCallSays ended c.seen' × (c.new ≡ c.old)
-EndsInventory wording id name c (Err Failure.OutOfMemory) = c.new ≡ c.old
-EndsInventory wording id name c ending = WritesInventory wording id name c ending
+EndsInventory x detail id name c (Err Failure.OutOfMemory) = c.new ≡ c.old
+EndsInventory x detail id name c ending = WritesInventory x detail id name c ending
 
 -- the possible ends of a run
-abbrev pub MayEnd : Job → Change → Ending → Type 0
-MayEnd (Job.Records l) c ending = EndsListing l.form c.seen' ending
-MayEnd (Job.Last entries n from) c ending = EndsListing (Form.EntryLine entries) c.seen' ending
-MayEnd (Job.LastKept entries n from) c ending = EndsListing (Form.EntryLine entries) c.seen' ending
-MayEnd (Job.Tail entries n) c ending = EndsListing (Form.EntryLine entries) c.seen' ending
-MayEnd (Job.NameLookup wording named) c ending = EndsNamed wording named c.seen' ending
-MayEnd (Job.Info wording shelf) c ending = EndsInfo c.seen' ending
-MayEnd (Job.Inventory wording id name) c ending = EndsInventory wording id name c ending
-MayEnd (Job.AllInventories wording name) c ending = EndsListing (Form.Device wording) c.seen' ending
+abbrev pub MayEnd : Texts → Job → Change → Ending → Type 0
+MayEnd x (Job.Records l) c ending = EndsListing l.form c.seen' ending
+MayEnd x (Job.Last entries n from) c ending = EndsListing (Form.Entry entries) c.seen' ending
+MayEnd x (Job.LastKept entries n from) c ending = EndsListing (Form.Entry entries) c.seen' ending
+MayEnd x (Job.Tail entries n) c ending = EndsListing (Form.Entry entries) c.seen' ending
+MayEnd x (Job.NameLookup named) c ending = EndsNamed named c.seen' ending
+MayEnd x (Job.Info shelf) c ending = EndsInfo c.seen' ending
+MayEnd x (Job.Inventory detail id name) c ending = EndsInventory x detail id name c ending
+MayEnd x (Job.AllInventories name) c ending = EndsListing Form.Device c.seen' ending
 
 -- ---- over an honest controller
 
@@ -171,33 +173,33 @@ OnListing l tries store Holds =
     OnWalk (shelf_of l.form) l.start store (λ walk end. Holds (listing_plan l walk end)
     (walk_call_bound l.form store tries (first_rows l.most walk)))
 
-abbrev pub OnLast : Entries → ℕ → Option ℕ → Tries → Store → (Plan → ℕ → Type 0) → Type 0
+abbrev pub OnLast : EntryText → ℕ → Option ℕ → Tries → Store → (Plan → ℕ → Type 0) → Type 0
 OnLast entries n from tries store Holds =
     OnWalk Sel (start_of from) store (λ walk end.
     Holds (last_plan entries n (start_of from) walk end) (last_call_bound n store tries walk end))
 
 -- the same along one walk, which keeps these entries in memory
-abbrev pub OnLastKept : Entries → ℕ → Option ℕ → Tries → Store → (Plan → ℕ → Type 0) → Type 0
+abbrev pub OnLastKept : EntryText → ℕ → Option ℕ → Tries → Store → (Plan → ℕ → Type 0) → Type 0
 OnLastKept entries n from tries store Holds =
     OnWalk Sel (start_of from) store (λ walk end.
     Holds (last_plan entries n (start_of from) walk end) (walk_call_bound Form.Skipped store tries walk))
 
--- the entries that `count` selects, each as such a line; the last ones are kept in memory
-abbrev pub OnEntries : Entries → Count → Option ℕ → Tries → Store → (Plan → ℕ → Type 0) → Type 0
+-- the entries that `count` selects, each as such a text; the last ones are kept in memory
+abbrev pub OnEntries : EntryText → Count → Option ℕ → Tries → Store → (Plan → ℕ → Type 0) → Type 0
 OnEntries entries Count.All from tries store Holds =
-    OnListing (listing (Form.EntryLine entries) (start_of from) None) tries store Holds
+    OnListing (listing (Form.Entry entries) (start_of from) None) tries store Holds
 OnEntries entries (Count.First n) from tries store Holds =
-    OnListing (listing (Form.EntryLine entries) (start_of from) (Some n)) tries store Holds
+    OnListing (listing (Form.Entry entries) (start_of from) (Some n)) tries store Holds
 OnEntries entries (Count.Last n) from tries store Holds = OnLastKept entries n from tries store Holds
 OnEntries entries (Count.Tail n) from tries store Holds = OnTail entries n tries store Holds
 
--- what is listed with the names in the sensor data records on this walk, in this wording; devices are
+-- what is listed with the names in the sensor data records on this walk; devices are
 -- those that these records locate
-abbrev pub OnNamed : Wording → List Row → WalkEnd → NameLookup → Tries → Store → (Plan → ℕ → Type 0) → Type 0
-OnNamed wording records end (NameLookup.Events count from) tries store Holds =
-    OnEntries (entries_in wording (bytes_of_rows records)) count from tries store Holds
-OnNamed wording records end NameLookup.Devices tries store Holds =
-    Holds (inventories_plan wording (device_name 0 (bytes_of_rows records)) records end)
+abbrev pub OnNamed : List Row → WalkEnd → NameLookup → Tries → Store → (Plan → ℕ → Type 0) → Type 0
+OnNamed records end (NameLookup.Events detail count from) tries store Holds =
+    OnEntries (named_entries detail (bytes_of_rows records)) count from tries store Holds
+OnNamed records end NameLookup.Devices tries store Holds =
+    Holds (inventories_plan (device_name 0 (bytes_of_rows records)) records end)
     (calls_for_point tries store (AtInventory 0) + calls_for_devices tries store records)
 
 -- `Holds` for the job's plan over a store and the largest number of its calls, for each walk from
@@ -207,53 +209,53 @@ FollowsPlan (Job.Records l) tries store Holds = OnListing l tries store Holds
 FollowsPlan (Job.Last entries n from) tries store Holds = OnLast entries n from tries store Holds
 FollowsPlan (Job.LastKept entries n from) tries store Holds = OnLastKept entries n from tries store Holds
 FollowsPlan (Job.Tail entries n) tries store Holds = OnTail entries n tries store Holds
-FollowsPlan (Job.NameLookup wording named) tries store Holds =
-    OnWalk Sdr First store (λ records end. OnNamed wording records end named tries store
+FollowsPlan (Job.NameLookup named) tries store Holds =
+    OnWalk Sdr First store (λ records end. OnNamed records end named tries store
     (λ plan calls. Holds (after_names records end plan)
     (walk_call_bound Form.Bytes store tries records + calls)))
-FollowsPlan (Job.Info wording shelf) tries store Holds =
-    Holds (info_plan wording shelf (info_of shelf store)) (tries.count + 1)
-FollowsPlan (Job.Inventory wording id name) tries store Holds =
-    Holds (inventory_plan wording id name) (calls_for_point tries store (AtInventory id))
-FollowsPlan (Job.AllInventories wording name) tries store Holds =
-    OnWalk Sdr First store (λ walk end. Holds (inventories_plan wording name walk end)
+FollowsPlan (Job.Info shelf) tries store Holds =
+    Holds (info_plan shelf (info_of shelf store)) (tries.count + 1)
+FollowsPlan (Job.Inventory detail id name) tries store Holds =
+    Holds (inventory_plan detail id name) (calls_for_point tries store (AtInventory id))
+FollowsPlan (Job.AllInventories name) tries store Holds =
+    OnWalk Sdr First store (λ walk end. Holds (inventories_plan name walk end)
     (calls_for_point tries store (AtInventory 0)
-    + walk_call_bound (Form.Device wording) store tries walk))
+    + walk_call_bound Form.Device store tries walk))
 
 -- the output agrees with the plan and with how the run ended, and the number of calls is within the
 -- bound
-abbrev pub Prints : Job → Tries → Change → Ending → Type 0
-Prints job tries c ending =
+abbrev pub Prints : Texts → Job → Tries → Change → Ending → Type 0
+Prints x job tries c ending =
     FollowsPlan job tries c.seen.store (λ plan calls.
-    IsAllowed (IsPieceOver c.seen.store) plan c.old c.new ending
+    IsAllowed (IsPieceOver x c.seen.store) plan c.old c.new ending
     × (c.seen'.calls ≤ c.seen.calls + calls))
 
 -- ---- over an honest controller, where records are only appended
 
 -- the last n entries of the log as it was when they were counted, and those appended since
-abbrev pub OnGrowingLast : Entries → ℕ → Option ℕ → Seen → Seen → (Plan → Type 0) → Type 0
+abbrev pub OnGrowingLast : EntryText → ℕ → Option ℕ → Seen → Seen → (Plan → Type 0) → Type 0
 OnGrowingLast entries n from s s' Holds = OnGrowing Sel (start_of from) s s' (λ counted.
     (log : List Row) × WasLog Sel (start_of from) s s' counted log
     × Holds (last_plan entries (length log - (length counted - n)) (start_of from) log Done))
 
 -- the last n entries of the log as it was meanwhile, along one walk
-abbrev pub OnGrowingLastKept : Entries → ℕ → Option ℕ → Seen → Seen → (Plan → Type 0) → Type 0
+abbrev pub OnGrowingLastKept : EntryText → ℕ → Option ℕ → Seen → Seen → (Plan → Type 0) → Type 0
 OnGrowingLastKept entries n from s s' Holds =
     OnGrowing Sel (start_of from) s s' (λ log. Holds (last_plan entries n (start_of from) log Done))
 
-abbrev pub OnGrowingEntries : Entries → Count → Option ℕ → Seen → Seen → (Plan → Type 0) → Type 0
+abbrev pub OnGrowingEntries : EntryText → Count → Option ℕ → Seen → Seen → (Plan → Type 0) → Type 0
 OnGrowingEntries entries Count.All from s s' Holds =
-    OnGrowingListing (listing (Form.EntryLine entries) (start_of from) None) s s' Holds
+    OnGrowingListing (listing (Form.Entry entries) (start_of from) None) s s' Holds
 OnGrowingEntries entries (Count.First n) from s s' Holds =
-    OnGrowingListing (listing (Form.EntryLine entries) (start_of from) (Some n)) s s' Holds
+    OnGrowingListing (listing (Form.Entry entries) (start_of from) (Some n)) s s' Holds
 OnGrowingEntries entries (Count.Last n) from s s' Holds = OnGrowingLastKept entries n from s s' Holds
 OnGrowingEntries entries (Count.Tail n) from s s' Holds = OnGrowingTail entries n s s' Holds
 
-abbrev pub OnGrowingNamed : Wording → List Row → NameLookup → Seen → Seen → (Plan → Type 0) → Type 0
-OnGrowingNamed wording records (NameLookup.Events count from) s s' Holds =
-    OnGrowingEntries (entries_in wording (bytes_of_rows records)) count from s s' Holds
-OnGrowingNamed wording records NameLookup.Devices s s' Holds = Keeps (λ store. store.inventories) s s'
-    → Holds (inventories_plan wording (device_name 0 (bytes_of_rows records)) records Done)
+abbrev pub OnGrowingNamed : List Row → NameLookup → Seen → Seen → (Plan → Type 0) → Type 0
+OnGrowingNamed records (NameLookup.Events detail count from) s s' Holds =
+    OnGrowingEntries (named_entries detail (bytes_of_rows records)) count from s s' Holds
+OnGrowingNamed records NameLookup.Devices s s' Holds = Keeps (λ store. store.inventories) s s'
+    → Holds (inventories_plan (device_name 0 (bytes_of_rows records)) records Done)
 
 -- `Holds` for the job's plan over the records as they were meanwhile: all that were there when the
 -- run began, in order, and perhaps some that were appended. An info is as it was when the run ended;
@@ -263,30 +265,30 @@ OnGrowingPlan (Job.Records l) s s' Holds = OnGrowingListing l s s' Holds
 OnGrowingPlan (Job.Last entries n from) s s' Holds = OnGrowingLast entries n from s s' Holds
 OnGrowingPlan (Job.LastKept entries n from) s s' Holds = OnGrowingLastKept entries n from s s' Holds
 OnGrowingPlan (Job.Tail entries n) s s' Holds = OnGrowingTail entries n s s' Holds
-OnGrowingPlan (Job.NameLookup wording named) s s' Holds = OnGrowing Sdr First s s' (λ records.
-    OnGrowingNamed wording records named s s'
+OnGrowingPlan (Job.NameLookup named) s s' Holds = OnGrowing Sdr First s s' (λ records.
+    OnGrowingNamed records named s s'
     (λ plan. Holds (after_names records Done plan)))
-OnGrowingPlan (Job.Info wording shelf) s s' Holds =
-    Holds (info_plan wording shelf (info_of shelf s'.store))
-OnGrowingPlan (Job.Inventory wording id name) s s' Holds =
-    Keeps (inventory_of id) s s' → Holds (inventory_plan wording id name)
-OnGrowingPlan (Job.AllInventories wording name) s s' Holds =
+OnGrowingPlan (Job.Info shelf) s s' Holds =
+    Holds (info_plan shelf (info_of shelf s'.store))
+OnGrowingPlan (Job.Inventory detail id name) s s' Holds =
+    Keeps (inventory_of id) s s' → Holds (inventory_plan detail id name)
+OnGrowingPlan (Job.AllInventories name) s s' Holds =
     Keeps (λ store. store.inventories) s s'
-    → OnGrowing Sdr First s s' (λ log. Holds (inventories_plan wording name log Done))
+    → OnGrowing Sdr First s s' (λ log. Holds (inventories_plan name log Done))
 
 -- the output agrees with that plan and with how the run ended; each text is over a store that the
 -- controller held meanwhile, each perhaps over another one
-abbrev pub PrintsWhile : Job → Change → Ending → Type 0
-PrintsWhile job c ending = OnGrowingPlan job c.seen c.seen'
-    (λ plan. IsAllowed (IsTextWhile c.seen c.seen') plan c.old c.new ending)
+abbrev pub PrintsWhile : Texts → Job → Change → Ending → Type 0
+PrintsWhile x job c ending = OnGrowingPlan job c.seen c.seen'
+    (λ plan. IsAllowed (IsTextWhile x c.seen c.seen') plan c.old c.new ending)
 
 -- a job that is one listing, or a walk that keeps the last entries; nothing is promised of other jobs
-abbrev pub TracesJob : Job → Change → Ending → Type 0
-TracesJob (Job.Records l) c ending = (result : Result Place Failure) × (ending ≡ ending_of result)
-    × Traces l.form l.start l.most c result
-TracesJob (Job.LastKept entries n from) c ending = TracesLast entries n (start_of from) c ending
-TracesJob (Job.Tail entries n) c ending = TracesTail entries n c ending
-TracesJob job c ending = Unit {0}
+abbrev pub TracesJob : Texts → Job → Change → Ending → Type 0
+TracesJob x (Job.Records l) c ending = (result : Result Place Failure) × (ending ≡ ending_of result)
+    × Traces x l.form l.start l.most c result
+TracesJob x (Job.LastKept entries n from) c ending = TracesLast x entries n (start_of from) c ending
+TracesJob x (Job.Tail entries n) c ending = TracesTail x entries n c ending
+TracesJob x job c ending = Unit {0}
 
 -- ---- a run
 
@@ -295,37 +297,37 @@ TracesJob job c ending = Unit {0}
 -- of calls, if no store was added (`prints`); whatever its store does, the records that a listing's
 -- cursor returned and their texts (`traces`). If the controller is not honest, this says nothing about
 -- the output, except of one inventory (`ends`).
-pub record Runs (job : Job) (tries : Tries) (c : Change) (ending : Ending) : Type 0 where
+pub record Runs (x : Texts) (job : Job) (tries : Tries) (c : Change) (ending : Ending) : Type 0 where
   pub calls : c.seen'.calls ≤ c.seen.calls + most_calls job tries
-  pub ends : MayEnd job c ending
+  pub ends : MayEnd x job c ending
   pub why : IsHonest c.seen → EndsFor tries (IsTrue c.seen.plain) c.seen c.seen' (cause_of ending)
   pub prints : IsHonest c.seen → c.seen'.stores_added ≡ c.seen.stores_added
-      → Prints job tries c ending
-  pub grows : IsHonest c.seen → PrintsWhile job c ending
-  pub traces : IsHonest c.seen → TracesJob job c ending
+      → Prints x job tries c ending
+  pub grows : IsHonest c.seen → PrintsWhile x job c ending
+  pub traces : IsHonest c.seen → TracesJob x job c ending
 
 -- the job of a command, in codes
 abbrev pub job_of_command : CommandState → Option Job
-job_of_command command = job_of command.task command.from
+job_of_command command = job_of plain_texts.has_names command.task command.from
 
 -- the run of a command over a controller: `image rewrite`, which has no job, makes no call, prints nothing
 -- and fails
-abbrev pub RunsCommand : Option Job → Tries → Change → Ending → Type 0
-RunsCommand (Some job) tries c ending = Runs job tries c ending
-RunsCommand None tries c ending =
+abbrev pub RunsCommand : Texts → Option Job → Tries → Change → Ending → Type 0
+RunsCommand x (Some job) tries c ending = Runs x job tries c ending
+RunsCommand x None tries c ending =
     (ending ≡ Err Failure.Usage) × (c.seen' ≡ c.seen) × (c.new ≡ c.old)
 
 -- Like `Runs`, for a listing in pages of these sizes. Each page is itself a listing from its place,
 -- with its size as the limit. Along a walk that does not end with a cycle, the pages together print
 -- what one listing may print.
-pub record RunsInPages (form : Form) (start : Place) (tries : Tries) (sizes : List ℕ) (c : Change)
+pub record RunsInPages (x : Texts) (form : Form) (start : Place) (tries : Tries) (sizes : List ℕ) (c : Change)
     (ending : Ending) : Type 0 where
   pub calls : c.seen'.calls ≤ c.seen.calls + pages_made sizes * most_on_walk form tries
   pub ends : EndsListing form c.seen' ending
   pub why : IsHonest c.seen → EndsFor tries (IsTrue c.seen.plain) c.seen c.seen' (cause_of ending)
-  pub pages : IsHonest c.seen → ArePages form tries start sizes c ending
+  pub pages : IsHonest c.seen → ArePages x form tries start sizes c ending
   pub prints : IsHonest c.seen → c.seen'.stores_added ≡ c.seen.stores_added
-      → IsOneListing form start tries sizes c ending
+      → IsOneListing x form start tries sizes c ending
 
 -- ---- over an image
 
@@ -335,27 +337,30 @@ abbrev pub FailsToRead : ImageFault → Output → Output → Ending → Type 0
 FailsToRead fault old new ending =
     (new ≡ old) × ((ending ≡ Err (Failure.Image fault)) ⊎ (ending ≡ Err Failure.OutOfMemory))
 
--- the canonical text of an image is written; if out of memory, nothing is written
-pub record IsRewriting (store : Store) (old new : Output) (ending : Ending) : Type 0 where
-  pub allowed : IsAllowed (IsPieceOver store) rewrite_plan old new ending
-  pub unwritten : cause_of ending ≡ NoMemory → new ≡ old
+-- the text is written; if out of memory, nothing is written
+abbrev pub WritesText : List ℕ → Output → Output → Ending → Type 0
+WritesText text old new ending =
+    ((new ≡ old) × (ending ≡ Err Failure.OutOfMemory)) ⊎ WritesPiece (piece_of text false) old new ending
 
--- the text of a snapshot is written; if out of memory, nothing is written
+-- that is the canonical text of an image
+abbrev pub IsRewriting : Store → Output → Output → Ending → Type 0
+IsRewriting store old new ending = WritesText (image_text_of store) old new ending
+
+-- that is the text of a snapshot
 abbrev pub IsSaving : Saved → Output → Output → Ending → Type 0
-IsSaving saved old new ending =
-    ((new ≡ old) × (ending ≡ Err Failure.OutOfMemory)) ⊎ WritesPiece (piece_of (saved_text_of saved) false) old new ending
+IsSaving saved old new ending = WritesText (saved_text_of saved) old new ending
 
 -- a run over the store of an image: of a job, which never gives up and is never refused, or `image
 -- rewrite`
-abbrev pub RunsOver : Option Job → Store → Output → Output → Ending → Type 0
-RunsOver None store old new ending = IsRewriting store old new ending
-RunsOver (Some job) store old new ending =
-    FollowsPlan job (for_inventory 0) store (λ plan calls. IsAllowed (IsPieceOver store) plan old new ending)
+abbrev pub RunsOver : Texts → Option Job → Store → Output → Output → Ending → Type 0
+RunsOver x None store old new ending = IsRewriting store old new ending
+RunsOver x (Some job) store old new ending =
+    FollowsPlan job (for_inventory 0) store (λ plan calls. IsAllowed (IsPieceOver x store) plan old new ending)
     × IsFine (cause_of ending)
 
 -- a job or `image rewrite` over an image, which has a store or a fault
 abbrev pub AnswersJob : Option Job → Result Store ImageFault → Output → Output → Ending → Type 0
-AnswersJob job (Ok store) old new ending = RunsOver job store old new ending
+AnswersJob job (Ok store) old new ending = RunsOver plain_texts job store old new ending
 AnswersJob job (Err fault) old new ending = FailsToRead fault old new ending
 
 abbrev pub AnswersCommand : CommandState → Result Store ImageFault → Output → Output → Ending → Type 0

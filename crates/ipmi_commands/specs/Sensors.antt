@@ -5,15 +5,15 @@ use Rattle.std.specs.List.{Contains, list_any}
 use Rattle.ipmi_commands.specs.Below.{CursorState, CursorHoldsCurrent, CycleAt, digits, Done, End, Ended, Ending, Failure, Kind, LastCallSays, MissingAt, OnGrowing, Place, Reading, RefusesRecord, Row, Sdr, SdrFault, SdrView, sdr_view_of, Seen, Stepped, Store, WalkEnd, WasHeld}
 use Rattle.ipmi_commands.specs.declared.limits.Tries.{Tries}
 use Rattle.ipmi_records.specs.Sdr as sdr
-use Rattle.ipmi_commands.specs.declared.job.Detail.{Detail}
+use Rattle.ipmi_commands.specs.declared.format.Detail.{Detail}
 use Rattle.ipmi_commands.specs.declared.job.Form.{Form}
-use Rattle.ipmi_commands.specs.declared.job.Wording.{Wording}
+use Rattle.ipmi_commands.specs.Format.{IsTextOfRecord, Texts}
 use Rattle.ipmi_commands.specs.Allowed.{cause_of, EndsFor, Printed, TextsJoined}
 use Rattle.ipmi_commands.specs.Calls.{most_for_one, walk_call_bound}
 use Rattle.ipmi_commands.specs.Listing.{CallsAlong, OnEachWalk}
 use Rattle.ipmi_commands.specs.Output.{and_then, IsCut, no_output, Output, piece_of}
 use Rattle.ipmi_commands.specs.Plan.{OnWalk, reading_points, row_items, rows_end, ReadPoint}
-use Rattle.ipmi_commands.specs.Texts.{IfChosen, IsBlockIn, is_name, IsPieceOver, reading_for}
+use Rattle.ipmi_commands.specs.Texts.{IfChosen, is_name, IsPieceOver, reading_for}
 use Rattle.ipmi_commands.specs.Traced.{IsStopAmong, IsTraced, seen_next}
 
 -- ---- what is found
@@ -65,7 +65,7 @@ found_by names (step ∷ steps) last =
 
 -- a listing that requests a reading for each record: a search makes at most as many calls
 abbrev pub with_readings : Form
-with_readings = Form.Line Detail.Short Kind.All
+with_readings = Form.Record Detail.Line Kind.All
 
 -- each has one of the names
 abbrev pub AreNamed : List (List ℕ) → List Found → Type 0
@@ -199,64 +199,64 @@ SearchCalls tries begun s s' = 0 < begun.part
 
 -- ---- the blocks of what was found
 
--- the block of a found sensor with this name, in this wording; nothing for any other, or with a fault
-abbrev pub IsBlockOfFound : Wording → List ℕ → Found → Result SdrView SdrFault → List ℕ → Type 0
-IsBlockOfFound wording name found (Ok view) text =
-    IfChosen (is_name name (sdr.name_of view)) (λ t. IsBlockIn wording found.id view found.reading t) text
-IsBlockOfFound wording name found (Err fault) text = text ≡ []
+-- the block of a found sensor with this name; nothing for any other, or with a fault
+abbrev pub IsBlockOfFound : Texts → List ℕ → Found → Result SdrView SdrFault → List ℕ → Type 0
+IsBlockOfFound x name found (Ok view) text =
+    IfChosen (is_name name (sdr.name_of view)) (λ t. IsTextOfRecord x Detail.Block found.id view found.reading t) text
+IsBlockOfFound x name found (Err fault) text = text ≡ []
 
 -- it was printed, and counted as an item without a fault
-pub record IsPieceOfFound (wording : Wording) (name : List ℕ) (found : Found) (piece : Output) : Type 0 where
-  pub is_text : IsBlockOfFound wording name found (sdr_view_of found.bytes) piece.bytes
+pub record IsPieceOfFound (x : Texts) (name : List ℕ) (found : Found) (piece : Output) : Type 0 where
+  pub is_text : IsBlockOfFound x name found (sdr_view_of found.bytes) piece.bytes
   pub counted : piece ≡ piece_of piece.bytes false
 
 -- the blocks of the found sensors with this name, in their order, one after another
-abbrev pub AreBlocks : Wording → List ℕ → List Found → Output → Type 0
-AreBlocks wording name [] text = text ≡ no_output
-AreBlocks wording name (found ∷ rest) text = TextsJoined
-    (λ first. IsPieceOfFound wording name found first) (λ more. AreBlocks wording name rest more) text
+abbrev pub AreBlocks : Texts → List ℕ → List Found → Output → Type 0
+AreBlocks x name [] text = text ≡ no_output
+AreBlocks x name (found ∷ rest) text = TextsJoined
+    (λ first. IsPieceOfFound x name found first) (λ more. AreBlocks x name rest more) text
 
 -- the blocks were printed, and nothing else
-pub record PrintsBlocks (wording : Wording) (name : List ℕ) (found : List Found) (old new : Output) : Type 0 where
+pub record PrintsBlocks (x : Texts) (name : List ℕ) (found : List Found) (old new : Output) : Type 0 where
   pub text : Output
-  pub are : AreBlocks wording name found text
+  pub are : AreBlocks x name found text
   pub new_is : new ≡ and_then old text
 
 -- the blocks of the first of them were printed
-pub record PrintsFirst (wording : Wording) (name : List ℕ) (found : List Found) (old new : Output) : Type 0 where
+pub record PrintsFirst (x : Texts) (name : List ℕ) (found : List Found) (old new : Output) : Type 0 where
   pub done : List Found
   pub rest : List Found
   pub are : found ≡ done ++ rest
-  pub printed : PrintsBlocks wording name done old new
+  pub printed : PrintsBlocks x name done old new
 
 -- the blocks of the first of them were printed, then a part of the next block
-pub record CutsBlock (wording : Wording) (name : List ℕ) (found : List Found) (old new : Output) : Type 0 where
+pub record CutsBlock (x : Texts) (name : List ℕ) (found : List Found) (old new : Output) : Type 0 where
   pub whole : Output
-  pub first : PrintsFirst wording name found old whole
+  pub first : PrintsFirst x name found old whole
   pub next : Found
   pub later : List Found
   pub rest_is : first.rest ≡ next ∷ later
   pub block : Output
-  pub is_block : IsPieceOfFound wording name next block
+  pub is_block : IsPieceOfFound x name next block
   pub some : 0 < length block.bytes
   pub part : IsCut whole new block
 
 -- the output by how the printing ended
-abbrev pub PrintsFound : Wording → List ℕ → List Found → Output → Output → Ending → Type 0
-PrintsFound wording name found old new (Ok done) = PrintsBlocks wording name found old new
-PrintsFound wording name found old new (Err Failure.OutOfMemory) = PrintsFirst wording name found old new
-PrintsFound wording name found old new (Err Failure.WriteFault) = CutsBlock wording name found old new
-PrintsFound wording name found old new (Err failure) = ⊥
+abbrev pub PrintsFound : Texts → List ℕ → List Found → Output → Output → Ending → Type 0
+PrintsFound x name found old new (Ok done) = PrintsBlocks x name found old new
+PrintsFound x name found old new (Err Failure.OutOfMemory) = PrintsFirst x name found old new
+PrintsFound x name found old new (Err Failure.WriteFault) = CutsBlock x name found old new
+PrintsFound x name found old new (Err failure) = ⊥
 
 -- ---- a law
 
 -- what is printed of a walk's rows that a search for several names found is, for each of the names, what a
 -- listing of this name prints of the walk; and nothing is counted if and only if that listing fails, as no row
 -- has the name
-abbrev pub BlocksAreOfListing : Type 0
-BlocksAreOfListing = (wording : Wording) (names : List (List ℕ)) (name : List ℕ) (store : Store) (start : Place)
+abbrev pub BlocksAreOfListing : Texts → Type 0
+BlocksAreOfListing x = (names : List (List ℕ)) (name : List ℕ) (store : Store) (start : Place)
     (walk : List Row) (old new : Output) → Contains names name
-    → PrintsBlocks wording name (found_among names store walk) old new
-    → Printed (IsPieceOver store) (row_items (Form.Block wording name) start walk) old new
+    → PrintsBlocks x name (found_among names store walk) old new
+    → Printed (IsPieceOver x store) (row_items (Form.Block name) start walk) old new
     × ((if new.pieces == old.pieces then Err (Failure.NoName name) else Ok tt)
-    ≡ rows_end (Form.Block wording name) walk Done)
+    ≡ rows_end (Form.Block name) walk Done)

@@ -2,13 +2,14 @@
 -- its first entry on.
 use Rattle.std.specs.Prelude.{◌≡◌, ◌⊎◌, ℕ, ◌+◌, ◌-◌, ◌==◌, ◌&&◌, Bool, true, false, nat_le, nat_lt, if◌then◌else◌, Option, None, Some, Result, Ok, Err, List, [], ◌∷◌, ◌++◌, length}
 use Rattle.ipmi_commands.specs.Below.{Done, Ended, Ending, Failure, First, Id, End, info_in, info_of, OnGrowing, Place, Row, Seen, Sel, StaysHonest, Store, WalkEnd}
-use Rattle.ipmi_commands.specs.declared.job.Entries.{Entries}
+use Rattle.ipmi_commands.specs.declared.job.EntryText.{EntryText}
 use Rattle.ipmi_commands.specs.declared.limits.Tries.{Tries}
 use Rattle.ipmi_commands.specs.declared.job.Form.{Form}
 use Rattle.ipmi_commands.specs.Allowed.{cause_of, Change, change}
 use Rattle.ipmi_commands.specs.Calls.{walk_call_bound}
 use Rattle.ipmi_commands.specs.Plan.{AtRecord, end_points_of_last, last_plan, next_points, OnWalk, Plan, points_of_walk, ReadPoint, with_first_points}
 use Rattle.ipmi_commands.specs.Traced.{IsStopAmong, TracesLast}
+use Rattle.ipmi_commands.specs.Format.{Texts}
 
 -- ---- where the walk begins
 
@@ -38,12 +39,12 @@ after_points points plan = record {
 }
 
 -- the last n entries of the walk from the first one, after so many calls at these points
-abbrev pub OnWhole : List ReadPoint → ℕ → Entries → ℕ → Tries → Store → (Plan → ℕ → Type 0) → Type 0
+abbrev pub OnWhole : List ReadPoint → ℕ → EntryText → ℕ → Tries → Store → (Plan → ℕ → Type 0) → Type 0
 OnWhole points calls entries n tries store Holds = OnWalk Sel First store (λ walk end.
     Holds (after_points points (last_plan entries n First walk end)) (calls + walk_call_bound Form.Skipped store tries walk))
 
 -- the last n entries of this walk from the id, if it has them; otherwise of the walk from the first entry, which follows it
-abbrev pub OnTried : Bool → ℕ → List Row → WalkEnd → Entries → ℕ → Tries → Store → (Plan → ℕ → Type 0) → Type 0
+abbrev pub OnTried : Bool → ℕ → List Row → WalkEnd → EntryText → ℕ → Tries → Store → (Plan → ℕ → Type 0) → Type 0
 OnTried true id walk end entries n tries store Holds =
     Holds (after_points (AtRecord 0 ∷ []) (last_plan entries n (Id id) walk end))
     (tries.count + 1 + walk_call_bound Form.Skipped store tries walk)
@@ -52,13 +53,13 @@ OnTried false id walk end entries n tries store Holds =
     entries n tries store Holds
 
 -- after the info: along the walk from the id that it suggests, or from the first entry if it suggests none
-abbrev pub OnTailFrom : Option ℕ → Entries → ℕ → Tries → Store → (Plan → ℕ → Type 0) → Type 0
+abbrev pub OnTailFrom : Option ℕ → EntryText → ℕ → Tries → Store → (Plan → ℕ → Type 0) → Type 0
 OnTailFrom None entries n tries store Holds = OnWhole (AtRecord 0 ∷ []) (tries.count + 1) entries n tries store Holds
 OnTailFrom (Some id) entries n tries store Holds = OnWalk Sel (Id id) store (λ walk end.
     OnTried (has_last n walk end) id walk end entries n tries store Holds)
 
 -- `Holds` for the plan over a store and the largest number of calls
-abbrev pub OnTail : Entries → ℕ → Tries → Store → (Plan → ℕ → Type 0) → Type 0
+abbrev pub OnTail : EntryText → ℕ → Tries → Store → (Plan → ℕ → Type 0) → Type 0
 OnTail entries n tries store Holds = OnTailFrom (tail_from n (info_of Sel store)) entries n tries store Holds
 
 -- ---- while the store changes
@@ -70,15 +71,15 @@ IsTailStart n store (Id id) = tail_from n (info_of Sel store) ≡ Some id
 IsTailStart n store End = ⊥
 
 -- from such a start, if records were only appended since `m`: the last n entries of the log from there as it was meanwhile
-abbrev pub OnGrowingTail : Entries → ℕ → Seen → Seen → (Plan → Type 0) → Type 0
+abbrev pub OnGrowingTail : EntryText → ℕ → Seen → Seen → (Plan → Type 0) → Type 0
 OnGrowingTail entries n s s' Holds = (m : Seen) × (start : Place) × StaysHonest s m × StaysHonest m s'
     × IsTailStart n m.store start × OnGrowing Sel start m s' (λ log. Holds (last_plan entries n start log Done))
 
 -- the info was not read, and nothing printed; or the last n entries that a walk from such a start returned were printed
-abbrev pub TracesTail : Entries → ℕ → Change → Ending → Type 0
-TracesTail entries n c ending = (IsStopAmong (AtRecord 0 ∷ []) (cause_of ending) × (c.new ≡ c.old))
+abbrev pub TracesTail : Texts → EntryText → ℕ → Change → Ending → Type 0
+TracesTail x entries n c ending = (IsStopAmong (AtRecord 0 ∷ []) (cause_of ending) × (c.new ≡ c.old))
     ⊎ ((m : Seen) × (start : Place) × StaysHonest c.seen m × IsTailStart n m.store start
-    × TracesLast entries n start (change m c.seen' c.old c.new) ending)
+    × TracesLast x entries n start (change m c.seen' c.old c.new) ending)
 
 -- ---- for the contracts of private functions
 

@@ -3,9 +3,9 @@ use Rattle.std.specs.Prelude.{◌≡◌, ◌⊎◌, ◌+◌, ◌<◌, ◌≤◌,
 use Rattle.std.specs.FinSet as set
 use Rattle.ipmi_commands.specs.Below.{AreSteps, cursor_after, CursorState, Done, End, Ended, Ending, Failure, First, handed_out, Id, Place, Row, Seen, seen_after, Sel, StaysHonest, Stepped}
 use Rattle.ipmi_commands.specs.Output.{and_then, IsCut, no_output, Output}
-use Rattle.ipmi_commands.specs.declared.job.Entries.{Entries}
+use Rattle.ipmi_commands.specs.declared.job.EntryText.{EntryText}
 use Rattle.ipmi_commands.specs.declared.job.Form.{Form}
-use Rattle.ipmi_commands.specs.declared.job.Wording.{Wording}
+use Rattle.ipmi_commands.specs.Format.{Texts}
 use Rattle.ipmi_commands.specs.Allowed.{Cause, Change, change, cause_of, ending_of, GaveUp, IsAllowed, IsAmong, NoMemory, Refused, TextsJoined}
 use Rattle.ipmi_commands.specs.Job.{shelf_of}
 use Rattle.ipmi_commands.specs.Meanwhile.{KeepsAt}
@@ -22,13 +22,13 @@ pub record IsTraced (begun now : CursorState) (s s' : Seen) (steps : List Steppe
 
 -- The text of a record in this form, over the store that the controller held after the requests for it,
 -- `s'`; any text and counts if an inventory changed between `s` and `s'`
-abbrev pub IsTextAfter : Form → Row → Seen → Seen → Output → Type 0
-IsTextAfter form row s s' text = KeepsAt (points_because_of form row) s s' → IsPieceOver s'.store (OfRow form row) text
+abbrev pub IsTextAfter : Texts → Form → Row → Seen → Seen → Output → Type 0
+IsTextAfter x form row s s' text = KeepsAt (points_because_of form row) s s' → IsPieceOver x s'.store (OfRow form row) text
 
 -- the text of what a step returned; nothing if that is no record
-abbrev pub IsTextOfResult : Form → Result (Option Row) Ended → Seen → Seen → Output → Type 0
-IsTextOfResult form (Ok (Some row)) s s' text = IsTextAfter form row s s' text
-IsTextOfResult form _ s s' text = text ≡ no_output
+abbrev pub IsTextOfResult : Texts → Form → Result (Option Row) Ended → Seen → Seen → Output → Type 0
+IsTextOfResult x form (Ok (Some row)) s s' text = IsTextAfter x form row s s' text
+IsTextOfResult x form _ s s' text = text ≡ no_output
 
 -- the controller before the next step, or at last
 abbrev pub seen_next : List Stepped → Seen → Seen
@@ -36,17 +36,17 @@ seen_next [] last = last
 seen_next (step ∷ steps) last = step.before
 
 -- the texts of what the steps returned, in order
-abbrev pub AreTextsOfSteps : Form → List Stepped → Seen → Output → Type 0
-AreTextsOfSteps form [] last text = text ≡ no_output
-AreTextsOfSteps form (step ∷ steps) last text = TextsJoined
-    (λ first. IsTextOfResult form step.result step.seen (seen_next steps last) first)
-    (λ rest. AreTextsOfSteps form steps last rest) text
+abbrev pub AreTextsOfSteps : Texts → Form → List Stepped → Seen → Output → Type 0
+AreTextsOfSteps x form [] last text = text ≡ no_output
+AreTextsOfSteps x form (step ∷ steps) last text = TextsJoined
+    (λ first. IsTextOfResult x form step.result step.seen (seen_next steps last) first)
+    (λ rest. AreTextsOfSteps x form steps last rest) text
 
 -- these texts were printed, and nothing else
-pub record PrintsSteps (form : Form) (steps : List Stepped) (last : Seen)
+pub record PrintsSteps (x : Texts) (form : Form) (steps : List Stepped) (last : Seen)
     (old new : Output) : Type 0 where
   pub text : Output
-  pub are : AreTextsOfSteps form steps last text
+  pub are : AreTextsOfSteps x form steps last text
   pub new_is : new ≡ and_then old text
 
 -- ---- how the listing ended
@@ -57,15 +57,15 @@ IsWithin None count = Unit {0}
 IsWithin (Some n) count = count ≤ n
 
 -- the limit was reached, or there are no more records; all texts were printed
-pub record IsListed (form : Form) (most : Option ℕ) (now : CursorState) (steps : List Stepped)
+pub record IsListed (x : Texts) (form : Form) (most : Option ℕ) (now : CursorState) (steps : List Stepped)
     (c : Change) (count : ℕ) : Type 0 where
   pub count_is : count ≡ length (handed_out steps)
   pub within : IsWithin most count
   pub done : (most ≡ Some count) ⊎ (now.place ≡ End)
-  pub printed : PrintsSteps form steps c.seen' c.old c.new
+  pub printed : PrintsSteps x form steps c.seen' c.old c.new
 
 -- the last step returned no record, for this reason, before the limit; all texts were printed
-pub record StepFails (form : Form) (most : Option ℕ) (steps : List Stepped) (c : Change)
+pub record StepFails (x : Texts) (form : Form) (most : Option ℕ) (steps : List Stepped) (c : Change)
     (failure : Failure) : Type 0 where
   pub ended : Ended
   pub is : failure ≡ Failure.Ended ended
@@ -74,7 +74,7 @@ pub record StepFails (form : Form) (most : Option ℕ) (steps : List Stepped) (c
   pub are : steps ≡ done ++ (step ∷ [])
   pub returned : step.result ≡ Err ended
   pub within : IsWithin most (length (handed_out steps) + 1)
-  pub printed : PrintsSteps form steps c.seen' c.old c.new
+  pub printed : PrintsSteps x form steps c.seen' c.old c.new
 
 -- the last step returned this record, within the limit
 pub record ReturnsLast (most : Option ℕ) (steps done : List Stepped) (step : Stepped) (row : Row) : Type 0 where
@@ -91,17 +91,17 @@ IsStopAmong points _ = ⊥
 
 -- the text of the last record is missing: its reading or inventory was given up or refused, or memory
 -- ran out; the texts before it were printed
-pub record TextFails (form : Form) (most : Option ℕ) (steps : List Stepped) (c : Change)
+pub record TextFails (x : Texts) (form : Form) (most : Option ℕ) (steps : List Stepped) (c : Change)
     (failure : Failure) : Type 0 where
   pub done : List Stepped
   pub step : Stepped
   pub row : Row
   pub last : ReturnsLast most steps done step row
   pub there : IsStopAmong (points_because_of form row) (cause_of (Err failure))
-  pub printed : PrintsSteps form done step.before c.old c.new
+  pub printed : PrintsSteps x form done step.before c.old c.new
 
 -- the output failed in the text of the last record; the texts before it were printed
-pub record TextIsCut (form : Form) (most : Option ℕ) (steps : List Stepped) (c : Change)
+pub record TextIsCut (x : Texts) (form : Form) (most : Option ℕ) (steps : List Stepped) (c : Change)
     (failure : Failure) : Type 0 where
   pub done : List Stepped
   pub step : Stepped
@@ -109,49 +109,48 @@ pub record TextIsCut (form : Form) (most : Option ℕ) (steps : List Stepped) (c
   pub last : ReturnsLast most steps done step row
   pub is : failure ≡ Failure.WriteFault
   pub before : Output
-  pub printed : PrintsSteps form done step.before c.old before
+  pub printed : PrintsSteps x form done step.before c.old before
   pub text : Output
-  pub is_text : IsTextAfter form row step.seen c.seen' text
+  pub is_text : IsTextAfter x form row step.seen c.seen' text
   pub some : 0 < length text.bytes
   pub part : IsCut before c.new text
 
 -- no record had the name: nothing was printed
-pub record NoneNamed (form : Form) (most : Option ℕ) (now : CursorState) (steps : List Stepped)
+pub record NoneNamed (x : Texts) (form : Form) (most : Option ℕ) (now : CursorState) (steps : List Stepped)
     (c : Change) (failure : Failure) : Type 0 where
-  pub wording : Wording
   pub name : List ℕ
-  pub searched : form ≡ Form.Block wording name
+  pub searched : form ≡ Form.Block name
   pub is : failure ≡ Failure.NoName name
   pub count : ℕ
-  pub listed : IsListed form most now steps c count
+  pub listed : IsListed x form most now steps c count
   pub nothing : c.new ≡ c.old
 
-abbrev pub Fails : Form → Option ℕ → CursorState → List Stepped → Change → Failure → Type 0
-Fails form most now steps c failure =
-    StepFails form most steps c failure ⊎ TextFails form most steps c failure
-    ⊎ TextIsCut form most steps c failure ⊎ NoneNamed form most now steps c failure
+abbrev pub Fails : Texts → Form → Option ℕ → CursorState → List Stepped → Change → Failure → Type 0
+Fails x form most now steps c failure =
+    StepFails x form most steps c failure ⊎ TextFails x form most steps c failure
+    ⊎ TextIsCut x form most steps c failure ⊎ NoneNamed x form most now steps c failure
 
 -- a search for a name printed something
 abbrev pub IsFound : Form → Output → Output → Type 0
-IsFound (Form.Block wording name) old new = length old.bytes < length new.bytes
+IsFound (Form.Block name) old new = length old.bytes < length new.bytes
 IsFound form old new = Unit {0}
 
-abbrev pub EndsTrace : Form → Option ℕ → CursorState → List Stepped → Change → Result ℕ Failure → Type 0
-EndsTrace form most now steps c (Ok count) =
-    IsListed form most now steps c count × IsFound form c.old c.new
-EndsTrace form most now steps c (Err failure) = Fails form most now steps c failure
+abbrev pub EndsTrace : Texts → Form → Option ℕ → CursorState → List Stepped → Change → Result ℕ Failure → Type 0
+EndsTrace x form most now steps c (Ok count) =
+    IsListed x form most now steps c count × IsFound form c.old c.new
+EndsTrace x form most now steps c (Err failure) = Fails x form most now steps c failure
 
 -- a listing over an honest controller, whatever its store does: the steps of its cursor, and the texts
 -- of the records that they returned
-pub record TracesListing (form : Form) (most : Option ℕ) (begun now : CursorState) (c : Change)
+pub record TracesListing (x : Texts) (form : Form) (most : Option ℕ) (begun now : CursorState) (c : Change)
     (result : Result ℕ Failure) : Type 0 where
   pub steps : List Stepped
   pub traced : IsTraced begun now c.seen c.seen' steps
-  pub ends : EndsTrace form most now steps c result
+  pub ends : EndsTrace x form most now steps c result
 
 -- A listing from this place with a new cursor, which has returned nothing. Ok is the place where it
 -- stopped.
-pub record TracesFrom (form : Form) (start : Place) (most : Option ℕ) (c : Change)
+pub record TracesFrom (x : Texts) (form : Form) (start : Place) (most : Option ℕ) (c : Change)
     (result : Result Place Failure) : Type 0 where
   pub begun : CursorState
   pub now : CursorState
@@ -161,7 +160,7 @@ pub record TracesFrom (form : Form) (start : Place) (most : Option ℕ) (c : Cha
   pub shelf : begun.shelf ≡ shelf_of form
   pub place : begun.place ≡ start
   pub ids : begun.ids ≡ set.empty
-  pub traces : TracesListing form most begun now c listed
+  pub traces : TracesListing x form most begun now c listed
 
 -- without memory for the cursor, or from id 0000h, nothing was requested and nothing printed
 abbrev pub HasNoCursor : Place → Change → Result Place Failure → Type 0
@@ -170,8 +169,8 @@ HasNoCursor start c result =
     ⊎ ((start ≡ Id 0) × (result ≡ Err (Failure.Ended (Ended.Cycle 0)))))
     × (c.seen' ≡ c.seen) × (c.new ≡ c.old)
 
-abbrev pub Traces : Form → Place → Option ℕ → Change → Result Place Failure → Type 0
-Traces form start most c result = HasNoCursor start c result ⊎ TracesFrom form start most c result
+abbrev pub Traces : Texts → Form → Place → Option ℕ → Change → Result Place Failure → Type 0
+Traces x form start most c result = HasNoCursor start c result ⊎ TracesFrom x form start most c result
 
 -- ---- the last entries, printed after the walk
 
@@ -182,29 +181,29 @@ EndsPrinting (Err Failure.OutOfMemory) = Unit {0}
 EndsPrinting (Err Failure.WriteFault) = Unit {0}
 EndsPrinting (Err failure) = ⊥
 
--- The lines of these rows were printed, or the first of them, if memory ran out or the output failed; if the walk failed, nothing
+-- The texts of these rows were printed, or the first of them, if memory ran out or the output failed; if the walk failed, nothing
 -- was printed. A line has no reading or inventory.
-abbrev pub PrintsAfter : Entries → List Row → Result ℕ Failure → Change → Ending → Type 0
-PrintsAfter entries rows (Ok count) c ending = EndsPrinting ending
-    × IsAllowed (IsPieceOver c.seen'.store) (record {
-      items = row_items (Form.EntryLine entries) First rows;
+abbrev pub PrintsAfter : Texts → EntryText → List Row → Result ℕ Failure → Change → Ending → Type 0
+PrintsAfter x entries rows (Ok count) c ending = EndsPrinting ending
+    × IsAllowed (IsPieceOver x c.seen'.store) (record {
+      items = row_items (Form.Entry entries) First rows;
       end = Ok tt;
       end_points = [];
     }) c.old c.new ending
-PrintsAfter entries rows (Err failure) c ending = (ending ≡ Err failure) × (c.new ≡ c.old)
+PrintsAfter x entries rows (Err failure) c ending = (ending ≡ Err failure) × (c.new ≡ c.old)
 
 -- a walk from this place with a new cursor, which skips each entry; then the last n of the entries that it returned are printed
-pub record TracesThen (entries : Entries) (n : ℕ) (start : Place) (c : Change) (ending : Ending) : Type 0 where
+pub record TracesThen (x : Texts) (entries : EntryText) (n : ℕ) (start : Place) (c : Change) (ending : Ending) : Type 0 where
   pub begun : CursorState
   pub now : CursorState
   pub walked : Result ℕ Failure
   pub shelf : begun.shelf ≡ Sel
   pub place : begun.place ≡ start
   pub ids : begun.ids ≡ set.empty
-  pub walk : TracesListing Form.Skipped None begun now (change c.seen c.seen' c.old c.old) walked
-  pub prints : PrintsAfter entries (last_rows n (handed_out walk.steps) Done) walked c ending
+  pub walk : TracesListing x Form.Skipped None begun now (change c.seen c.seen' c.old c.old) walked
+  pub prints : PrintsAfter x entries (last_rows n (handed_out walk.steps) Done) walked c ending
 
 -- without memory for the cursor, nothing was requested and nothing printed
-abbrev pub TracesLast : Entries → ℕ → Place → Change → Ending → Type 0
-TracesLast entries n start c ending =
-    ((ending ≡ Err Failure.OutOfMemory) × (c.seen' ≡ c.seen) × (c.new ≡ c.old)) ⊎ TracesThen entries n start c ending
+abbrev pub TracesLast : Texts → EntryText → ℕ → Place → Change → Ending → Type 0
+TracesLast x entries n start c ending =
+    ((ending ≡ Err Failure.OutOfMemory) × (c.seen' ≡ c.seen) × (c.new ≡ c.old)) ⊎ TracesThen x entries n start c ending

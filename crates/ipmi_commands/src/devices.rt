@@ -5,8 +5,8 @@ ghost use Rattle.ipmi_commands.specs.Named.{PrintsDevices, PrintsLocated, Prints
 ghost use Rattle.ipmi_commands.specs.declared.job.NameLookup.{NameLookup};
 ghost use Rattle.ipmi_commands.specs.Prelude.{change, EndsNamed, inventory_call_bound, printed, RetriesParts};
 
+use crate::format::{Detail, Format};
 use crate::inventory::locator_piece;
-use crate::job::Wording;
 use crate::limits::RequestLimits;
 use crate::named::RecordsEnd;
 use crate::perform::{print_inventory, write_piece};
@@ -16,36 +16,36 @@ use ipmi_events::{device_name, split_record};
 use ipmi_output::{Failure, Sink};
 use std::alloc::Global;
 
-/// Prints the inventory of the device that this sensor data record locates, in this wording. Prints nothing for any
+/// Prints the inventory of the device that this sensor data record locates. Prints nothing for any
 /// other record.
-fn print_locator<'a, C: Controller, O: Sink>(
+fn print_locator<'a, F: Format, C: Controller, O: Sink>(
     alloc: Global,
     ctl: &mut C,
     limits: RequestLimits,
-    wording: Wording<'a>,
+    format: &F,
     bytes: &[u8],
     out: &mut O,
     summary: &mut Summary,
 ) -> Result<(), Failure<'a>>
     ensures faults { O.faults out.new ≡ O.faults out.old + write_faults result }
     ensures asked { AsksAtMost limits.part (C.seen ctl.old) (C.seen ctl.new) }
-    ensures ends { EndsNamed wording.entry NameLookup.Devices (C.seen ctl.new) result }
+    ensures ends { EndsNamed NameLookup.Devices (C.seen ctl.new) result }
     ensures parts { IsHonest (C.seen ctl.old) → RetriesParts limits.tries (IsStateOf C.seen) (C.seen ctl.new) result }
     ensures calls { (C.seen ctl.new).calls ≤ (C.seen ctl.old).calls + inventory_call_bound limits.tries 65535 }
-    ensures honest { IsHonest (C.seen ctl.old) → PrintsLocator wording.entry limits.tries bytes.now
+    ensures honest { IsHonest (C.seen ctl.old) → PrintsLocator (F.texts format.now) limits.tries bytes.now
         (change (C.seen ctl.old) (C.seen ctl.new) (printed (O.taken out.old) summary.old) (printed (O.taken out.new) summary.new)) result }
 {
-    let piece = locator_piece(alloc, ctl, limits, wording, bytes)?;
+    let piece = locator_piece(alloc, ctl, limits, format, bytes)?;
     write_piece(piece.text.as_slice(), piece.has_fault, out, summary)
 }
 
-/// Prints the inventories of the devices that these concatenated sensor data records locate, in this wording. Then ends
+/// Prints the inventories of the devices that these concatenated sensor data records locate. Then ends
 /// as the walk of the records did.
-fn print_located<'a, C: Controller, O: Sink>(
+fn print_located<'a, F: Format, C: Controller, O: Sink>(
     alloc: Global,
     ctl: &mut C,
     limits: RequestLimits,
-    wording: Wording<'a>,
+    format: &F,
     records: &[u8],
     walked: RecordsEnd,
     out: &mut O,
@@ -53,16 +53,16 @@ fn print_located<'a, C: Controller, O: Sink>(
 ) -> Result<(), Failure<'a>>
     ensures faults { O.faults out.new ≡ O.faults out.old + write_faults result }
     ensures asked { AsksAtMost limits.part (C.seen ctl.old) (C.seen ctl.new) }
-    ensures ends { EndsNamed wording.entry NameLookup.Devices (C.seen ctl.new) result }
+    ensures ends { EndsNamed NameLookup.Devices (C.seen ctl.new) result }
     ensures parts { IsHonest (C.seen ctl.old) → RetriesParts limits.tries (IsStateOf C.seen) (C.seen ctl.new) result }
     ensures calls { (C.seen ctl.new).calls ≤ (C.seen ctl.old).calls
         + length (records_in records.now) * inventory_call_bound limits.tries 65535 }
-    ensures honest { IsHonest (C.seen ctl.old) → PrintsLocated wording.entry walked limits.tries (records_in records.now)
+    ensures honest { IsHonest (C.seen ctl.old) → PrintsLocated (F.texts format.now) walked limits.tries (records_in records.now)
         (change (C.seen ctl.old) (C.seen ctl.new) (printed (O.taken out.old) summary.old) (printed (O.taken out.new) summary.new)) result }
 {
     let mut rest = records;
     'records: while let Some((bytes, after)) = split_record(rest) {
-        match print_locator(alloc, ctl, limits, wording, bytes, out, summary) {
+        match print_locator(alloc, ctl, limits, format, bytes, out, summary) {
             Ok(()) => rest = after,
             Err(failure) => return Err(failure),
         }
@@ -70,13 +70,13 @@ fn print_located<'a, C: Controller, O: Sink>(
     walked.listed_end()
 }
 
-/// Prints the inventories of all devices, in this wording: that of device 0 with its name in these concatenated sensor
+/// Prints the inventories of all devices: that of device 0 with its name in these concatenated sensor
 /// data records, then those of the devices that the records locate. Then ends as the walk of the records did.
-pub(crate) fn print_devices<'a, C: Controller, O: Sink>(
+pub(crate) fn print_devices<'a, F: Format, C: Controller, O: Sink>(
     alloc: Global,
     ctl: &mut C,
     limits: RequestLimits,
-    wording: Wording<'a>,
+    format: &F,
     records: &[u8],
     walked: RecordsEnd,
     out: &mut O,
@@ -84,11 +84,11 @@ pub(crate) fn print_devices<'a, C: Controller, O: Sink>(
 ) -> Result<(), Failure<'a>>
     ensures faults { O.faults out.new ≡ O.faults out.old + write_faults result }
     ensures asked { AsksAtMost limits.part (C.seen ctl.old) (C.seen ctl.new) }
-    ensures ends { EndsNamed wording.entry NameLookup.Devices (C.seen ctl.new) result }
+    ensures ends { EndsNamed NameLookup.Devices (C.seen ctl.new) result }
     ensures parts { IsHonest (C.seen ctl.old) → RetriesParts limits.tries (IsStateOf C.seen) (C.seen ctl.new) result }
     ensures calls { (C.seen ctl.new).calls ≤ (C.seen ctl.old).calls
         + (length (records_in records.now) + 1) * inventory_call_bound limits.tries 65535 }
-    ensures honest { IsHonest (C.seen ctl.old) → PrintsDevices wording.entry walked limits.tries (records_in records.now)
+    ensures honest { IsHonest (C.seen ctl.old) → PrintsDevices (F.texts format.now) walked limits.tries (records_in records.now)
         (change (C.seen ctl.old) (C.seen ctl.new) (printed (O.taken out.old) summary.old) (printed (O.taken out.new) summary.new)) result }
 {
     let name = device_name(alloc, records, 0)?;
@@ -96,11 +96,12 @@ pub(crate) fn print_devices<'a, C: Controller, O: Sink>(
         alloc,
         ctl,
         limits,
-        wording,
+        format,
+        Detail::Line,
         0,
         name.as_deref(),
         out,
         summary,
     )?;
-    print_located(alloc, ctl, limits, wording, records, walked, out, summary)
+    print_located(alloc, ctl, limits, format, records, walked, out, summary)
 }

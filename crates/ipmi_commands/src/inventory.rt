@@ -1,21 +1,16 @@
 //! Prints the inventories of FRU devices.
-ghost use Rattle.std.specs.Prelude.{◌≡◌, ◌+◌, ◌≤◌, ◌∷◌, [], None, Some, Err, IfErr, IfOk, OnOk, option_map, string_bytes, ◌++◌};
-ghost use Rattle.ipmi_commands.specs.Below.{Appends, as_inventory, AsksAtMost, LastFailed, NotPresent, LastFruCallSays, Seen, IsHonest, IsStateOf, inventory_of, fru_of, printed_name, sdr_view_of};
+ghost use Rattle.std.specs.Prelude.{◌≡◌, ◌+◌, ◌≤◌, ◌∷◌, [], None, Some, Err, IfErr, IfOk, option_map, string_bytes};
+ghost use Rattle.ipmi_commands.specs.Below.{as_inventory, AsksAtMost, LastFailed, NotPresent, LastFruCallSays, Seen, IsHonest, IsStateOf, inventory_of, fru_of, printed_name, sdr_view_of};
 ghost use Rattle.ipmi_commands.specs.declared.job.Form.{Form};
-ghost use Rattle.ipmi_commands.specs.Prelude.{LacksInventory, in_parentheses, inventory_call_bound, is_absent, Finds, FindsLocator, IsCountedDevice, IsElsewhereIn, is_faulty_device, IsInventoryIn, IsInventoryPiece, IsInventoryText, IsPieceOver, AtInventory, device_points, locator_points, NoneIsTrue, OfInventory, OfRow, shown, ShowsDevice, ShowsInventory, ShowsLocator, ReadsFor, RetriesParts, failure_of, unread_inventory};
+ghost use Rattle.ipmi_commands.specs.Prelude.{LacksInventory, inventory_call_bound, is_absent, Finds, FindsLocator, IsCountedDevice, is_faulty_device, IsPieceOver, AtInventory, device_points, locator_points, NoneIsTrue, OfInventory, OfRow, shown, ShowsDevice, ShowsInventory, ShowsLocator, ReadsFor, RetriesParts, failure_of, unread_inventory};
 
-use crate::job::Wording;
+use crate::format::{Detail, Format};
 use crate::limits::RequestLimits;
 use crate::piece::Piece;
 use crate::read_error::ReadError;
 use ipmi_bus::{Code, Controller, FruEnded, read_fru, read_fru_retrying_parts};
-use ipmi_fru::{FruView, elsewhere_line, fru_line, has_fault, push_fru};
-use ipmi_json::fru_elsewhere_line;
 use ipmi_records::{SdrView, push_name};
 use std::alloc::{AllocError, Global};
-
-/// The capacity for the line of a device with most names.
-const LINE_CAPACITY: usize = 32;
 
 /// Whether the controller has no such inventory.
 fn is_absent(ended: FruEnded) -> bool
@@ -83,86 +78,23 @@ fn read_inventory<C: Controller>(
     }
 }
 
-/// Appends the text of an inventory, or `not present` if there is none.
-fn push_inventory(
-    alloc: Global,
-    text: &mut String,
-    inventory: Option<&[u8]>,
-) -> Result<(), AllocError>
-    ensures { OnOk result (Appends (IsInventoryText (option_map (λ bytes. bytes.now) inventory.entry))
-        (string_bytes text.old) (string_bytes text.new)) }
+/// Whether a device is missing, or has a fault that its text names.
+fn is_faulty_device<F: Format>(format: &F, detail: Detail, inventory: Option<&[u8]>) -> bool
+    ensures { result ≡ is_faulty_device (F.texts format.now) detail (option_map (λ bytes. bytes.now) inventory.entry) }
 {
     match inventory {
-        Some(bytes) => push_fru(alloc, text, bytes),
-        None => text.push_str("not present\n"),
+        None => true,
+        Some(bytes) => format.names_fault(detail, bytes),
     }
 }
 
-/// Appends the name of a device in parentheses, after a space. Appends nothing if there is no name.
-fn push_in_parentheses(text: &mut String, name: Option<&str>) -> Result<(), AllocError>
-    ensures { OnOk result (string_bytes text.new ≡ string_bytes text.old ++ in_parentheses
-        (option_map (λ name. name.now) name.entry)) }
-{
-    match name {
-        Some(name) => write!(text, " ({name})"),
-        None => Ok(()),
-    }
-}
-
-/// A line that names the device, the text of its inventory, and an empty line.
-fn inventory_piece(
-    alloc: Global,
-    id: u8,
-    name: Option<&str>,
-    inventory: Option<&[u8]>,
-) -> Result<String, AllocError>
-    ensures { IfOk result (λ text. IsInventoryPiece id (option_map (λ name. name.now) name.entry)
-        (option_map (λ bytes. bytes.now) inventory.entry) (string_bytes text)) }
-{
-    let mut text = String::with_capacity(alloc, LINE_CAPACITY)?;
-    write!(text, "FRU {id}")?;
-    push_in_parentheses(&mut text, name)?;
-    text.push_str("\n")?;
-    push_inventory(alloc, &mut text, inventory)?;
-    text.push_str("\n")?;
-    Ok(text)
-}
-
-/// The text of a device with its name and its inventory, in this wording.
-fn text_in(
-    alloc: Global,
-    wording: Wording<'_>,
-    id: u8,
-    name: Option<&str>,
-    inventory: Option<&[u8]>,
-) -> Result<Vec<u8>, AllocError>
-    ensures { IfOk result (λ text. IsInventoryIn wording.entry id (option_map (λ name. name.now) name.entry)
-        (option_map (λ bytes. bytes.now) inventory.entry) text.items) }
-{
-    match wording {
-        Wording::Plain => Ok(inventory_piece(alloc, id, name, inventory)?.into_bytes()),
-        Wording::Descriptive => Ok(fru_line(alloc, id, name, inventory)?.into_bytes()),
-        Wording::Json(labels) => ipmi_json::fru_line(alloc, id, name, inventory, labels),
-    }
-}
-
-/// Whether a device is missing, or has a fault that the form names: the line in words, only one of the header.
-fn is_faulty_device(wording: Wording<'_>, inventory: Option<&[u8]>) -> bool
-    ensures { result ≡ is_faulty_device wording.entry (option_map (λ bytes. bytes.now) inventory.entry) }
-{
-    match (inventory, wording) {
-        (None, _) => true,
-        (Some(bytes), Wording::Descriptive) => FruView::read(bytes).is_err(),
-        (Some(bytes), Wording::Plain | Wording::Json(_)) => has_fault(bytes),
-    }
-}
-
-/// Reads the inventory of a device, and returns its text with this name, in this wording.
-pub(crate) fn inventory_in<C: Controller>(
+/// Reads the inventory of a device, and returns its text with this name.
+pub(crate) fn inventory_in<F: Format, C: Controller>(
     alloc: Global,
     ctl: &mut C,
     limits: RequestLimits,
-    wording: Wording<'_>,
+    format: &F,
+    detail: Detail,
     id: u8,
     name: Option<&str>,
 ) -> Result<Piece, ReadError>
@@ -173,14 +105,14 @@ pub(crate) fn inventory_in<C: Controller>(
     ensures parts { IsHonest (C.seen ctl.old) → IfErr result (λ unread.
         RetriesParts limits.tries (IsStateOf C.seen) (C.seen ctl.new) (Err (failure_of unread))) }
     ensures shows { let named = option_map (λ name. name.now) name.entry in
-        IfOk result (λ piece. ShowsInventory wording.entry id named (C.seen ctl.new) (shown piece)) }
+        IfOk result (λ piece. ShowsInventory (F.texts format.now) detail id named (C.seen ctl.new) (shown piece)) }
     ensures honest { let named = option_map (λ name. name.now) name.entry in IsHonest (C.seen ctl.old) →
-        Finds (λ store piece. IsPieceOver store (OfInventory wording.entry id named) (shown piece))
+        Finds (λ store piece. IsPieceOver (F.texts format.now) store (OfInventory detail id named) (shown piece))
         (AtInventory id ∷ []) limits.tries (C.seen ctl.old) (C.seen ctl.new) result }
 {
     let inventory = read_inventory(alloc, ctl, limits, id)?;
-    let text = text_in(alloc, wording, id, name, inventory.as_deref())?;
-    let has_fault = is_faulty_device(wording, inventory.as_deref());
+    let text = format.device(alloc, detail, id, name, inventory.as_deref())?;
+    let has_fault = is_faulty_device(format, detail, inventory.as_deref());
     Ok(Piece { text, has_fault })
 }
 
@@ -193,27 +125,13 @@ fn name_of(alloc: Global, view: &SdrView<'_>) -> Result<String, AllocError>
     Ok(name)
 }
 
-/// The text for a device of this name that is reached elsewhere, in this wording.
-fn elsewhere_in(alloc: Global, wording: Wording<'_>, name: &str) -> Result<Vec<u8>, AllocError>
-    ensures { IfOk result (λ text. IsElsewhereIn wording.entry name.now text.items) }
-{
-    match wording {
-        Wording::Plain => {
-            let text = format!(in alloc; "FRU ({name}): elsewhere, not read\n\n")?;
-            Ok(text.into_bytes())
-        }
-        Wording::Descriptive => Ok(elsewhere_line(alloc, name)?.into_bytes()),
-        Wording::Json(labels) => fru_elsewhere_line(alloc, Some(name), labels),
-    }
-}
-
 /// The text for a locator's device: its inventory, or that it is elsewhere. Empty for device 0, which was already
 /// printed.
-fn device_piece<C: Controller>(
+fn device_piece<F: Format, C: Controller>(
     alloc: Global,
     ctl: &mut C,
     limits: RequestLimits,
-    wording: Wording<'_>,
+    format: &F,
     view: &SdrView<'_>,
 ) -> Result<Piece, ReadError>
     ensures calls { (C.seen ctl.new).calls ≤ (C.seen ctl.old).calls + inventory_call_bound limits.tries
@@ -222,28 +140,28 @@ fn device_piece<C: Controller>(
     ensures says { IfErr result (λ unread. LacksInventory unread (C.seen ctl.new)) }
     ensures parts { IsHonest (C.seen ctl.old) → IfErr result (λ unread.
         RetriesParts limits.tries (IsStateOf C.seen) (C.seen ctl.new) (Err (failure_of unread))) }
-    ensures shows { IfOk result (λ piece. ShowsDevice wording.entry (printed_name view.now) (fru_of view.now)
+    ensures shows { IfOk result (λ piece. ShowsDevice (F.texts format.now) (printed_name view.now) (fru_of view.now)
         (C.seen ctl.new) (shown piece)) }
     ensures honest { IsHonest (C.seen ctl.old) →
-        Finds (λ store piece. IsCountedDevice wording.entry store (printed_name view.now) (fru_of view.now)
+        Finds (λ store piece. IsCountedDevice (F.texts format.now) store (printed_name view.now) (fru_of view.now)
         (shown piece)) (device_points (fru_of view.now)) limits.tries (C.seen ctl.old)
         (C.seen ctl.new) result }
 {
     let name = name_of(alloc, view)?;
     match view.fru_of() {
-        None => Ok(Piece::sound(elsewhere_in(alloc, wording, &name)?)),
+        None => Ok(Piece::sound(format.elsewhere(alloc, &name)?)),
         Some(0) => Ok(Piece::sound(Vec::new(alloc))),
-        Some(id) => inventory_in(alloc, ctl, limits, wording, id, Some(&name)),
+        Some(id) => inventory_in(alloc, ctl, limits, format, Detail::Line, id, Some(&name)),
     }
 }
 
 /// The text for a sensor data record in a listing of inventories: that of the device for a FRU device locator, empty
 /// for any other record.
-pub(crate) fn locator_piece<C: Controller>(
+pub(crate) fn locator_piece<F: Format, C: Controller>(
     alloc: Global,
     ctl: &mut C,
     limits: RequestLimits,
-    wording: Wording<'_>,
+    format: &F,
     bytes: &[u8],
 ) -> Result<Piece, ReadError>
     ensures calls { (C.seen ctl.new).calls ≤ (C.seen ctl.old).calls + inventory_call_bound limits.tries
@@ -252,16 +170,16 @@ pub(crate) fn locator_piece<C: Controller>(
     ensures says { IfErr result (λ unread. LacksInventory unread (C.seen ctl.new)) }
     ensures parts { IsHonest (C.seen ctl.old) → IfErr result (λ unread.
         RetriesParts limits.tries (IsStateOf C.seen) (C.seen ctl.new) (Err (failure_of unread))) }
-    ensures shows { IfOk result (λ piece. ShowsLocator wording.entry (sdr_view_of bytes.now) (C.seen ctl.new)
+    ensures shows { IfOk result (λ piece. ShowsLocator (F.texts format.now) (sdr_view_of bytes.now) (C.seen ctl.new)
         (shown piece)) }
     ensures honest { IsHonest (C.seen ctl.old) →
-        FindsLocator wording.entry bytes.now limits.tries (C.seen ctl.old) (C.seen ctl.new) result }
+        FindsLocator (F.texts format.now) bytes.now limits.tries (C.seen ctl.old) (C.seen ctl.new) result }
 {
     let Ok(view) = SdrView::read(bytes) else {
         return Ok(Piece::sound(Vec::new(alloc)));
     };
     match &view {
-        SdrView::Fru(_) => device_piece(alloc, ctl, limits, wording, &view),
+        SdrView::Fru(_) => device_piece(alloc, ctl, limits, format, &view),
         _ => Ok(Piece::sound(Vec::new(alloc))),
     }
 }

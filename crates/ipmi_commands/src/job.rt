@@ -2,74 +2,38 @@
 //! alone: what it consists of is a detail.
 ghost use Rattle.std.specs.Prelude.{◌≡◌, IfSome, Some, true};
 ghost use Rattle.ipmi_commands.specs.Below.{is_listing, IsCount, IsTask, start_of};
-ghost use Rattle.ipmi_commands.specs.Job.{entries_in, entries_job, IsFrom, IsJob, IsPlace, job_in, job_of, keeping_last, listing, listing_in, lists_all, searches, shelf_of};
-ghost use Rattle.ipmi_commands.specs.declared.job.Entries.{Entries};
+ghost use Rattle.ipmi_commands.specs.Job.{devices_job, entries_job, events_job, IsFrom, IsJob, IsPlace, job_of, keeping_last, listing, listing_in, lists_all, named_entries, searches, shelf_of};
 ghost use Rattle.ipmi_commands.specs.declared.job.Job.{Job};
-ghost use Rattle.ipmi_commands.specs.declared.job.Wording.{Wording};
 ghost use Rattle.ipmi_commands.specs.Listing.{end_of};
 
+use crate::format::{Detail, Format};
 use ipmi_bus::{Place, Shelf};
 use ipmi_command_line::{Count, Kind, Task};
 use ipmi_events::Sensors;
-use ipmi_json::Label;
 use ipmi_output::{Failure, RecordName};
 
-/// The wording of a command's output.
-#[derive(Clone, Copy, Debug, PartialEq, Eq)]
-pub enum Wording<'a> {
-    /// The wording of the specified texts, in which most events and states are numbers.
-    Plain,
-    /// The words of the standard's tables: events, states and entities in words, events with the names of their
-    /// sensors, and one line per device for all inventories. Everything else is printed as in [`Wording::Plain`].
-    Descriptive,
-    /// JSON: an object in a line for each record, entry, device and info, with these labels as its last members. Events
-    /// have the names of their sensors.
-    Json(&'a [Label<'a>]),
-}
-
-/// Which line is printed for a sensor data record.
-#[derive(Clone, Copy)]
-pub enum Detail<'a> {
-    /// The line of `sdr list`.
-    Short,
-    /// The longer line of `sdr elist`.
-    Extended,
-    /// The line in words, with the thresholds.
-    Descriptive,
-    /// The object with these labels.
-    Json(&'a [Label<'a>]),
-}
-
-/// Which line is printed for an entry of the event log.
+/// How an entry of the event log is printed: in this detail, with the names of these sensors if they were read.
 #[derive(Drop)]
-pub enum Entries<'a> {
-    /// The line in codes.
-    Plain,
-    /// The line in words, with the names of these sensors.
-    Descriptive(Sensors),
-    /// The object with the names of these sensors, and with these labels.
-    Json(Sensors, &'a [Label<'a>]),
+pub struct EntryText {
+    pub(crate) detail: Detail,
+    pub(crate) sensors: Option<Sensors>,
 }
 
 /// What is printed for each record of a listing.
 #[derive(Drop)]
 pub enum Form<'a> {
-    /// Its image line.
-    Raw,
-    /// The object of its bytes, with these labels.
-    RawObject(&'a [Label<'a>]),
+    /// The text of a sensor data record in hex.
+    Hex,
     /// The bytes of a sensor data record.
     Bytes,
-    /// The line of a sensor data record, if it is of this kind.
-    Line(Detail<'a>, Kind),
-    /// The block of a sensor data record, or its object, if this is its printed name.
-    Block(Wording<'a>, RecordName<'a>),
-    /// The inventory of the device that a FRU device locator names, in this wording.
-    Device(Wording<'a>),
-    /// The line of an event log entry.
-    EntryLine(Entries<'a>),
-    /// The block of an event log entry.
-    EntryBlock,
+    /// The text of a sensor data record in this detail, if it is of this kind.
+    Record(Detail, Kind),
+    /// The block of a sensor data record, if this is its printed name.
+    Block(RecordName<'a>),
+    /// The inventory of the device that a FRU device locator names.
+    Device,
+    /// The text of an event log entry.
+    Entry(EntryText),
     /// Nothing: an event log entry is skipped.
     Skipped,
 }
@@ -85,9 +49,9 @@ pub struct Listing<'a> {
 /// What is listed with names from the sensor data records.
 #[derive(Clone, Copy)]
 pub enum NameLookup {
-    /// The entries of the event log that the count selects, with the names of their sensors. The walk starts at this
-    /// id, or at the first entry; of `Count::Tail` it starts as that says.
-    Events(Count, Option<u16>),
+    /// The entries of the event log that the count selects, in this detail, with the names of their sensors. The walk
+    /// starts at this id, or at the first entry; of `Count::Tail` it starts as that says.
+    Events(Detail, Count, Option<u16>),
     /// All FRU devices, with the name of device 0 too.
     Devices,
 }
@@ -99,31 +63,30 @@ pub enum Job<'a> {
     Records(Listing<'a>),
     /// Lists the last entries of a walk of the event log, at most this many. The walk starts at this id, or at the
     /// first entry.
-    Last(Entries<'a>, u16, Option<u16>),
+    Last(EntryText, u16, Option<u16>),
     /// The same along one walk, which keeps these entries in memory until they are printed.
-    LastKept(Entries<'a>, u16, Option<u16>),
+    LastKept(EntryText, u16, Option<u16>),
     /// The same along a walk that begins where the info of the event log suggests, if that walk has so many entries and an end,
     /// and otherwise at the first entry.
-    Tail(Entries<'a>, u16),
-    /// Reads the sensor data records for names, then lists with these names, in this wording.
-    NameLookup(Wording<'a>, NameLookup),
-    /// Prints the info of the shelf, in this wording.
-    Info(Wording<'a>, Shelf),
-    /// Prints the inventory of this device with this name, in this wording.
-    Inventory(Wording<'a>, u8, Option<RecordName<'a>>),
-    /// Prints the inventory of device 0 with this name, and of each device that a locator names, in this wording.
-    AllInventories(Wording<'a>, Option<RecordName<'a>>),
+    Tail(EntryText, u16),
+    /// Reads the sensor data records for names, then lists with these names.
+    NameLookup(NameLookup),
+    /// Prints the info of the shelf.
+    Info(Shelf),
+    /// Prints the inventory of this device with this name, in this detail.
+    Inventory(Detail, u8, Option<RecordName<'a>>),
+    /// Prints the inventory of device 0 with this name, and of each device that a locator names.
+    AllInventories(Option<RecordName<'a>>),
 }
 
-impl<'a> Entries<'a> {
-    /// The lines of entries in this wording, with the names of these sensors. In codes, events have no names.
-    pub(crate) fn of(wording: Wording<'a>, sensors: Sensors) -> Entries<'a>
-        ensures { result ≡ entries_in wording.entry sensors }
+impl EntryText {
+    /// The text in this detail with the names of these sensors.
+    pub(crate) fn named(detail: Detail, sensors: Sensors) -> EntryText
+        ensures { result ≡ named_entries detail sensors }
     {
-        match wording {
-            Wording::Plain => Entries::Plain,
-            Wording::Descriptive => Entries::Descriptive(sensors),
-            Wording::Json(labels) => Entries::Json(sensors, labels),
+        EntryText {
+            detail,
+            sensors: Some(sensors),
         }
     }
 }
@@ -134,13 +97,10 @@ impl<'a> Form<'a> {
         ensures { result ≡ shelf_of self.now }
     {
         match self {
-            Form::EntryLine(_) | Form::EntryBlock | Form::Skipped => Shelf::Sel,
-            Form::Raw
-            | Form::RawObject(_)
-            | Form::Bytes
-            | Form::Line(_, _)
-            | Form::Block(_, _)
-            | Form::Device(_) => Shelf::Sdr,
+            Form::Entry(_) | Form::Skipped => Shelf::Sel,
+            Form::Hex | Form::Bytes | Form::Record(_, _) | Form::Block(_) | Form::Device => {
+                Shelf::Sdr
+            }
         }
     }
 
@@ -148,7 +108,7 @@ impl<'a> Form<'a> {
     fn searches(&self) -> bool
         ensures { result ≡ searches self.now }
     {
-        matches!(self, Form::Block(_, _))
+        matches!(self, Form::Block(_))
     }
 
     /// The result of a listing after its last record: Ok of `with`, or Err if the listing searches for a name and
@@ -157,7 +117,7 @@ impl<'a> Form<'a> {
         ensures { result ≡ end_of self.now wrote with }
     {
         match self {
-            Form::Block(_, name) if !wrote => Err(Failure::NoName(RecordName::new(name.as_str()))),
+            Form::Block(name) if !wrote => Err(Failure::NoName(RecordName::new(name.as_str()))),
             _ => Ok(with),
         }
     }
@@ -188,118 +148,75 @@ impl<'a> Job<'a> {
         Job::Records(Listing::new(form, from, most))
     }
 
-    /// The job of listing the entries that `count` selects, in codes.
-    fn entries(count: Count, from: Option<u16>) -> Job<'a>
+    /// The job of listing the entries that `count` selects, each as such a text.
+    fn entries(entries: EntryText, count: Count, from: Option<u16>) -> Job<'a>
         requires count { IsCount count }
         requires from { IsFrom from }
-        ensures value { result ≡ entries_job Entries.Plain count from }
+        ensures value { result ≡ entries_job entries count from }
         ensures range { IsJob result }
     {
         match count {
-            Count::All => Job::records(Form::EntryLine(Entries::Plain), from, None),
-            Count::First(n) => {
-                Job::records(Form::EntryLine(Entries::Plain), from, Some(u32::from(n)))
-            }
-            Count::Last(n) => Job::Last(Entries::Plain, n, from),
-            Count::Tail(n) => Job::Tail(Entries::Plain, n),
+            Count::All => Job::records(Form::Entry(entries), from, None),
+            Count::First(n) => Job::records(Form::Entry(entries), from, Some(u32::from(n))),
+            Count::Last(n) => Job::Last(entries, n, from),
+            Count::Tail(n) => Job::Tail(entries, n),
         }
     }
 
-    /// What the task prints, in this wording. A listing starts at the id `from`, or at the first record. None for
+    /// The same, with names of sensors or without.
+    fn events(has_names: bool, detail: Detail, count: Count, from: Option<u16>) -> Job<'a>
+        requires count { IsCount count }
+        requires from { IsFrom from }
+        ensures value { result ≡ events_job has_names detail count from }
+        ensures range { IsJob result }
+    {
+        if has_names {
+            return Job::NameLookup(NameLookup::Events(detail, count, from));
+        }
+        let sensors = None;
+        Job::entries(EntryText { detail, sensors }, count, from)
+    }
+
+    /// The job of listing all devices, that of id 0 with its name or without.
+    fn devices(has_names: bool) -> Job<'a>
+        ensures value { result ≡ devices_job has_names }
+        ensures range { IsJob result }
+    {
+        if has_names {
+            return Job::NameLookup(NameLookup::Devices);
+        }
+        Job::AllInventories(None)
+    }
+
+    /// What the task prints in this form of output. A listing starts at the id `from`, or at the first record. None for
     /// `image rewrite`, which only an image can do.
-    pub fn of(task: &'a Task, from: Option<u16>, wording: Wording<'a>) -> Option<Job<'a>>
+    pub fn of<F: Format>(format: &F, task: &'a Task, from: Option<u16>) -> Option<Job<'a>>
         requires task { IsTask task.now }
         requires from { IsFrom from }
-        ensures value { result ≡ job_in wording.entry task.now from }
+        ensures value { result ≡ job_of (F.texts format.now).has_names task.now from }
         ensures range { IfSome result (λ job. IsJob job) }
         ensures listing { is_listing task.now ≡ true → (job : Job) × (result ≡ Some job) × (lists_all job ≡ true) }
     {
-        match wording {
-            Wording::Plain => Job::in_codes(task, from),
-            Wording::Descriptive => Job::in_words(task, from),
-            Wording::Json(labels) => Job::in_json(task, from, labels),
-        }
-    }
-
-    /// The job of the task, in JSON with these labels.
-    fn in_json(task: &'a Task, from: Option<u16>, labels: &'a [Label<'a>]) -> Option<Job<'a>>
-        requires task { IsTask task.now }
-        requires from { IsFrom from }
-        ensures value { result ≡ job_in (Wording.Json labels.entry) task.now from }
-        ensures range { IfSome result (λ job. IsJob job) }
-    {
-        let json = Wording::Json(labels);
         match task {
-            Task::Hex => Some(Job::records(Form::RawObject(labels), from, None)),
-            Task::List(kind) | Task::Elist(kind) => {
-                Some(Job::records(Form::Line(Detail::Json(labels), *kind), from, None))
-            }
+            Task::Hex => Some(Job::records(Form::Hex, from, None)),
+            Task::List(kind) => Some(Job::records(Form::Record(Detail::Line, *kind), from, None)),
+            Task::Elist(kind) => Some(Job::records(Form::Record(Detail::Long, *kind), from, None)),
             Task::Get(name) => {
                 let name = RecordName::new(name.as_str());
-                Some(Job::records(Form::Block(json, name), from, None))
+                Some(Job::records(Form::Block(name), from, None))
             }
-            Task::SelList(count) => Some(Job::NameLookup(json, NameLookup::Events(*count, from))),
-            Task::SelGet(id) => Some(Job::NameLookup(
-                json,
-                NameLookup::Events(Count::First(1), Some(*id)),
-            )),
-            Task::Info(shelf) => Some(Job::Info(json, *shelf)),
-            Task::Fru(None) => Some(Job::NameLookup(json, NameLookup::Devices)),
-            Task::Fru(Some(id)) => Some(Job::Inventory(json, *id, None)),
-            Task::Rewrite => None,
-        }
-    }
-
-    /// The job of the task, in words.
-    fn in_words(task: &'a Task, from: Option<u16>) -> Option<Job<'a>>
-        requires task { IsTask task.now }
-        requires from { IsFrom from }
-        ensures value { result ≡ job_in Wording.Descriptive task.now from }
-        ensures range { IfSome result (λ job. IsJob job) }
-    {
-        match task {
-            Task::List(kind) => Some(Job::records(
-                Form::Line(Detail::Descriptive, *kind),
-                from,
-                None,
-            )),
-            Task::Get(name) => {
-                let name = RecordName::new(name.as_str());
-                Some(Job::records(Form::Block(Wording::Descriptive, name), from, None))
+            Task::SelList(count) => {
+                let detail = Detail::Line;
+                Some(Job::events(format.has_names(detail), detail, *count, from))
             }
-            Task::SelList(count) => Some(Job::NameLookup(
-                Wording::Descriptive,
-                NameLookup::Events(*count, from),
-            )),
-            Task::Fru(None) => Some(Job::NameLookup(Wording::Descriptive, NameLookup::Devices)),
-            _ => Job::in_codes(task, from),
-        }
-    }
-
-    /// The job of the task, in codes.
-    fn in_codes(task: &'a Task, from: Option<u16>) -> Option<Job<'a>>
-        requires task { IsTask task.now }
-        requires from { IsFrom from }
-        ensures value { result ≡ job_of task.now from }
-        ensures range { IfSome result (λ job. IsJob job) }
-    {
-        match task {
-            Task::Hex => Some(Job::records(Form::Raw, from, None)),
-            Task::List(kind) => Some(Job::records(Form::Line(Detail::Short, *kind), from, None)),
-            Task::Elist(kind) => Some(Job::records(
-                Form::Line(Detail::Extended, *kind),
-                from,
-                None,
-            )),
-            Task::Get(name) => {
-                let name = RecordName::new(name.as_str());
-                Some(Job::records(Form::Block(Wording::Plain, name), from, None))
+            Task::SelGet(id) => {
+                let detail = Detail::Block;
+                let (count, from) = (Count::First(1), Some(*id));
+                Some(Job::events(format.has_names(detail), detail, count, from))
             }
-            Task::SelList(count) => Some(Job::entries(*count, from)),
-            Task::SelGet(id) => Some(Job::records(Form::EntryBlock, Some(*id), Some(1))),
-            Task::Info(shelf) => Some(Job::Info(Wording::Plain, *shelf)),
-            Task::Fru(None) => Some(Job::AllInventories(Wording::Plain, None)),
-            Task::Fru(Some(id)) => Some(Job::Inventory(Wording::Plain, *id, None)),
+            Task::Info(shelf) => Some(Job::Info(*shelf)),
+            Task::Fru(None) => Some(Job::devices(format.has_names(Detail::Line))),
+            Task::Fru(Some(id)) => Some(Job::Inventory(Detail::Block, *id, None)),
             Task::Rewrite => None,
         }
     }
@@ -322,7 +239,7 @@ impl<'a> Job<'a> {
     {
         match self {
             Job::Records(listing) => listing.most.is_none() && !listing.form.searches(),
-            Job::NameLookup(_, NameLookup::Events(Count::All, _)) => true,
+            Job::NameLookup(NameLookup::Events(_, Count::All, _)) => true,
             _ => false,
         }
     }

@@ -8,11 +8,12 @@ ghost use Rattle.ipmi_commands.specs.Kept.{kept_row, KeepsByCursor, KeepsEntries
 ghost use Rattle.ipmi_commands.specs.Output.{Output};
 ghost use Rattle.ipmi_commands.specs.Prelude.{change, EndsListing, EndsPrinting, IsFrom, most_on_walk, printed, Runs, Tries};
 
-use crate::job::{Entries, Form};
+use crate::format::Format;
+use crate::job::{EntryText, Form};
 use crate::limits::RequestLimits;
 use crate::pages::start_cursor;
 use crate::perform::write_piece;
-use crate::piece::{entry_bytes, entry_line};
+use crate::piece::{entry_bytes, entry_text};
 use crate::summary::Summary;
 use ipmi_bus::{Controller, Cursor, Record, SEL_ENTRY_LEN};
 use ipmi_output::{Failure, Sink};
@@ -82,9 +83,10 @@ impl LastEntries {
 }
 
 /// Keeps the last entries from the cursor's place on.
-fn keep_after<'a, C: Controller>(
+fn keep_after<'a, F: Format, C: Controller>(
     cursor: &mut Cursor,
     ctl: &mut C,
+    _format: &F,
     kept: &mut LastEntries,
 ) -> Result<(), Failure<'a>>
     requires shelf { cursor.old.shelf ≡ Sel }
@@ -95,7 +97,7 @@ fn keep_after<'a, C: Controller>(
     ensures asked { AsksAtMost cursor.old.part (C.seen ctl.old) (C.seen ctl.new) }
     ensures ends { EndsListing Form.Skipped (C.seen ctl.new) result }
     ensures keeps { (tries : Tries) (text : Output) → cursor.old.tries ≡ tries.count →
-        KeepsByCursor kept.old.most tries cursor.old cursor.new
+        KeepsByCursor (F.texts _format.now) kept.old.most tries cursor.old cursor.new
         (C.seen ctl.old) (C.seen ctl.new) text kept.new.entries.items result }
 {
     'entries: loop {
@@ -112,10 +114,11 @@ fn keep_after<'a, C: Controller>(
 }
 
 /// Keeps the last entries of a walk that starts at the id `from`, or at the first entry.
-pub(crate) fn keep_entries<'a, C: Controller>(
+pub(crate) fn keep_entries<'a, F: Format, C: Controller>(
     alloc: Global,
     ctl: &mut C,
     limits: RequestLimits,
+    format: &F,
     from: Option<u16>,
     kept: &mut LastEntries,
 ) -> Result<(), Failure<'a>>
@@ -127,45 +130,53 @@ pub(crate) fn keep_entries<'a, C: Controller>(
     ensures ends { EndsListing Form.Skipped (C.seen ctl.new) result }
     ensures calls { (C.seen ctl.new).calls ≤ (C.seen ctl.old).calls + most_on_walk Form.Skipped
         limits.tries }
-    ensures honest { IsHonest (C.seen ctl.old) → (text : Output) → KeepsEntries kept.old.most (start_of from)
+    ensures honest { IsHonest (C.seen ctl.old) → (text : Output) → KeepsEntries (F.texts format.now) kept.old.most (start_of from)
         limits.tries (C.seen ctl.old) (C.seen ctl.new) text kept.new.entries.items result }
 {
     let mut cursor = start_cursor(alloc, limits, &Form::Skipped, from)?;
-    keep_after(&mut cursor, ctl, kept)
+    keep_after(&mut cursor, ctl, format, kept)
 }
 
 /// Prints the line of an entry.
-fn print_entry<'a, O: Sink>(
+fn print_entry<'a, F: Format, O: Sink>(
     alloc: Global,
+    format: &F,
     entry: KeptEntry,
-    entries: &Entries<'_>,
+    entries: &EntryText,
     out: &mut O,
     summary: &mut Summary,
 ) -> Result<(), Failure<'a>>
     ensures faults { O.faults out.new ≡ O.faults out.old + write_faults result }
     ensures ends { EndsPrinting result }
-    ensures prints { PrintsKept entries.now (entry ∷ []) (printed (O.taken out.old) summary.old)
+    ensures prints { PrintsKept (F.texts format.now) entries.now (entry ∷ []) (printed (O.taken out.old) summary.old)
         (printed (O.taken out.new) summary.new) result }
 {
-    let line = entry_line(alloc, entries, entry.id, &SelView::read(&entry.bytes))?;
-    write_piece(&line, false, out, summary)
+    let text = entry_text(
+        alloc,
+        format,
+        entries,
+        entry.id,
+        &SelView::read(&entry.bytes),
+    )?;
+    write_piece(&text, false, out, summary)
 }
 
-/// Prints the lines of the entries, and forgets them.
-pub(crate) fn print_entries<'a, O: Sink>(
+/// Prints the texts of the entries, and forgets them.
+pub(crate) fn print_entries<'a, F: Format, O: Sink>(
     alloc: Global,
+    format: &F,
     kept: &mut LastEntries,
-    entries: &Entries<'_>,
+    entries: &EntryText,
     out: &mut O,
     summary: &mut Summary,
 ) -> Result<(), Failure<'a>>
     ensures faults { O.faults out.new ≡ O.faults out.old + write_faults result }
     ensures ends { EndsPrinting result }
-    ensures prints { PrintsKept entries.now kept.old.entries.items (printed (O.taken out.old) summary.old)
+    ensures prints { PrintsKept (F.texts format.now) entries.now kept.old.entries.items (printed (O.taken out.old) summary.old)
         (printed (O.taken out.new) summary.new) result }
 {
     'entries: while let Some(entry) = kept.entries.pop_front() {
-        match print_entry(alloc, entry, entries, out, summary) {
+        match print_entry(alloc, format, entry, entries, out, summary) {
             Ok(()) => {}
             Err(failure) => return Err(failure),
         }
@@ -175,11 +186,12 @@ pub(crate) fn print_entries<'a, O: Sink>(
 
 /// Lists the last `wanted` entries along one walk, which starts at the id `from` or at the first entry. They are printed
 /// when the walk is over.
-pub(crate) fn list_kept<'a, C: Controller, O: Sink>(
+pub(crate) fn list_kept<'a, F: Format, C: Controller, O: Sink>(
     alloc: Global,
     ctl: &mut C,
     limits: RequestLimits,
-    entries: Entries<'a>,
+    format: &F,
+    entries: EntryText,
     wanted: u16,
     from: Option<u16>,
     out: &mut O,
@@ -189,12 +201,12 @@ pub(crate) fn list_kept<'a, C: Controller, O: Sink>(
     requires from { IsFrom from }
     ensures faults { O.faults out.new ≡ O.faults out.old + write_faults result }
     ensures asked { AsksAtMost limits.part (C.seen ctl.old) (C.seen ctl.new) }
-    ensures runs { Runs (Job.LastKept entries.entry wanted from) limits.tries
+    ensures runs { Runs (F.texts format.now) (Job.LastKept entries wanted from) limits.tries
         (change (C.seen ctl.old) (C.seen ctl.new) (printed (O.taken out.old) summary.old) (printed (O.taken out.new) summary.new)) result }
 {
     let mut kept = LastEntries::new(alloc, wanted);
-    match keep_entries(alloc, ctl, limits, from, &mut kept) {
-        Ok(()) => print_entries(alloc, &mut kept, &entries, out, summary),
+    match keep_entries(alloc, ctl, limits, format, from, &mut kept) {
+        Ok(()) => print_entries(alloc, format, &mut kept, &entries, out, summary),
         Err(failure) => Err(failure),
     }
 }

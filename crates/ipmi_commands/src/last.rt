@@ -5,7 +5,8 @@ ghost use Rattle.ipmi_commands.specs.declared.job.Form.{Form};
 ghost use Rattle.ipmi_commands.specs.declared.job.Job.{Job};
 ghost use Rattle.ipmi_commands.specs.Prelude.{change, CountsEntries, ending_of, EndsListing, IsFresh, IsFrom, ListsAfter, most_on_walk, printed, Runs};
 
-use crate::job::{Entries, Form};
+use crate::format::Format;
+use crate::job::{EntryText, Form};
 use crate::limits::RequestLimits;
 use crate::listing::list_records;
 use crate::pages::start_cursor;
@@ -15,10 +16,11 @@ use ipmi_output::{Failure, Sink};
 use std::alloc::Global;
 
 /// Counts the entries, starting at the id `from` or at the first entry. Writes nothing.
-fn count_entries<'a, C: Controller, O: Sink>(
+fn count_entries<'a, F: Format, C: Controller, O: Sink>(
     alloc: Global,
     ctl: &mut C,
     limits: RequestLimits,
+    format: &F,
     from: Option<u16>,
     out: &mut O,
     summary: &mut Summary,
@@ -30,7 +32,7 @@ fn count_entries<'a, C: Controller, O: Sink>(
     ensures calls { (C.seen ctl.new).calls ≤ (C.seen ctl.old).calls + most_on_walk Form.Skipped
         limits.tries }
     ensures honest { IsHonest (C.seen ctl.old) →
-        CountsEntries (start_of from) limits.tries (change (C.seen ctl.old) (C.seen ctl.new)
+        CountsEntries (F.texts format.now) (start_of from) limits.tries (change (C.seen ctl.old) (C.seen ctl.new)
         (printed (O.taken out.old) summary.old) (printed (O.taken out.new) summary.new)) result }
 {
     let mut cursor = start_cursor(alloc, limits, &Form::Skipped, from)?;
@@ -39,6 +41,7 @@ fn count_entries<'a, C: Controller, O: Sink>(
         &mut cursor,
         ctl,
         limits,
+        format,
         &Form::Skipped,
         None,
         out,
@@ -48,12 +51,13 @@ fn count_entries<'a, C: Controller, O: Sink>(
 
 /// Skips the first `passed` entries after the place of a new cursor, and lists those after them. If there are fewer
 /// entries, because the log became shorter, it lists nothing.
-fn list_rest<'a, C: Controller, O: Sink>(
+fn list_rest<'a, F: Format, C: Controller, O: Sink>(
     alloc: Global,
     cursor: &mut Cursor,
     ctl: &mut C,
     limits: RequestLimits,
-    entries: Entries<'a>,
+    format: &F,
+    entries: EntryText,
     passed: u32,
     out: &mut O,
     summary: &mut Summary,
@@ -61,11 +65,11 @@ fn list_rest<'a, C: Controller, O: Sink>(
     requires { (from : Option ℕ) × IsFresh limits Form.Skipped from cursor.old }
     ensures faults { O.faults out.new ≡ O.faults out.old + write_faults result }
     ensures asked { AsksAtMost limits.part (C.seen ctl.old) (C.seen ctl.new) }
-    ensures ends { EndsListing (Form.EntryLine entries.entry) (C.seen ctl.new) result }
+    ensures ends { EndsListing (Form.Entry entries) (C.seen ctl.new) result }
     ensures calls { (C.seen ctl.new).calls ≤ (C.seen ctl.old).calls + most_on_walk Form.Skipped
         limits.tries }
     ensures honest { IsHonest (C.seen ctl.old) →
-        ListsAfter entries.entry cursor.old.place passed limits.tries (change (C.seen ctl.old) (C.seen ctl.new)
+        ListsAfter (F.texts format.now) entries cursor.old.place passed limits.tries (change (C.seen ctl.old) (C.seen ctl.new)
         (printed (O.taken out.old) summary.old) (printed (O.taken out.new) summary.new)) result }
 {
     let most = Some(passed);
@@ -74,6 +78,7 @@ fn list_rest<'a, C: Controller, O: Sink>(
         cursor,
         ctl,
         limits,
+        format,
         &Form::Skipped,
         most,
         out,
@@ -87,7 +92,8 @@ fn list_rest<'a, C: Controller, O: Sink>(
         cursor,
         ctl,
         limits,
-        &Form::EntryLine(entries),
+        format,
+        &Form::Entry(entries),
         None,
         out,
         summary,
@@ -96,11 +102,12 @@ fn list_rest<'a, C: Controller, O: Sink>(
 }
 
 /// Skips the first `passed` entries, starting at the id `from` or at the first entry, and lists those after them.
-fn list_after<'a, C: Controller, O: Sink>(
+fn list_after<'a, F: Format, C: Controller, O: Sink>(
     alloc: Global,
     ctl: &mut C,
     limits: RequestLimits,
-    entries: Entries<'a>,
+    format: &F,
+    entries: EntryText,
     from: Option<u16>,
     passed: u32,
     out: &mut O,
@@ -109,11 +116,11 @@ fn list_after<'a, C: Controller, O: Sink>(
     requires { IsFrom from }
     ensures faults { O.faults out.new ≡ O.faults out.old + write_faults result }
     ensures asked { AsksAtMost limits.part (C.seen ctl.old) (C.seen ctl.new) }
-    ensures ends { EndsListing (Form.EntryLine entries.entry) (C.seen ctl.new) result }
+    ensures ends { EndsListing (Form.Entry entries) (C.seen ctl.new) result }
     ensures calls { (C.seen ctl.new).calls ≤ (C.seen ctl.old).calls + most_on_walk Form.Skipped
         limits.tries }
     ensures honest { IsHonest (C.seen ctl.old) →
-        ListsAfter entries.entry (start_of from) passed limits.tries (change (C.seen ctl.old) (C.seen ctl.new)
+        ListsAfter (F.texts format.now) entries (start_of from) passed limits.tries (change (C.seen ctl.old) (C.seen ctl.new)
         (printed (O.taken out.old) summary.old) (printed (O.taken out.new) summary.new)) result }
 {
     let mut cursor = start_cursor(alloc, limits, &Form::Skipped, from)?;
@@ -122,6 +129,7 @@ fn list_after<'a, C: Controller, O: Sink>(
         &mut cursor,
         ctl,
         limits,
+        format,
         entries,
         passed,
         out,
@@ -130,11 +138,12 @@ fn list_after<'a, C: Controller, O: Sink>(
 }
 
 /// Lists the last `wanted` entries. The first walk counts all entries, the second skips those before the last ones.
-pub(crate) fn list_last<'a, C: Controller, O: Sink>(
+pub(crate) fn list_last<'a, F: Format, C: Controller, O: Sink>(
     alloc: Global,
     ctl: &mut C,
     limits: RequestLimits,
-    entries: Entries<'a>,
+    format: &F,
+    entries: EntryText,
     wanted: u16,
     from: Option<u16>,
     out: &mut O,
@@ -144,14 +153,16 @@ pub(crate) fn list_last<'a, C: Controller, O: Sink>(
     requires from { IsFrom from }
     ensures faults { O.faults out.new ≡ O.faults out.old + write_faults result }
     ensures asked { AsksAtMost limits.part (C.seen ctl.old) (C.seen ctl.new) }
-    ensures runs { Runs (Job.Last entries.entry wanted from) limits.tries
+    ensures runs { Runs (F.texts format.now) (Job.Last entries wanted from) limits.tries
         (change (C.seen ctl.old) (C.seen ctl.new) (printed (O.taken out.old) summary.old) (printed (O.taken out.new) summary.new)) result }
 {
-    match count_entries(alloc, ctl, limits, from, out, summary) {
+    match count_entries(alloc, ctl, limits, format, from, out, summary) {
         Ok(0) => Ok(()),
         Ok(count) => {
             let passed = count.saturating_sub(u32::from(wanted));
-            list_after(alloc, ctl, limits, entries, from, passed, out, summary)
+            list_after(
+                alloc, ctl, limits, format, entries, from, passed, out, summary,
+            )
         }
         Err(failure) => Err(failure),
     }

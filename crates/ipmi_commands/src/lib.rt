@@ -2,6 +2,7 @@
 #![tactic(auto)]
 
 mod devices;
+mod format;
 mod info;
 mod inventory;
 mod job;
@@ -14,15 +15,18 @@ mod named;
 mod pages;
 mod perform;
 mod piece;
+mod plain;
 mod read_error;
 mod runs;
 mod sensors;
 mod summary;
 mod tail;
 
-pub use job::{Job, Wording};
+pub use format::{Detail, Format, Total};
+pub use job::Job;
 pub use limits::{LIVE_PART, RequestLimits, Tries};
 pub use perform::{execute, execute_pages};
+pub use plain::{Descriptive, Plain};
 pub use runs::{answer, execute_image, report, run, run_pages, write_image, write_snapshot};
 pub use sensors::{FoundSensors, find_sensors, print_sensors};
 pub use summary::Summary;

@@ -4,6 +4,7 @@ ghost use Rattle.std.specs.FinSet as set;
 ghost use Rattle.ipmi_commands.specs.Below.{AsksAtMost, IsHonest, IsStateOf, write_faults};
 ghost use Rattle.ipmi_commands.specs.Prelude.{change, ending_of, EndsListing, is_reached, Lists, printed, ReachesEnd, RetriesParts, shelf_of, WritesWhole};
 
+use crate::format::Format;
 use crate::job::Form;
 use crate::limits::RequestLimits;
 use crate::piece::row_text;
@@ -22,11 +23,12 @@ pub(crate) fn is_reached(most: Option<u32>, count: u32) -> bool
 
 /// Writes the text of each record, starting at the cursor's place, while the record is borrowed. Stops after `most`
 /// records if that is Some. Returns the number of records.
-pub(crate) fn list_records<'a, C: Controller, O: Sink>(
+pub(crate) fn list_records<'a, F: Format, C: Controller, O: Sink>(
     alloc: Global,
     cursor: &mut Cursor,
     ctl: &mut C,
     limits: RequestLimits,
+    format: &F,
     form: &Form<'a>,
     most: Option<u32>,
     out: &mut O,
@@ -42,7 +44,7 @@ pub(crate) fn list_records<'a, C: Controller, O: Sink>(
     ensures parts { IsHonest (C.seen ctl.old) → RetriesParts limits.tries (IsStateOf C.seen) (C.seen ctl.new) (ending_of result) }
     ensures whole { WritesWhole form.now (O.taken out.old) (O.taken out.new) (ending_of result) }
     ensures reaches { ReachesEnd most cursor.new result }
-    ensures lists { Lists form.now limits.tries most cursor.old cursor.new
+    ensures lists { Lists (F.texts format.now) form.now limits.tries most cursor.old cursor.new
         (change (C.seen ctl.old) (C.seen ctl.new) (printed (O.taken out.old) summary.old) (printed (O.taken out.new) summary.new)) result }
 {
     let mut count = 0;
@@ -57,7 +59,7 @@ pub(crate) fn list_records<'a, C: Controller, O: Sink>(
             Ok(None) => return form.end(wrote, count),
             Err(ended) => return Err(Failure::Ended(ended)),
         };
-        let text = match row_text(alloc, ctl, limits, form, &record, &mut line) {
+        let text = match row_text(alloc, ctl, limits, format, form, &record, &mut line) {
             Ok(text) => text,
             Err(unread) => return Err(Failure::from(unread)),
         };

@@ -3,13 +3,15 @@ ghost use Rattle.std.specs.Prelude.{◌≡◌, ◌+◌};
 ghost use Rattle.ipmi_commands.specs.Below.{AsksAtMost, IsCount, IsHonest, IsStateOf, records_in, write_faults};
 ghost use Rattle.ipmi_commands.specs.Named.{end_after, listed_end, ReadsRecords, walk_of};
 ghost use Rattle.ipmi_commands.specs.declared.job.Job.{Job};
-ghost use Rattle.ipmi_commands.specs.Prelude.{change, entries_in, entries_job, IsFrom, keeping_last, IsNamed, printed, RetriesParts, Runs, RunsNamedInPages};
+ghost use Rattle.ipmi_commands.specs.Prelude.{change, entries_job, IsFrom, keeping_last, IsNamed, named_entries, printed, RetriesParts, Runs, RunsNamedInPages};
 
 use crate::devices::print_devices;
-use crate::job::{Entries, Form, Listing, NameLookup, Wording};
+use crate::format::{Detail, Format};
+use crate::job::{EntryText, Form, Listing, NameLookup};
 use crate::limits::RequestLimits;
 use crate::pages::{list_page, list_pages};
 use crate::perform::list_entries;
+use crate::plain::Plain;
 use crate::summary::Summary;
 use ipmi_bus::{Controller, Ended, Place};
 use ipmi_command_line::Count;
@@ -66,13 +68,14 @@ fn walk_of<'a>(listed: Result<Place, Failure<'a>>) -> Result<RecordsEnd, Failure
     }
 }
 
-/// Lists the entries that `count` selects, starting at the id `from` or at the first entry, in this wording, with the names
+/// Lists the entries that `count` selects, starting at the id `from` or at the first entry, with the names
 /// in these concatenated sensor data records. Keeps a table with one slot for each possible sensor.
-fn list_events<'a, C: Controller, O: Sink>(
+fn list_events<'a, F: Format, C: Controller, O: Sink>(
     alloc: Global,
     ctl: &mut C,
     limits: RequestLimits,
-    wording: Wording<'a>,
+    format: &F,
+    detail: Detail,
     records: Vec<u8>,
     count: Count,
     from: Option<u16>,
@@ -83,11 +86,13 @@ fn list_events<'a, C: Controller, O: Sink>(
     requires from { IsFrom from }
     ensures faults { O.faults out.new ≡ O.faults out.old + write_faults result }
     ensures asked { AsksAtMost limits.part (C.seen ctl.old) (C.seen ctl.new) }
-    ensures runs { Runs (keeping_last (entries_job (entries_in wording.entry (records_in records.items)) count from)) limits.tries
+    ensures runs { Runs (F.texts format.now) (keeping_last (entries_job (named_entries detail (records_in records.items)) count from)) limits.tries
         (change (C.seen ctl.old) (C.seen ctl.new) (printed (O.taken out.old) summary.old) (printed (O.taken out.new) summary.new)) result }
 {
-    let entries = Entries::of(wording, Sensors::of(alloc, records)?);
-    list_entries(alloc, ctl, limits, entries, count, from, out, summary)
+    let entries = EntryText::named(detail, Sensors::of(alloc, records)?);
+    list_entries(
+        alloc, ctl, limits, format, entries, count, from, out, summary,
+    )
 }
 
 /// Writes the bytes of all sensor data records to `records`. Returns how their walk ended.
@@ -106,6 +111,7 @@ fn read_records<'a, C: Controller, O: Sink>(
         alloc,
         ctl,
         limits,
+        &Plain,
         &Form::Bytes,
         Place::First,
         None,
@@ -115,12 +121,12 @@ fn read_records<'a, C: Controller, O: Sink>(
     walk_of(listed)
 }
 
-/// Reads all sensor data records into memory, then lists with the names in them, in this wording.
-pub(crate) fn list_named<'a, C: Controller, O: Sink>(
+/// Reads all sensor data records into memory, then lists with the names in them.
+pub(crate) fn list_named<'a, F: Format, C: Controller, O: Sink>(
     alloc: Global,
     ctl: &mut C,
     limits: RequestLimits,
-    wording: Wording<'a>,
+    format: &F,
     named: NameLookup,
     out: &mut O,
     summary: &mut Summary,
@@ -129,7 +135,7 @@ pub(crate) fn list_named<'a, C: Controller, O: Sink>(
     ensures faults { O.faults out.new ≡ O.faults out.old + write_faults result }
     ensures asked { AsksAtMost limits.part (C.seen ctl.old) (C.seen ctl.new) }
     ensures parts { IsHonest (C.seen ctl.old) → RetriesParts limits.tries (IsStateOf C.seen) (C.seen ctl.new) result }
-    ensures runs { Runs (Job.NameLookup wording.entry named) limits.tries
+    ensures runs { Runs (F.texts format.now) (Job.NameLookup named) limits.tries
         (change (C.seen ctl.old) (C.seen ctl.new) (printed (O.taken out.old) summary.old) (printed (O.taken out.new) summary.new)) result }
 {
     ipmi_bus::laws::what_is_found_is_a_row();
@@ -139,24 +145,25 @@ pub(crate) fn list_named<'a, C: Controller, O: Sink>(
     let walked = read_records(alloc, ctl, limits, &mut records, &mut counted)?;
     let records = records.into_inner();
     match named {
-        NameLookup::Events(count, from) => {
+        NameLookup::Events(detail, count, from) => {
             list_events(
-                alloc, ctl, limits, wording, records, count, from, out, summary,
+                alloc, ctl, limits, format, detail, records, count, from, out, summary,
             )?;
             walked.end()
         }
         NameLookup::Devices => {
-            print_devices(alloc, ctl, limits, wording, &records, walked, out, summary)
+            print_devices(alloc, ctl, limits, format, &records, walked, out, summary)
         }
     }
 }
 
 /// Like [`list_named`], for all entries, in pages of these sizes and then in a page without a limit.
-pub(crate) fn list_named_pages<'a, C: Controller, O: Sink>(
+pub(crate) fn list_named_pages<'a, F: Format, C: Controller, O: Sink>(
     alloc: Global,
     ctl: &mut C,
     limits: RequestLimits,
-    wording: Wording<'a>,
+    format: &F,
+    detail: Detail,
     from: Option<u16>,
     out: &mut O,
     summary: &mut Summary,
@@ -165,7 +172,7 @@ pub(crate) fn list_named_pages<'a, C: Controller, O: Sink>(
     requires { IsFrom from }
     ensures faults { O.faults out.new ≡ O.faults out.old + write_faults result }
     ensures asked { AsksAtMost limits.part (C.seen ctl.old) (C.seen ctl.new) }
-    ensures runs { RunsNamedInPages wording.entry from limits.tries sizes.now
+    ensures runs { RunsNamedInPages (F.texts format.now) detail from limits.tries sizes.now
         (change (C.seen ctl.old) (C.seen ctl.new) (printed (O.taken out.old) summary.old) (printed (O.taken out.new) summary.new)) result }
 {
     ipmi_bus::laws::the_tail_is_a_walk();
@@ -174,12 +181,13 @@ pub(crate) fn list_named_pages<'a, C: Controller, O: Sink>(
     let mut records = Written::new(Vec::new(alloc));
     let mut counted = Summary::new();
     let walked = read_records(alloc, ctl, limits, &mut records, &mut counted)?;
-    let entries = Entries::of(wording, Sensors::of(alloc, records.into_inner())?);
-    let listing = Listing::new(Form::EntryLine(entries), from, None);
+    let entries = EntryText::named(detail, Sensors::of(alloc, records.into_inner())?);
+    let listing = Listing::new(Form::Entry(entries), from, None);
     list_pages(
         alloc,
         ctl,
         limits,
+        format,
         &listing.form,
         listing.start,
         out,

@@ -3,6 +3,7 @@ ghost use Rattle.std.specs.Prelude.{◌≡◌, ◌≢◌, ◌+◌, ◌*◌, ◌�
 ghost use Rattle.ipmi_commands.specs.Below.{AsksAtMost, End, start_of, IsHonest, IsStateOf, write_faults};
 ghost use Rattle.ipmi_commands.specs.Prelude.{ArePages, change, ending_of, EndsListing, IsFresh, IsFrom, IsPage, IsPlace, most_on_walk, pages_made, printed, RetriesParts, WritesWhole};
 
+use crate::format::Format;
 use crate::job::Form;
 use crate::limits::RequestLimits;
 use crate::listing::{is_reached, list_records};
@@ -36,10 +37,11 @@ pub(crate) fn start_cursor(
 
 /// Lists records with a new cursor, starting at the id `from` or at the first record, at most `most` of them if that
 /// is Some. Returns the place where the next page begins.
-fn list_from<'a, C: Controller, O: Sink>(
+fn list_from<'a, F: Format, C: Controller, O: Sink>(
     alloc: Global,
     ctl: &mut C,
     limits: RequestLimits,
+    format: &F,
     form: &Form<'a>,
     from: Option<u16>,
     most: Option<u32>,
@@ -57,20 +59,31 @@ fn list_from<'a, C: Controller, O: Sink>(
     ensures calls { (C.seen ctl.new).calls ≤ (C.seen ctl.old).calls + most_on_walk form.now
         limits.tries }
     ensures honest { most ≢ Some 0 → IsHonest (C.seen ctl.old) →
-        IsPage form.now (start_of from) limits.tries most (change (C.seen ctl.old) (C.seen ctl.new)
+        IsPage (F.texts format.now) form.now (start_of from) limits.tries most (change (C.seen ctl.old) (C.seen ctl.new)
         (printed (O.taken out.old) summary.old) (printed (O.taken out.new) summary.new)) result }
 {
     let mut cursor = start_cursor(alloc, limits, form, from)?;
-    list_records(alloc, &mut cursor, ctl, limits, form, most, out, summary)?;
+    list_records(
+        alloc,
+        &mut cursor,
+        ctl,
+        limits,
+        format,
+        form,
+        most,
+        out,
+        summary,
+    )?;
     Ok(cursor.resume_at())
 }
 
 /// Lists records with a new cursor, starting at `place`, at most `most` of them if that is Some. Returns the place
 /// where the next page begins.
-pub(crate) fn list_page<'a, C: Controller, O: Sink>(
+pub(crate) fn list_page<'a, F: Format, C: Controller, O: Sink>(
     alloc: Global,
     ctl: &mut C,
     limits: RequestLimits,
+    format: &F,
     form: &Form<'a>,
     place: Place,
     most: Option<u32>,
@@ -89,25 +102,36 @@ pub(crate) fn list_page<'a, C: Controller, O: Sink>(
         limits.tries }
     ensures none { most ≡ Some 0 → C.seen ctl.new ≡ C.seen ctl.old }
     ensures honest { IsHonest (C.seen ctl.old) →
-        IsPage form.now place limits.tries most (change (C.seen ctl.old) (C.seen ctl.new)
+        IsPage (F.texts format.now) form.now place limits.tries most (change (C.seen ctl.old) (C.seen ctl.new)
         (printed (O.taken out.old) summary.old) (printed (O.taken out.new) summary.new)) result }
 {
     if is_reached(most, 0) {
         return form.end(false, place);
     }
     match place {
-        Place::First => list_from(alloc, ctl, limits, form, None, most, out, summary),
+        Place::First => list_from(alloc, ctl, limits, format, form, None, most, out, summary),
         Place::Id(FIRST_RECORD_ID) => Err(Failure::Ended(Ended::Cycle(FIRST_RECORD_ID))),
-        Place::Id(id) => list_from(alloc, ctl, limits, form, Some(id), most, out, summary),
+        Place::Id(id) => list_from(
+            alloc,
+            ctl,
+            limits,
+            format,
+            form,
+            Some(id),
+            most,
+            out,
+            summary,
+        ),
         Place::End => form.end(false, place),
     }
 }
 
 /// Lists records in pages of these sizes, and then in a page without a limit, starting at `start`.
-pub(crate) fn list_pages<'a, C: Controller, O: Sink>(
+pub(crate) fn list_pages<'a, F: Format, C: Controller, O: Sink>(
     alloc: Global,
     ctl: &mut C,
     limits: RequestLimits,
+    format: &F,
     form: &Form<'a>,
     start: Place,
     out: &mut O,
@@ -122,16 +146,26 @@ pub(crate) fn list_pages<'a, C: Controller, O: Sink>(
     ensures calls { (C.seen ctl.new).calls ≤ (C.seen ctl.old).calls + pages_made sizes.now *
         most_on_walk form.now limits.tries }
     ensures honest { IsHonest (C.seen ctl.old) →
-        ArePages form.now limits.tries start sizes.now (change (C.seen ctl.old) (C.seen ctl.new)
+        ArePages (F.texts format.now) form.now limits.tries start sizes.now (change (C.seen ctl.old) (C.seen ctl.new)
         (printed (O.taken out.old) summary.old) (printed (O.taken out.new) summary.new)) result }
 {
     let mut place = start;
     'pages: for size in sizes {
-        match list_page(alloc, ctl, limits, form, place, Some(*size), out, summary) {
+        match list_page(
+            alloc,
+            ctl,
+            limits,
+            format,
+            form,
+            place,
+            Some(*size),
+            out,
+            summary,
+        ) {
             Ok(next) => place = next,
             Err(failure) => return Err(failure),
         }
     }
-    list_page(alloc, ctl, limits, form, place, None, out, summary)?;
+    list_page(alloc, ctl, limits, format, form, place, None, out, summary)?;
     Ok(())
 }

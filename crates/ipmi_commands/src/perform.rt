@@ -6,9 +6,10 @@ ghost use Rattle.ipmi_commands.specs.declared.job.Job.{Job};
 ghost use Rattle.ipmi_commands.specs.declared.job.Listing.{Listing};
 ghost use Rattle.ipmi_commands.specs.Prelude.{change, entries_job, IsFrom, IsJob, IsPlace, keeping_last, listing, lists_all, piece_of, printed, RetriesParts, Runs, RunsPaged, WritesPiece};
 
+use crate::format::{Detail, Format};
 use crate::info::info_text;
 use crate::inventory::inventory_in;
-use crate::job::{Entries, Form, Job, Listing, NameLookup, Wording};
+use crate::job::{EntryText, Form, Job, Listing, NameLookup};
 use crate::kept::list_kept;
 use crate::last::list_last;
 use crate::limits::RequestLimits;
@@ -38,10 +39,11 @@ pub(crate) fn write_piece<'a, O: Sink>(
 }
 
 /// Lists records along one walk.
-fn list<'a, C: Controller, O: Sink>(
+fn list<'a, F: Format, C: Controller, O: Sink>(
     alloc: Global,
     ctl: &mut C,
     limits: RequestLimits,
+    format: &F,
     listing: &Listing<'a>,
     out: &mut O,
     summary: &mut Summary,
@@ -50,13 +52,14 @@ fn list<'a, C: Controller, O: Sink>(
     ensures faults { O.faults out.new ≡ O.faults out.old + write_faults result }
     ensures asked { AsksAtMost limits.part (C.seen ctl.old) (C.seen ctl.new) }
     ensures parts { IsHonest (C.seen ctl.old) → RetriesParts limits.tries (IsStateOf C.seen) (C.seen ctl.new) result }
-    ensures runs { Runs (Job.Records listing.now) limits.tries
+    ensures runs { Runs (F.texts format.now) (Job.Records listing.now) limits.tries
         (change (C.seen ctl.old) (C.seen ctl.new) (printed (O.taken out.old) summary.old) (printed (O.taken out.new) summary.new)) result }
 {
     list_page(
         alloc,
         ctl,
         limits,
+        format,
         &listing.form,
         listing.start,
         listing.most,
@@ -67,11 +70,12 @@ fn list<'a, C: Controller, O: Sink>(
 }
 
 /// Lists entries, at most `most` of them if that is Some, starting at the id `from` or at the first entry.
-fn list_first<'a, C: Controller, O: Sink>(
+fn list_first<'a, F: Format, C: Controller, O: Sink>(
     alloc: Global,
     ctl: &mut C,
     limits: RequestLimits,
-    entries: Entries<'a>,
+    format: &F,
+    entries: EntryText,
     from: Option<u16>,
     most: Option<u32>,
     out: &mut O,
@@ -80,20 +84,21 @@ fn list_first<'a, C: Controller, O: Sink>(
     requires { IsFrom from }
     ensures faults { O.faults out.new ≡ O.faults out.old + write_faults result }
     ensures asked { AsksAtMost limits.part (C.seen ctl.old) (C.seen ctl.new) }
-    ensures runs { Runs (Job.Records (listing (Form.EntryLine entries.entry) (start_of from) most)) limits.tries
+    ensures runs { Runs (F.texts format.now) (Job.Records (listing (Form.Entry entries) (start_of from) most)) limits.tries
         (change (C.seen ctl.old) (C.seen ctl.new) (printed (O.taken out.old) summary.old) (printed (O.taken out.new) summary.new)) result }
 {
-    let listing = Listing::new(Form::EntryLine(entries), from, most);
-    list(alloc, ctl, limits, &listing, out, summary)
+    let listing = Listing::new(Form::Entry(entries), from, most);
+    list(alloc, ctl, limits, format, &listing, out, summary)
 }
 
 /// Lists the entries that `count` selects, starting at the id `from` or at the first entry. The last ones are kept in
 /// memory along one walk.
-pub(crate) fn list_entries<'a, C: Controller, O: Sink>(
+pub(crate) fn list_entries<'a, F: Format, C: Controller, O: Sink>(
     alloc: Global,
     ctl: &mut C,
     limits: RequestLimits,
-    entries: Entries<'a>,
+    format: &F,
+    entries: EntryText,
     count: Count,
     from: Option<u16>,
     out: &mut O,
@@ -103,36 +108,40 @@ pub(crate) fn list_entries<'a, C: Controller, O: Sink>(
     requires from { IsFrom from }
     ensures faults { O.faults out.new ≡ O.faults out.old + write_faults result }
     ensures asked { AsksAtMost limits.part (C.seen ctl.old) (C.seen ctl.new) }
-    ensures runs { Runs (keeping_last (entries_job entries.entry count from)) limits.tries
+    ensures runs { Runs (F.texts format.now) (keeping_last (entries_job entries count from)) limits.tries
         (change (C.seen ctl.old) (C.seen ctl.new) (printed (O.taken out.old) summary.old) (printed (O.taken out.new) summary.new)) result }
 {
     match count {
-        Count::All => list_first(alloc, ctl, limits, entries, from, None, out, summary),
+        Count::All => list_first(
+            alloc, ctl, limits, format, entries, from, None, out, summary,
+        ),
         Count::First(n) => {
             let most = Some(u32::from(n));
-            list_first(alloc, ctl, limits, entries, from, most, out, summary)
+            list_first(
+                alloc, ctl, limits, format, entries, from, most, out, summary,
+            )
         }
-        Count::Last(n) => list_kept(alloc, ctl, limits, entries, n, from, out, summary),
-        Count::Tail(n) => list_tail(alloc, ctl, limits, entries, n, out, summary),
+        Count::Last(n) => list_kept(alloc, ctl, limits, format, entries, n, from, out, summary),
+        Count::Tail(n) => list_tail(alloc, ctl, limits, format, entries, n, out, summary),
     }
 }
 
-/// Prints the info of the shelf, in this wording.
-fn print_info<'a, C: Controller, O: Sink>(
+/// Prints the info of the shelf.
+fn print_info<'a, F: Format, C: Controller, O: Sink>(
     alloc: Global,
     ctl: &mut C,
     limits: RequestLimits,
-    wording: Wording<'_>,
+    format: &F,
     shelf: Shelf,
     out: &mut O,
     summary: &mut Summary,
 ) -> Result<(), Failure<'a>>
     ensures faults { O.faults out.new ≡ O.faults out.old + write_faults result }
     ensures asked { AsksAtMost limits.part (C.seen ctl.old) (C.seen ctl.new) }
-    ensures runs { Runs (Job.Info wording.entry shelf) limits.tries
+    ensures runs { Runs (F.texts format.now) (Job.Info shelf) limits.tries
         (change (C.seen ctl.old) (C.seen ctl.new) (printed (O.taken out.old) summary.old) (printed (O.taken out.new) summary.new)) result }
 {
-    match info_text(alloc, ctl, wording, shelf, limits.tries())? {
+    match info_text(alloc, ctl, format, shelf, limits.tries())? {
         Some(text) => write_piece(text.as_slice(), false, out, summary),
         None => Err(Failure::NoInfo),
     }
@@ -148,12 +157,13 @@ fn text_of<'a>(name: &Option<RecordName<'a>>) -> Option<&'a str>
     }
 }
 
-/// Prints the inventory of one device with this name, in this wording.
-pub(crate) fn print_inventory<'a, C: Controller, O: Sink>(
+/// Prints the inventory of one device with this name.
+pub(crate) fn print_inventory<'a, F: Format, C: Controller, O: Sink>(
     alloc: Global,
     ctl: &mut C,
     limits: RequestLimits,
-    wording: Wording<'_>,
+    format: &F,
+    detail: Detail,
     id: u8,
     name: Option<&str>,
     out: &mut O,
@@ -163,19 +173,19 @@ pub(crate) fn print_inventory<'a, C: Controller, O: Sink>(
     ensures asked { AsksAtMost limits.part (C.seen ctl.old) (C.seen ctl.new) }
     ensures parts { IsHonest (C.seen ctl.old) → RetriesParts limits.tries (IsStateOf C.seen) (C.seen ctl.new) result }
     ensures runs { let named = option_map (λ name. name.now) name.entry in
-        Runs (Job.Inventory wording.entry id named) limits.tries
+        Runs (F.texts format.now) (Job.Inventory detail id named) limits.tries
         (change (C.seen ctl.old) (C.seen ctl.new) (printed (O.taken out.old) summary.old) (printed (O.taken out.new) summary.new)) result }
 {
-    let piece = inventory_in(alloc, ctl, limits, wording, id, name)?;
+    let piece = inventory_in(alloc, ctl, limits, format, detail, id, name)?;
     write_piece(piece.text.as_slice(), piece.has_fault, out, summary)
 }
 
-/// Prints all inventories, in this wording: that of device 0 with this name, then those of the locators.
-fn print_inventories<'a, C: Controller, O: Sink>(
+/// Prints all inventories: that of device 0 with this name, then those of the locators.
+fn print_inventories<'a, F: Format, C: Controller, O: Sink>(
     alloc: Global,
     ctl: &mut C,
     limits: RequestLimits,
-    wording: Wording<'a>,
+    format: &F,
     name: Option<&str>,
     out: &mut O,
     summary: &mut Summary,
@@ -184,21 +194,42 @@ fn print_inventories<'a, C: Controller, O: Sink>(
     ensures asked { AsksAtMost limits.part (C.seen ctl.old) (C.seen ctl.new) }
     ensures parts { IsHonest (C.seen ctl.old) → RetriesParts limits.tries (IsStateOf C.seen) (C.seen ctl.new) result }
     ensures runs { let named = option_map (λ name. name.now) name.entry in
-        Runs (Job.AllInventories wording.entry named) limits.tries
+        Runs (F.texts format.now) (Job.AllInventories named) limits.tries
         (change (C.seen ctl.old) (C.seen ctl.new) (printed (O.taken out.old) summary.old) (printed (O.taken out.new) summary.new)) result }
 {
-    print_inventory(alloc, ctl, limits, wording, 0, name, out, summary)?;
-    let form = Form::Device(wording);
-    list_page(alloc, ctl, limits, &form, Place::First, None, out, summary)?;
+    print_inventory(
+        alloc,
+        ctl,
+        limits,
+        format,
+        Detail::Line,
+        0,
+        name,
+        out,
+        summary,
+    )?;
+    let form = Form::Device;
+    list_page(
+        alloc,
+        ctl,
+        limits,
+        format,
+        &form,
+        Place::First,
+        None,
+        out,
+        summary,
+    )?;
     Ok(())
 }
 
-/// Does the job over the controller. Err says why it did not finish. Adds what it printed to `summary`, also if it
+/// Does the job over the controller, in the form of output for which the job was made: another one may lack the names of sensors. Err says why it did not finish. Adds what it printed to `summary`, also if it
 /// fails.
-pub fn execute<'a, C: Controller, O: Sink>(
+pub fn execute<'a, F: Format, C: Controller, O: Sink>(
     alloc: Global,
     ctl: &mut C,
     limits: RequestLimits,
+    format: &F,
     job: Job<'a>,
     out: &mut O,
     summary: &mut Summary,
@@ -207,38 +238,41 @@ pub fn execute<'a, C: Controller, O: Sink>(
     ensures faults { O.faults out.new ≡ O.faults out.old + write_faults result }
     ensures asked { AsksAtMost limits.part (C.seen ctl.old) (C.seen ctl.new) }
     ensures parts { IsHonest (C.seen ctl.old) → RetriesParts limits.tries (IsStateOf C.seen) (C.seen ctl.new) result }
-    ensures runs { Runs job.entry limits.tries
+    ensures runs { Runs (F.texts format.now) job.entry limits.tries
         (change (C.seen ctl.old) (C.seen ctl.new) (printed (O.taken out.old) summary.old) (printed (O.taken out.new) summary.new)) result }
 {
     match job {
-        Job::Records(listing) => list(alloc, ctl, limits, &listing, out, summary),
+        Job::Records(listing) => list(alloc, ctl, limits, format, &listing, out, summary),
         Job::Last(entries, wanted, from) => {
-            list_last(alloc, ctl, limits, entries, wanted, from, out, summary)
+            list_last(
+                alloc, ctl, limits, format, entries, wanted, from, out, summary,
+            )
         }
         Job::LastKept(entries, wanted, from) => {
-            list_kept(alloc, ctl, limits, entries, wanted, from, out, summary)
+            list_kept(
+                alloc, ctl, limits, format, entries, wanted, from, out, summary,
+            )
         }
         Job::Tail(entries, wanted) => {
-            list_tail(alloc, ctl, limits, entries, wanted, out, summary)
+            list_tail(alloc, ctl, limits, format, entries, wanted, out, summary)
         }
-        Job::NameLookup(wording, named) => list_named(
-            alloc, ctl, limits, wording, named, out, summary,
-        ),
-        Job::Info(wording, shelf) => print_info(alloc, ctl, limits, wording, shelf, out, summary),
-        Job::Inventory(wording, id, name) => {
+        Job::NameLookup(named) => list_named(alloc, ctl, limits, format, named, out, summary),
+        Job::Info(shelf) => print_info(alloc, ctl, limits, format, shelf, out, summary),
+        Job::Inventory(detail, id, name) => {
             print_inventory(
                 alloc,
                 ctl,
                 limits,
-                wording,
+                format,
+                detail,
                 id,
                 text_of(&name),
                 out,
                 summary,
             )
         }
-        Job::AllInventories(wording, name) => {
-            print_inventories(alloc, ctl, limits, wording, text_of(&name), out, summary)
+        Job::AllInventories(name) => {
+            print_inventories(alloc, ctl, limits, format, text_of(&name), out, summary)
         }
     }
 }
@@ -246,10 +280,11 @@ pub fn execute<'a, C: Controller, O: Sink>(
 /// Like [`execute`], for a listing in pages. Each page lists at most as many records as its number in `pages`, with a
 /// new cursor that starts where the page before it stopped. After the last of these comes a page without a limit. The
 /// names of sensors are read once, before the first page.
-pub fn execute_pages<'a, C: Controller, O: Sink>(
+pub fn execute_pages<'a, F: Format, C: Controller, O: Sink>(
     alloc: Global,
     ctl: &mut C,
     limits: RequestLimits,
+    format: &F,
     job: Job<'a>,
     out: &mut O,
     summary: &mut Summary,
@@ -260,13 +295,15 @@ pub fn execute_pages<'a, C: Controller, O: Sink>(
     ensures faults { O.faults out.new ≡ O.faults out.old + write_faults result }
     ensures asked { AsksAtMost limits.part (C.seen ctl.old) (C.seen ctl.new) }
     ensures parts { IsHonest (C.seen ctl.old) → RetriesParts limits.tries (IsStateOf C.seen) (C.seen ctl.new) result }
-    ensures runs { RunsPaged job.entry limits.tries pages.now
+    ensures runs { RunsPaged (F.texts format.now) job.entry limits.tries pages.now
         (change (C.seen ctl.old) (C.seen ctl.new) (printed (O.taken out.old) summary.old) (printed (O.taken out.new) summary.new)) result }
 {
     ipmi_bus::laws::the_tail_is_a_walk();
     match job {
-        Job::NameLookup(wording, NameLookup::Events(_, from)) => {
-            list_named_pages(alloc, ctl, limits, wording, from, out, summary, pages)
+        Job::NameLookup(NameLookup::Events(detail, _, from)) => {
+            list_named_pages(
+                alloc, ctl, limits, format, detail, from, out, summary, pages,
+            )
         }
         job => {
             let listing = job.listing().unwrap();
@@ -274,6 +311,7 @@ pub fn execute_pages<'a, C: Controller, O: Sink>(
                 alloc,
                 ctl,
                 limits,
+                format,
                 &listing.form,
                 listing.start,
                 out,

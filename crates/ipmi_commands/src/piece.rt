@@ -1,23 +1,22 @@
 //! The text that a command prints for a record. If the text needs a reading, it is requested here, while the record
 //! is borrowed.
-ghost use Rattle.std.specs.Prelude.{◌≡◌, ◌+◌, ◌≤◌, false, Err, IfErr, IfOk, length, Ok, option_map, string_bytes};
+ghost use Rattle.std.specs.Prelude.{◌≡◌, ◌+◌, ◌≤◌, ℕ, false, Err, IfErr, IfOk, length, List, Ok, option_map, string_bytes, unwrap_or};
 ghost use Rattle.ipmi_commands.specs.Below.{AsksAtMost, row_of_record, IsHonest, IsStateOf, largest_len, whole_len, sdr_view_of};
 ghost use Rattle.ipmi_records.specs.Sdr.{name_of};
 ghost use Rattle.ipmi_commands.specs.declared.job.Form.{Form};
-ghost use Rattle.ipmi_commands.specs.Prelude.{failure_of, RetriesParts, PieceErrorIsTrue, LacksValue, bytes_of, Finds, is_name, is_of_kind, IsBlockIn, IsBlockOfName, IsEntryLine, IsFaultLine, IsLineOf, IsPieceOver, listed_points, most_after, named_points, OfRow, reading_for, reading_points, row_has_fault, row_piece, shelf_of, shown, ShowsRow, points_because_of};
+ghost use Rattle.ipmi_commands.specs.Prelude.{failure_of, RetriesParts, PieceErrorIsTrue, LacksValue, bytes_of, Finds, is_name, is_of_kind, IsBlockOfName, IsPieceOver, listed_points, most_after, named_points, OfRow, reading_for, reading_points, row_has_fault, row_piece, shelf_of, shown, ShowsRow, points_because_of};
 
+use crate::format::{Detail, Format};
 use crate::inventory::locator_piece;
-use crate::job::{Detail, Entries, Form, Wording};
+use crate::job::{EntryText, Form};
 use crate::limits::{RequestLimits, Tries};
 use crate::read_error::ReadError;
 use ipmi_bus::{Controller, Record, SEL_ENTRY_LEN, read_reading};
 use ipmi_command_line::Kind;
-use ipmi_events::{event_line, sensor_block, sensor_line};
-use ipmi_image::{LineBuffer, record_line};
-use ipmi_json::{sdr_raw_line, sdr_record_line, sel_entry_line};
+use ipmi_image::LineBuffer;
 use ipmi_records::{
-    COMPACT_TYPE, CONTROLLER_TYPE, EVENT_ONLY_TYPE, FRU_TYPE, FULL_TYPE, GENERIC_TYPE, SdrFault,
-    SdrView, SelView, sdr_block, sdr_eline, sdr_fault_line, sdr_line, sel_block, sel_line,
+    COMPACT_TYPE, CONTROLLER_TYPE, EVENT_ONLY_TYPE, FRU_TYPE, FULL_TYPE, GENERIC_TYPE, SdrView,
+    SelView,
 };
 use ipmi_text::Reading;
 use std::alloc::{AllocError, Global};
@@ -66,49 +65,12 @@ pub(crate) fn reading_for<C: Controller>(
     }
 }
 
-/// The line of a record with its reading, in this form.
-fn line_of(
-    alloc: Global,
-    detail: Detail<'_>,
-    id: u16,
-    view: &SdrView<'_>,
-    reading: Option<Reading>,
-) -> Result<Vec<u8>, AllocError>
-    ensures { IfOk result (λ text. IsLineOf detail.entry id view.now reading text.items) }
-{
-    match detail {
-        Detail::Short => Ok(sdr_line(alloc, view, reading)?.into_bytes()),
-        Detail::Extended => Ok(sdr_eline(alloc, view, reading)?.into_bytes()),
-        Detail::Descriptive => Ok(sensor_line(alloc, view, reading)?.into_bytes()),
-        Detail::Json(labels) => sdr_record_line(alloc, id, view, reading, labels),
-    }
-}
-
-/// The line of a record's fault, in this form.
-fn fault_line_of(
-    alloc: Global,
-    detail: Detail<'_>,
-    lent: &Record<'_>,
-    fault: SdrFault,
-) -> Result<Vec<u8>, AllocError>
-    ensures { let row = row_of_record lent.now in
-        IfOk result (λ text. IsFaultLine detail.entry row.id fault row.bytes text.items) }
-{
-    match detail {
-        Detail::Short | Detail::Extended | Detail::Descriptive => {
-            Ok(sdr_fault_line(alloc, lent.id, fault)?.into_bytes())
-        }
-        Detail::Json(labels) => {
-            ipmi_json::sdr_fault_line(alloc, lent.id, fault, lent.bytes, labels)
-        }
-    }
-}
-
-/// The line of a record of this kind, or of its fault. Empty for a record of another kind.
-fn listed_line<C: Controller>(
+/// The text of a record of this kind, or of its fault. Empty for a record of another kind.
+fn listed_text<F: Format, C: Controller>(
     alloc: Global,
     ctl: &mut C,
-    detail: Detail<'_>,
+    format: &F,
+    detail: Detail,
     kind: Kind,
     tries: Tries,
     lent: &Record<'_>,
@@ -118,7 +80,7 @@ fn listed_line<C: Controller>(
     ensures asked { AsksAtMost 0 (C.seen ctl.old) (C.seen ctl.new) }
     ensures says { IfErr result (λ unread. LacksValue unread (C.seen ctl.new)) }
     ensures honest { let row = row_of_record lent.now in IsHonest (C.seen ctl.old) →
-        Finds (λ store piece. IsPieceOver store (OfRow (Form.Line detail.entry kind) row) (shown piece))
+        Finds (λ store piece. IsPieceOver (F.texts format.now) store (OfRow (Form.Record detail kind) row) (shown piece))
         (listed_points kind row) tries (C.seen ctl.old) (C.seen ctl.new) result }
 {
     if !is_of_kind(kind, lent.bytes[3]) {
@@ -127,7 +89,7 @@ fn listed_line<C: Controller>(
     let view = match SdrView::read(lent.bytes) {
         Ok(view) => view,
         Err(fault) => {
-            let text = fault_line_of(alloc, detail, lent, fault)?;
+            let text = format.fault(alloc, lent.id, fault, lent.bytes)?;
             return Ok(Piece {
                 text,
                 has_fault: true,
@@ -135,7 +97,8 @@ fn listed_line<C: Controller>(
         }
     };
     let reading = reading_for(ctl, lent.id, &view, tries)?;
-    Ok(Piece::sound(line_of(alloc, detail, lent.id, &view, reading)?))
+    let text = format.record(alloc, detail, lent.id, &view, reading)?;
+    Ok(Piece::sound(text))
 }
 
 /// Whether a record with the printed name `own` has this name.
@@ -148,45 +111,12 @@ pub(crate) fn is_name(name: &str, own: &Option<String>) -> bool
     }
 }
 
-/// The block of a record with its reading, in this wording.
-pub(crate) fn block_of(
-    alloc: Global,
-    wording: Wording<'_>,
-    id: u16,
-    view: &SdrView<'_>,
-    reading: Option<Reading>,
-) -> Result<Vec<u8>, AllocError>
-    ensures { IfOk result (λ text. IsBlockIn wording.entry id view.now reading text.items) }
-{
-    match wording {
-        Wording::Plain => Ok(sdr_block(alloc, id, view, reading)?.into_bytes()),
-        Wording::Descriptive => Ok(sensor_block(alloc, id, view, reading)?.into_bytes()),
-        Wording::Json(labels) => sdr_record_line(alloc, id, view, reading, labels),
-    }
-}
-
-/// The line of an entry.
-pub(crate) fn entry_line(
-    alloc: Global,
-    entries: &Entries<'_>,
-    id: u16,
-    entry: &SelView<'_>,
-) -> Result<Vec<u8>, AllocError>
-    ensures { IfOk result (λ text. IsEntryLine entries.now id entry.now text.items) }
-{
-    match entries {
-        Entries::Plain => Ok(sel_line(alloc, id, entry)?.into_bytes()),
-        Entries::Descriptive(sensors) => Ok(event_line(alloc, id, entry, sensors)?.into_bytes()),
-        Entries::Json(sensors, labels) => sel_entry_line(alloc, id, entry, Some(sensors), labels),
-    }
-}
-
 /// The block of a record with this name. Empty for a record without it, or with a fault.
 #[tactic(auto, using(crate::proofs::AskLemmas::no_memory, crate::proofs::AskLemmas::then_no_memory))]
-fn named_block<C: Controller>(
+fn named_block<F: Format, C: Controller>(
     alloc: Global,
     ctl: &mut C,
-    wording: Wording<'_>,
+    format: &F,
     name: &str,
     tries: Tries,
     lent: &Record<'_>,
@@ -195,7 +125,7 @@ fn named_block<C: Controller>(
     ensures asked { AsksAtMost 0 (C.seen ctl.old) (C.seen ctl.new) }
     ensures says { IfErr result (λ unread. LacksValue unread (C.seen ctl.new)) }
     ensures honest { let row = row_of_record lent.now in IsHonest (C.seen ctl.old) →
-        Finds (λ store text. IsBlockOfName wording.entry name.now store row.id (sdr_view_of row.bytes)
+        Finds (λ store text. IsBlockOfName (F.texts format.now) name.now store row.id (sdr_view_of row.bytes)
         text.items) (named_points name.now row.id (sdr_view_of row.bytes)) tries (C.seen ctl.old)
         (C.seen ctl.new) result }
 {
@@ -208,7 +138,20 @@ fn named_block<C: Controller>(
     }
     let id = lent.id;
     let reading = reading_for(ctl, id, &view, tries)?;
-    Ok(block_of(alloc, wording, id, &view, reading)?)
+    Ok(format.record(alloc, Detail::Block, id, &view, reading)?)
+}
+
+/// The text of an entry of the event log.
+pub(crate) fn entry_text<F: Format>(
+    alloc: Global,
+    format: &F,
+    entries: &EntryText,
+    id: u16,
+    entry: &SelView<'_>,
+) -> Result<Vec<u8>, AllocError>
+    ensures { IfOk result (λ text. (F.texts format.now).IsEntry entries.now.detail id entry.now entries.now.sensors text.items) }
+{
+    format.entry(alloc, entries.detail, id, entry, entries.sensors.as_ref())
 }
 
 /// The text of an item, and whether the item has a fault.
@@ -241,6 +184,17 @@ pub(crate) enum RowText {
 }
 
 impl RowText {
+    /// This text, which has no fault, or the contents of the line buffer.
+    fn of(own: Option<Vec<u8>>) -> RowText
+        ensures text { (line : List ℕ) → bytes_of line result ≡ unwrap_or (option_map (λ text. text.items) own) line }
+        ensures sound { row_has_fault result ≡ false }
+    {
+        match own {
+            Some(text) => RowText::Own(Piece::sound(text)),
+            None => RowText::Line,
+        }
+    }
+
     /// The bytes of the text. `line` is the line buffer.
     pub(crate) fn bytes<'a>(&'a self, line: &'a LineBuffer) -> &'a [u8]
         ensures { result.now ≡ bytes_of line.now.items self.now }
@@ -272,10 +226,11 @@ fn copy_bytes(lent: &Record<'_>, line: &mut LineBuffer)
 }
 
 /// The text of the record in this form. Empty for a record that is left out. A `RowText::Line` is written to `line`.
-pub(crate) fn row_text<C: Controller>(
+pub(crate) fn row_text<F: Format, C: Controller>(
     alloc: Global,
     ctl: &mut C,
     limits: RequestLimits,
+    format: &F,
     form: &Form<'_>,
     lent: &Record<'_>,
     line: &mut LineBuffer,
@@ -288,47 +243,34 @@ pub(crate) fn row_text<C: Controller>(
     ensures says { IfErr result (λ unread. PieceErrorIsTrue form.now unread (C.seen ctl.new)) }
     ensures parts { IsHonest (C.seen ctl.old) → IfErr result (λ unread.
         RetriesParts limits.tries (IsStateOf C.seen) (C.seen ctl.new) (Err (failure_of unread))) }
-    ensures shows { IfOk result (λ text. ShowsRow form.now (row_of_record lent.now) (C.seen ctl.new)
+    ensures shows { IfOk result (λ text. ShowsRow (F.texts format.now) form.now (row_of_record lent.now) (C.seen ctl.new)
         (row_piece line.new.items text)) }
     ensures honest { let row = row_of_record lent.now in IsHonest (C.seen ctl.old) →
-        Finds (λ store text. IsPieceOver store (OfRow form.now row) (row_piece line.new.items text))
+        Finds (λ store text. IsPieceOver (F.texts format.now) store (OfRow form.now row) (row_piece line.new.items text))
         (points_because_of form.now row) limits.tries (C.seen ctl.old) (C.seen ctl.new) result }
 {
     let tries = limits.tries();
     match form {
-        Form::Raw => {
-            record_line(lent, line);
-            Ok(RowText::Line)
-        }
-        Form::RawObject(labels) => {
-            let (id, next) = (lent.id, lent.next);
-            let object = sdr_raw_line(alloc, id, next, lent.bytes, labels)?;
-            Ok(RowText::Own(Piece::sound(object)))
-        }
+        Form::Hex => Ok(RowText::of(format.hex(alloc, lent, line)?)),
         Form::Bytes => {
             copy_bytes(lent, line);
             Ok(RowText::Line)
         }
-        Form::Line(detail, kind) => {
-            Ok(RowText::Own(listed_line(alloc, ctl, *detail, *kind, tries, lent)?))
+        Form::Record(detail, kind) => {
+            Ok(RowText::Own(listed_text(alloc, ctl, format, *detail, *kind, tries, lent)?))
         }
-        Form::Block(wording, name) => {
-            let block = named_block(alloc, ctl, *wording, name.as_str(), tries, lent)?;
+        Form::Block(name) => {
+            let block = named_block(alloc, ctl, format, name.as_str(), tries, lent)?;
             Ok(RowText::Own(Piece::sound(block)))
         }
-        Form::Device(wording) => {
-            let device = locator_piece(alloc, ctl, limits, *wording, lent.bytes)?;
+        Form::Device => {
+            let device = locator_piece(alloc, ctl, limits, format, lent.bytes)?;
             Ok(RowText::Own(device))
         }
-        Form::EntryLine(entries) => {
+        Form::Entry(entries) => {
             let entry = SelView::read(entry_bytes(lent.bytes));
-            let line = entry_line(alloc, entries, lent.id, &entry)?;
-            Ok(RowText::Own(Piece::sound(line)))
-        }
-        Form::EntryBlock => {
-            let entry = SelView::read(entry_bytes(lent.bytes));
-            let block = sel_block(alloc, lent.id, &entry)?;
-            Ok(RowText::Own(Piece::sound(block.into_bytes())))
+            let text = entry_text(alloc, format, entries, lent.id, &entry)?;
+            Ok(RowText::Own(Piece::sound(text)))
         }
         Form::Skipped => Ok(RowText::Own(Piece::sound(Vec::new(alloc)))),
     }

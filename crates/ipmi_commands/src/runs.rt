@@ -1,11 +1,12 @@
 //! Runs a command over a controller or over a saved image, and reports how it ended.
 ghost use Rattle.std.specs.Prelude.{◌≡◌, ◌+◌, ◌==◌, if◌then◌else◌, Some, true};
 ghost use Rattle.ipmi_commands.specs.Below.{AsksAtMost, is_listing, store_of_image, of_writer, write_faults};
-ghost use Rattle.ipmi_commands.specs.Prelude.{AnswersCommand, AnswersLine, change, for_inventory, IsJob, IsRewriting, IsSaving, job_of_command, OnBytes, printed, RunsCommand, RunsOver, RunsPagedCommand, Says};
+ghost use Rattle.ipmi_commands.specs.Prelude.{AnswersCommand, AnswersLine, change, for_inventory, IsJob, IsRewriting, IsSaving, job_of_command, OnBytes, plain_texts, printed, RunsCommand, RunsOver, RunsPagedCommand, Says};
 
-use crate::job::{Job, Wording};
+use crate::job::Job;
 use crate::limits::RequestLimits;
 use crate::perform::{execute, execute_pages, write_piece};
+use crate::plain::Plain;
 use crate::summary::Summary;
 use ipmi_bus::Controller;
 use ipmi_command_line::{Command, UsageFault};
@@ -39,13 +40,14 @@ fn execute_command<'a, C: Controller, O: Sink>(
     ensures faults { O.faults out.new ≡ O.faults out.old + write_faults result }
     ensures asked { AsksAtMost cmd.now.part (C.seen ctl.old) (C.seen ctl.new) }
     ensures runs { OnBytes (O.taken out.old) (O.taken out.new) (λ old new.
-        RunsCommand (job_of_command cmd.now) (for_inventory cmd.now.tries) (change (C.seen ctl.old) (C.seen ctl.new) old new) result) }
+        RunsCommand plain_texts (job_of_command cmd.now) (for_inventory cmd.now.tries) (change (C.seen ctl.old) (C.seen ctl.new) old new) result) }
 {
-    match Job::of(cmd.task(), cmd.from(), Wording::Plain) {
+    match Job::of(&Plain, cmd.task(), cmd.from()) {
         Some(job) => execute(
             alloc,
             ctl,
             RequestLimits::of(cmd),
+            &Plain,
             job,
             out,
             &mut Summary::new(),
@@ -58,7 +60,7 @@ fn execute_command<'a, C: Controller, O: Sink>(
 /// everything was printed, 1 if the message says what is missing or why the run stopped, 2 for `image rewrite`, which
 /// only `answer` can do, 4 for a write fault, 5 if out of memory. About the message, the contract says no more than
 /// `err` shows of its contents: a writer that shows none may have received nothing. [`execute`] returns the failure
-/// instead of writing it, prints in any wording, and tells what was printed.
+/// instead of writing it, prints in any form, and tells what was printed.
 pub fn run<C: Controller, O: Sink, E: Write>(
     alloc: Global,
     ctl: &mut C,
@@ -70,7 +72,7 @@ pub fn run<C: Controller, O: Sink, E: Write>(
     ensures asked { AsksAtMost cmd.now.part (C.seen ctl.old) (C.seen ctl.new) }
     ensures runs { Says (of_writer (E.contents err.old)) (of_writer (E.contents err.new)) result
         (λ ending. OnBytes (O.taken out.old) (O.taken out.new) (λ old new.
-        RunsCommand (job_of_command cmd.now) (for_inventory cmd.now.tries) (change (C.seen ctl.old) (C.seen ctl.new) old new) ending)) }
+        RunsCommand plain_texts (job_of_command cmd.now) (for_inventory cmd.now.tries) (change (C.seen ctl.old) (C.seen ctl.new) old new) ending)) }
 {
     report(execute_command(alloc, ctl, cmd, out), err)
 }
@@ -87,12 +89,21 @@ fn execute_listing<'a, C: Controller, O: Sink>(
     ensures faults { O.faults out.new ≡ O.faults out.old + write_faults result }
     ensures asked { AsksAtMost cmd.now.part (C.seen ctl.old) (C.seen ctl.new) }
     ensures runs { OnBytes (O.taken out.old) (O.taken out.new) (λ old new.
-        RunsPagedCommand (job_of_command cmd.now) (for_inventory cmd.now.tries) pages.now
+        RunsPagedCommand plain_texts (job_of_command cmd.now) (for_inventory cmd.now.tries) pages.now
         (change (C.seen ctl.old) (C.seen ctl.new) old new) result) }
 {
-    let job = Job::of(cmd.task(), cmd.from(), Wording::Plain).unwrap();
+    let job = Job::of(&Plain, cmd.task(), cmd.from()).unwrap();
     let limits = RequestLimits::of(cmd);
-    execute_pages(alloc, ctl, limits, job, out, &mut Summary::new(), pages)
+    execute_pages(
+        alloc,
+        ctl,
+        limits,
+        &Plain,
+        job,
+        out,
+        &mut Summary::new(),
+        pages,
+    )
 }
 
 /// Like [`run`], for a listing in pages ([`execute_pages`]).
@@ -109,7 +120,7 @@ pub fn run_pages<C: Controller, O: Sink, E: MessageSink>(
     ensures asked { AsksAtMost cmd.now.part (C.seen ctl.old) (C.seen ctl.new) }
     ensures runs { Says (E.received err.old) (E.received err.new) result
         (λ ending. OnBytes (O.taken out.old) (O.taken out.new) (λ old new.
-        RunsPagedCommand (job_of_command cmd.now) (for_inventory cmd.now.tries) pages.now (change (C.seen ctl.old) (C.seen ctl.new) old new) ending)) }
+        RunsPagedCommand plain_texts (job_of_command cmd.now) (for_inventory cmd.now.tries) pages.now (change (C.seen ctl.old) (C.seen ctl.new) old new) ending)) }
 {
     report(execute_listing(alloc, ctl, cmd, out, pages), err)
 }
@@ -127,7 +138,7 @@ pub fn execute_image<'a, O: Sink>(
 {
     let image = Image::read(alloc, image)?;
     let mut summary = Summary::new();
-    match Job::of(cmd.task(), cmd.from(), Wording::Plain) {
+    match Job::of(&Plain, cmd.task(), cmd.from()) {
         Some(job) => execute_over(alloc, image, RequestLimits::of(cmd), job, out, &mut summary),
         None => {
             let ended = write_image(alloc, &image, out, &mut summary);
@@ -148,11 +159,11 @@ fn execute_over<'a, O: Sink>(
 ) -> Result<(), Failure<'a>>
     requires { IsJob job }
     ensures faults { O.faults out.new ≡ O.faults out.old + write_faults result }
-    ensures runs { RunsOver (Some job.entry) image (printed (O.taken out.old) summary.old)
+    ensures runs { RunsOver plain_texts (Some job.entry) image (printed (O.taken out.old) summary.old)
         (printed (O.taken out.new) summary.new) result }
 {
     let mut ctl = ImageController::new(image);
-    let ended = execute(alloc, &mut ctl, limits, job, out, summary);
+    let ended = execute(alloc, &mut ctl, limits, &Plain, job, out, summary);
     drop(ctl);
     ended
 }

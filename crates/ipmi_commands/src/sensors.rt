@@ -7,11 +7,12 @@ ghost use Rattle.ipmi_commands.specs.Below.{AsksAtMost, End, IsHonest, row_of_re
 ghost use Rattle.ipmi_commands.specs.Prelude.{Finds, IsFrom, is_name, LacksValue, most_on_walk, printed};
 ghost use Rattle.ipmi_commands.specs.Sensors.{AddsNamed, EndsSearch, Found, found_of, found_points, IsBlockOfFound, PrintsFound, SearchCalls, Searches, SearchesBy, with_readings};
 
-use crate::job::{Form, Wording};
+use crate::format::{Detail, Format};
+use crate::job::Form;
 use crate::limits::{RequestLimits, Tries};
 use crate::pages::start_cursor;
 use crate::perform::write_piece;
-use crate::piece::{block_of, is_name, reading_for};
+use crate::piece::{is_name, reading_for};
 use crate::read_error::ReadError;
 use crate::summary::Summary;
 use ipmi_bus::{Controller, Cursor, Record};
@@ -180,14 +181,14 @@ pub fn find_sensors<'a, C: Controller>(
     find_after(alloc, &mut cursor, ctl, limits.tries(), names, found)
 }
 
-/// The block of a found sensor with this name, in this wording. Empty for any other.
-fn found_block(
+/// The block of a found sensor with this name. Empty for any other.
+fn found_block<F: Format>(
     alloc: Global,
-    wording: Wording<'_>,
+    format: &F,
     name: &str,
     found: &FoundSensor,
 ) -> Result<Vec<u8>, AllocError>
-    ensures { IfOk result (λ text. IsBlockOfFound wording.entry name.now found.now
+    ensures { IfOk result (λ text. IsBlockOfFound (F.texts format.now) name.now found.now
         (sdr_view_of found.now.bytes) text.items) }
 {
     let Ok(view) = SdrView::read(&found.bytes) else {
@@ -197,25 +198,25 @@ fn found_block(
     if !is_name(name, &own) {
         return Ok(Vec::new(alloc));
     }
-    block_of(alloc, wording, found.id, &view, found.reading)
+    format.record(alloc, Detail::Block, found.id, &view, found.reading)
 }
 
-/// Prints the block of each found sensor with this name, in this wording, and counts it. Prints nothing if there is
+/// Prints the block of each found sensor with this name, and counts it. Prints nothing if there is
 /// none.
-pub fn print_sensors<'a, O: Sink>(
+pub fn print_sensors<'a, F: Format, O: Sink>(
     alloc: Global,
     found: &FoundSensors,
     name: &str,
-    wording: Wording<'_>,
+    format: &F,
     out: &mut O,
     summary: &mut Summary,
 ) -> Result<(), Failure<'a>>
     ensures faults { O.faults out.new ≡ O.faults out.old + write_faults result }
-    ensures prints { PrintsFound wording.entry name.now found.now (printed (O.taken out.old) summary.old)
+    ensures prints { PrintsFound (F.texts format.now) name.now found.now (printed (O.taken out.old) summary.old)
         (printed (O.taken out.new) summary.new) result }
 {
     'sensors: for sensor in &found.sensors {
-        let block = match found_block(alloc, wording, name, sensor) {
+        let block = match found_block(alloc, format, name, sensor) {
             Ok(block) => block,
             Err(_) => return Err(Failure::OutOfMemory),
         };

@@ -4,7 +4,8 @@ ghost use Rattle.ipmi_commands.specs.Below.{AsksAtMost, info_of, IsHonest, Sel, 
 ghost use Rattle.ipmi_commands.specs.declared.job.Job.{Job};
 ghost use Rattle.ipmi_commands.specs.Prelude.{AtRecord, change, Finds, id_in_run, IsFrom, is_tail, LacksValue, printed, Runs, tail_from};
 
-use crate::job::Entries;
+use crate::format::Format;
+use crate::job::EntryText;
 use crate::kept::{LastEntries, keep_entries, list_kept, print_entries};
 use crate::limits::{RequestLimits, Tries};
 use crate::read_error::ReadError;
@@ -67,11 +68,12 @@ fn is_tail<'a>(
 
 /// Lists the last `wanted` entries. They are printed when the walk is over that has them: the walk from the id that the
 /// info of the event log suggests, or else the walk from the first entry.
-pub(crate) fn list_tail<'a, C: Controller, O: Sink>(
+pub(crate) fn list_tail<'a, F: Format, C: Controller, O: Sink>(
     alloc: Global,
     ctl: &mut C,
     limits: RequestLimits,
-    entries: Entries<'a>,
+    format: &F,
+    entries: EntryText,
     wanted: u16,
     out: &mut O,
     summary: &mut Summary,
@@ -79,16 +81,20 @@ pub(crate) fn list_tail<'a, C: Controller, O: Sink>(
     requires { 1 ≤ wanted }
     ensures faults { O.faults out.new ≡ O.faults out.old + write_faults result }
     ensures asked { AsksAtMost limits.part (C.seen ctl.old) (C.seen ctl.new) }
-    ensures runs { Runs (Job.Tail entries.entry wanted) limits.tries
+    ensures runs { Runs (F.texts format.now) (Job.Tail entries wanted) limits.tries
         (change (C.seen ctl.old) (C.seen ctl.new) (printed (O.taken out.old) summary.old) (printed (O.taken out.new) summary.new)) result }
 {
     let Some(id) = tail_from(ctl, wanted, limits.tries())? else {
-        return list_kept(alloc, ctl, limits, entries, wanted, None, out, summary);
+        return list_kept(
+            alloc, ctl, limits, format, entries, wanted, None, out, summary,
+        );
     };
     let mut kept = LastEntries::new(alloc, wanted);
-    let walked = keep_entries(alloc, ctl, limits, Some(id), &mut kept);
+    let walked = keep_entries(alloc, ctl, limits, format, Some(id), &mut kept);
     if is_tail(wanted, &kept, walked)? {
-        return print_entries(alloc, &mut kept, &entries, out, summary);
+        return print_entries(alloc, format, &mut kept, &entries, out, summary);
     }
-    list_kept(alloc, ctl, limits, entries, wanted, None, out, summary)
+    list_kept(
+        alloc, ctl, limits, format, entries, wanted, None, out, summary,
+    )
 }

@@ -1,7 +1,7 @@
 //! Worked lines of JSON. They were put together by hand.
-mod entries;
-mod infos;
-mod inventories;
+pub(crate) mod entries;
+pub(crate) mod infos;
+pub(crate) mod inventories;
 mod keys;
 mod memory;
-mod records;
+pub(crate) mod records;

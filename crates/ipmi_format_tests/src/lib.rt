@@ -1,4 +1,4 @@
-//! Worked examples of the formats: ipmi_text, ipmi_fru, ipmi_records, ipmi_events, ipmi_json and ipmi_image. The texts and
+//! Worked examples of the formats: ipmi_text, ipmi_fru, ipmi_records, ipmi_events, ipmi_json, ipmi_csv and ipmi_image. The texts and
 //! values were put together by hand, or by another program.
 //!
 //! Controllers and images are dropped by a call of `drop`: then their parts are dropped in one proof, not in each body.
@@ -6,6 +6,8 @@
 
 #[cfg(test)]
 mod cases;
+#[cfg(test)]
+mod csv;
 #[cfg(test)]
 mod events;
 #[cfg(test)]

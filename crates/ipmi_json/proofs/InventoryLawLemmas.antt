@@ -1,5 +1,5 @@
--- A device has at most one line, and it is not empty.
-use Rattle.std.proofs.Common.{◌≡◌, ◌∙◌, ◌<◌, ◌+◌, ◌++◌, ◌/◌, ◌%◌, ℕ, Option, None, Some, Result, Ok, Err, List, [], ◌∷◌, arith, codes, inl, inr, length, subst, sym}
+-- A device has at most one list of members and at most one line.
+use Rattle.std.proofs.Common.{◌≡◌, ◌∙◌, ◌<◌, ◌+◌, ◌++◌, ◌/◌, ◌%◌, ℕ, Option, None, Some, Result, Ok, Err, List, [], ◌∷◌, arith, codes, inl, inr, subst, sym}
 use Rattle.std.proofs.lemmas.Bool.{cases_lt}
 use Rattle.json.specs.Json.{Json}
 use Rattle.ipmi_text.specs.Laws.{DecimalIsUnique, MinutesTextIsUnique}
@@ -14,14 +14,13 @@ use Rattle.ipmi_fru.specs.declared.record_text.DcKind.{DcKind}
 use Rattle.ipmi_fru.specs.declared.record_text.RecordForm.{RecordForm}
 use Rattle.ipmi_fru.proofs.TextLemmas.{one_found}
 use Rattle.ipmi_fru.proofs.UniqueLemmas.{one_list_of_records}
-use Rattle.ipmi_json.specs.declared.object.Label.{Label}
 use Rattle.ipmi_json.specs.Areas.{AreAreaMembers, AreLeadMembers, IsAreaObject, IsAreaValue}
-use Rattle.ipmi_json.specs.Fru.{AreContentMembers, AreFoundMembers, IsLineByFault}
-use Rattle.ipmi_json.specs.Laws.{DeviceLineIsUnique, NoDeviceLineIsEmpty}
+use Rattle.ipmi_json.specs.Fru.{AreContentMembers, AreFoundMembers, AreFruMembers, AreMembersByFault}
+use Rattle.ipmi_json.specs.Laws.{DeviceLineIsUnique, DeviceMembersAreUnique}
 use Rattle.ipmi_json.specs.Multirecords.{AreFormMembers, AreObjects, AreRangeMembers, AreRecordMembers, IsRecordObject, records_among}
 use Rattle.ipmi_json.specs.Object.{Pair}
 use Rattle.ipmi_json.specs.Time.{IsIsoMinuteOf, IsIsoMoment}
-use Rattle.ipmi_json.proofs.LineLawLemmas.{one_if_iso, one_line, one_moment, some_line}
+use Rattle.ipmi_json.proofs.LineLawLemmas.{one_if_iso, one_moment, one_of_some}
 
 module _ (one : DecimalIsUnique) (one_minutes_text : MinutesTextIsUnique) where
   -- ---- areas
@@ -121,25 +120,16 @@ module _ (one : DecimalIsUnique) (one_minutes_text : MinutesTextIsUnique) where
       let records = one_record_part k.items h.records k.records moved k.are_records in
       h.are ∙ rw (chassis, board, product, records) (sym k.are)
 
-  one_by_fault : (fault : Option FruFault) (id : ℕ) (name : Option (List ℕ)) (bytes : List ℕ)
-      (labels : List Label) (text other : List ℕ) → IsLineByFault fault id name bytes labels text
-      → IsLineByFault fault id name bytes labels other → text ≡ other
-  one_by_fault (Some fault) id name bytes labels text other h k = one_line _ text other h k
-  one_by_fault None id name bytes labels text other h k =
-      one_line _ text other (rw (one_content bytes h.content k.content h.are_content k.are_content) at h.is_line) k.is_line
+  one_by_fault : (fault : Option FruFault) (id : ℕ) (name : Option (List ℕ)) (bytes : List ℕ) (ms more : List Pair)
+      → AreMembersByFault fault id name bytes ms → AreMembersByFault fault id name bytes more → ms ≡ more
+  one_by_fault (Some fault) id name bytes ms more h k = h ∙ sym k
+  one_by_fault None id name bytes ms more h k =
+      h.are ∙ rw (one_content bytes h.content k.content h.are_content k.are_content) (sym k.are)
+
+  pub one_inventory : DeviceMembersAreUnique
+  one_inventory id name None ms more h k = h ∙ sym k
+  one_inventory id name (Some bytes) ms more h k = one_by_fault (header_fault bytes) id name bytes ms more h k
 
   pub one_device : DeviceLineIsUnique
-  one_device id name None labels text other h k = one_line _ text other h k
-  one_device id name (Some bytes) labels text other h k = one_by_fault (header_fault bytes) id name bytes labels text other h k
-
--- ---- no line is empty
-
-some_by_fault : (fault : Option FruFault) (id : ℕ) (name : Option (List ℕ)) (bytes : List ℕ)
-    (labels : List Label) (text : List ℕ) → IsLineByFault fault id name bytes labels text
-    → 0 < length text
-some_by_fault None id name bytes labels text h = some_line _ text h.is_line
-some_by_fault (Some fault) id name bytes labels text h = some_line _ text h
-
-pub some_device : NoDeviceLineIsEmpty
-some_device id name None labels text h = some_line _ text h
-some_device id name (Some bytes) labels text h = some_by_fault (header_fault bytes) id name bytes labels text h
+  one_device id name inventory labels text other =
+      one_of_some (AreFruMembers id name inventory) labels text other (one_inventory id name inventory)

@@ -1,10 +1,10 @@
 pub mod AreaLemmas
 pub mod DigitLemmas
-pub mod FruLemmas
 pub mod InventoryLawLemmas
 pub mod KeyLemmas
 pub mod LineFeedLemmas
 pub mod LineLawLemmas
+pub mod MemberLemmas
 pub mod MultirecordLemmas
 pub mod NumberLemmas
 pub mod ObjectLemmas

@@ -1,4 +1,4 @@
--- A record, an entry and an info have at most one line, and no line is empty.
+-- A record, an entry and an info have at most one list of members and at most one line, and no line is empty.
 use Rattle.std.proofs.Common.{◌≡◌, ◌∙◌, ◌≤◌, ◌<◌, ◌++◌, ◌/◌, ◌%◌, ℕ, ℤ, Option, None, Some, List, ap, arith, codes, inl, inr, length, slice_index, sym}
 use Rattle.std.proofs.lemmas.Bool.{cases_lt}
 use Rattle.std.proofs.lemmas.Grind.{common_steps}
@@ -14,10 +14,12 @@ use Rattle.ipmi_events.specs.Laws.{DetailsAreUnique}
 use Rattle.ipmi_records.specs.Prelude.{entry_bytes, number_at, time_stamp}
 use Rattle.ipmi_records.specs.declared.sdr.SdrView.{SdrView}
 use Rattle.ipmi_records.specs.declared.sel.SelView.{SelView}
-use Rattle.ipmi_json.specs.Laws.{EntryLineIsUnique, InfoLineIsUnique, NoObjectLineIsEmpty, ObjectLineIsUnique, RecordLineIsUnique}
-use Rattle.ipmi_json.specs.Object.{IsDecimalOrNull, IsLineOfJson, Pair}
-use Rattle.ipmi_json.specs.Sdr.{AreCompactMembers, AreFullMembers, AreThresholdMembers, AreTold, AreValueMembers}
-use Rattle.ipmi_json.specs.Sel.{AreEventMembers, AreTimedMembers, sensor_record}
+use Rattle.ipmi_json.specs.declared.object.Label.{Label}
+use Rattle.ipmi_json.specs.Info.{AreInfoMembers}
+use Rattle.ipmi_json.specs.Laws.{EntryLineIsUnique, EntryMembersAreUnique, InfoLineIsUnique, InfoMembersAreUnique, NoObjectLineIsEmpty, ObjectLineIsUnique, RecordLineIsUnique, RecordMembersAreUnique}
+use Rattle.ipmi_json.specs.Object.{IsDecimalOrNull, IsLineOfJson, IsLineOfSome, Pair}
+use Rattle.ipmi_json.specs.Sdr.{AreCompactMembers, AreFullMembers, AreRecordMembers, AreThresholdMembers, AreTold, AreValueMembers}
+use Rattle.ipmi_json.specs.Sel.{AreEntryMembers, AreEventMembers, AreTimedMembers, sensor_record}
 use Rattle.ipmi_json.specs.Sel as sel
 use Rattle.ipmi_json.specs.Time.{IfIso, IsIsoMoment, IsIsoTimeOf}
 
@@ -32,6 +34,13 @@ some_line j text h = grind (arith, h.line_is, common_steps)
 
 pub one_object : ObjectLineIsUnique
 one_object ms labels text other h k = one_line _ text other h k
+
+-- an object has at most one line if it has at most one list of members
+pub one_of_some : (Are : List Pair → Type 0) (labels : List Label) (text other : List ℕ)
+    → ((ms more : List Pair) → Are ms → Are more → ms ≡ more)
+    → IsLineOfSome Are labels text → IsLineOfSome Are labels other → text ≡ other
+one_of_some Are labels text other one h k =
+    one_line _ text other (rw (one h.ms k.ms h.are k.are) at h.is_line) k.is_line
 
 pub some_object : NoObjectLineIsEmpty
 some_object ms labels text h = some_line _ text h
@@ -110,18 +119,26 @@ module _ (one_utc_text : UtcTextIsUnique) where
   one_of_entry one_text (SelView.OemPlain bytes) records ms more are h k = h ∙ sym k
   one_of_entry one_text (SelView.Other bytes) records ms more are h k = h ∙ sym k
 
+  pub one_entry_told : DetailsAreUnique → EntryMembersAreUnique
+  one_entry_told one_text id view records are ms more h k =
+      h.are ∙ rw (one_of_entry one_text view records h.told k.told are h.are_told k.are_told) (sym k.are)
+
   pub one_entry : DetailsAreUnique → EntryLineIsUnique
-  one_entry one_text id view records labels text other are h k =
-      one_line _ text other (rw (one_of_entry one_text view records h.told k.told are h.are_told k.are_told) at h.is_line) k.is_line
+  one_entry one_text id view records labels text other are =
+      one_of_some (AreEntryMembers id view records) labels text other (one_entry_told one_text id view records are)
 
   -- ---- infos
 
-  pub one_info : InfoLineIsUnique
-  one_info name bytes labels text other are h k =
+  pub one_info_told : InfoMembersAreUnique
+  one_info_told name bytes are ms more h k =
       let byte = slice_index-lt bytes are in
       let addition = one_time (number_at 6 4 bytes) h.addition k.addition (omega (arith, byte 5, byte 6, byte 7, byte 8)) h.is_addition k.is_addition in
       let erase = one_time (number_at 10 4 bytes) h.erase k.erase (omega (arith, byte 9, byte 10, byte 11, byte 12)) h.is_erase k.is_erase in
-      one_line _ text other (rw (addition, erase) at h.is_line) k.is_line
+      h.are ∙ rw (addition, erase) (sym k.are)
+
+  pub one_info : InfoLineIsUnique
+  one_info name bytes labels text other are =
+      one_of_some (AreInfoMembers name bytes) labels text other (one_info_told name bytes are)
 
 -- ---- records
 
@@ -164,6 +181,10 @@ module _ (one : DecimalIsUnique) where
   one_told (SdrView.Controller bytes) reading ms more h k = h ∙ sym k
   one_told (SdrView.Other bytes) reading ms more h k = h ∙ sym k
 
+  pub one_record_told : RecordMembersAreUnique
+  one_record_told id view reading ms more h k =
+      h.are ∙ rw (one_told view reading h.told k.told h.are_told k.are_told) (sym k.are)
+
   pub one_record : RecordLineIsUnique
-  one_record id view reading labels text other h k =
-      one_line _ text other (rw (one_told view reading h.told k.told h.are_told k.are_told) at h.is_line) k.is_line
+  one_record id view reading labels text other =
+      one_of_some (AreRecordMembers id view reading) labels text other (one_record_told id view reading)

@@ -1,17 +1,18 @@
 -- The tokens that the code writes for members, and the object of these tokens.
-use Rattle.std.proofs.Common.{◌≡◌, ◌≤◌, ◌+◌, ℕ, ℤ, Option, None, Some, List, [], ◌∷◌, ◌++◌, refl, sym, ap, ◌∙◌, append_assoc, append-nil, option_and_then, arith, map, rules, string_bytes}
-use Rattle.std.specs.Borrow.{Bor}
+use Rattle.std.proofs.Common.{◌≡◌, ◌≤◌, ℕ, Some, List, [], ◌∷◌, ◌++◌, refl, sym, ap, ◌∙◌, append_assoc, append-nil, option_and_then, arith, flat_map, map, rules, string_bytes}
 use Rattle.std.specs.Str.{IsUtf8}
+use Rattle.std.proofs.lemmas.Grind.{flat_map-append}
 use Rattle.std.proofs.lemmas.Str.{IsUtf8-append, IsUtf8-from_ascii}
 use Rattle.json.proofs.Printed.Trees.{value-json_tokens}
-use Rattle.json.specs.Json.{Json, document, if_last, max_depth, null, number, string, value}
+use Rattle.json.specs.Json.{Json, document, if_last, max_depth, string, value}
 use Rattle.json.specs.Lex.{tokens}
 use Rattle.json.specs.Print.{print}
-use Rattle.json.specs.Token.{Token, begin_object, end_object, key}
-use Rattle.json.specs.Tree.{depth, items_depth, json_tokens, members_tokens}
+use Rattle.json.specs.Token.{Token, begin_object, end_array, end_object, key}
+use Rattle.json.specs.Tree.{depth, items_depth, items_tokens, json_tokens, members_tokens}
 use Rattle.json.specs.Written.{Written}
-use Rattle.ipmi_text.specs.Decimal.{IsDecimalOf}
-use Rattle.ipmi_json.specs.Object.{Adds, AddsDecimal, AddsValue, AreWithin, IsDecimalOrNull, IsOpen, Pair, json_of, items_in, labels_of, members_in, object_in, pairs_of, tokens_in}
+use Rattle.ipmi_json.specs.Object.{AreWithin, Pair, array_in, json_of, items_in, labels_of, members_in, object_in, tokens_in}
+use Rattle.ipmi_json.specs.Members.{Nesting, Item, Listing, Top, Under}
+use Rattle.ipmi_json.specs.Open.{IsOpen, IsShallow, opened}
 use Rattle.ipmi_json.specs.declared.object.Value.{Value}
 use Rattle.ipmi_json.specs.declared.object.Label.{Label}
 
@@ -25,30 +26,24 @@ depth-json_of : (v : Value) → depth (json_of v) ≤ 1
 depth-json_of Value.Null = omega arith
 depth-json_of (Value.Bool b) = omega arith
 depth-json_of (Value.Integer n) = omega arith
+depth-json_of (Value.Number n) = omega arith
 depth-json_of (Value.Text text) = omega arith
 depth-json_of (Value.Texts list) =
     let flat = depth-texts (map (λ text. string_bytes text) list.now) in
     omega (arith, flat)
 
-pub within_pairs : (ms : List (Bor (List ℕ) × Value)) → AreWithin 1 (pairs_of ms)
-within_pairs [] = search rules
-within_pairs (m ∷ ms) =
-    let one = depth-json_of m.1 in
-    let rest = within_pairs ms in
-    omega (arith, one, rest)
-
-pub within_labels : (labels : List Label) → AreWithin 1 (labels_of labels)
+pub within_labels : (labels : List Label) → AreWithin 3 (labels_of labels)
 within_labels [] = search rules
 within_labels (label ∷ labels) =
     let rest = within_labels labels in
     omega (arith, rest)
 
-within_joined : (one two deep : ℕ) (ms more : List Pair) → AreWithin one ms → AreWithin two more → one ≤ deep
-    → two ≤ deep → AreWithin deep (ms ++ more)
-within_joined one two deep [] more h k first second = omega (arith, k)
-within_joined one two deep (m ∷ ms) more h k first second =
-    let later : AreWithin one ms = omega (arith, h) in
-    let rest = within_joined one two deep ms more later k first second in
+pub within_joined : (deep : ℕ) (ms more : List Pair) → AreWithin deep ms → AreWithin deep more
+    → AreWithin deep (ms ++ more)
+within_joined deep [] more h k = k
+within_joined deep (m ∷ ms) more h k =
+    let later : AreWithin deep ms = omega (arith, h) in
+    let rest = within_joined deep ms more later k in
     omega (arith, h, rest)
 
 -- ---- tokens
@@ -59,74 +54,47 @@ tokens_in-append (m ∷ ms) more =
     ap (λ l. key m.0 ∷ (json_tokens m.1 ++ l)) (tokens_in-append ms more)
     ∙ ap (λ l. key m.0 ∷ l) (sym (append_assoc (json_tokens m.1) (tokens_in ms) (tokens_in more)))
 
-pub opened_more : (deep : ℕ) (ms more : List Pair) (old new : Written) → deep ≤ 3 → IsOpen ms old
-    → Adds deep more old new → IsOpen (ms ++ more) new
-opened_more deep ms more old new shallow begun adds = record {
-  before = adds.before ∙ begun.before;
-  tokens = adds.tokens ∙ rw (begun.tokens, tokens_in-append) refl;
-  within = within_joined 3 deep 3 ms more begun.within adds.within (omega arith) shallow;
+pub more_open : (around : Nesting) (ms more : List Pair) (old new : Written) → AreWithin 3 more → IsOpen around ms old
+    → (new.tokens ≡ old.tokens ++ tokens_in more) × (new.before ≡ old.before) → IsOpen around (ms ++ more) new
+more_open around ms more old new within o added = record {
+  before = added.1 ∙ o.before;
+  tokens = added.0 ∙ rw (o.tokens, tokens_in-append) (append_assoc (opened around) (tokens_in ms) (tokens_in more));
+  within = within_joined 3 ms more o.within within;
+  shallow = o.shallow;
 }
-
-pub adds_both : (deep : ℕ) (ms more : List Pair) (old mid new : Written) → Adds deep ms old mid
-    → Adds deep more mid new → Adds deep (ms ++ more) old new
-adds_both deep ms more old mid new one two = record {
-  before = two.before ∙ one.before;
-  tokens = two.tokens ∙ rw (one.tokens, tokens_in-append) (append_assoc old.tokens (tokens_in ms) (tokens_in more));
-  within = within_joined deep deep deep ms more one.within two.within (omega arith) (omega arith);
-}
-
--- the same, one after another
-pub joined : {deep : ℕ} {ms more : List Pair} {old mid new : Written} → Adds deep ms old mid
-    → Adds deep more mid new → Adds deep (ms ++ more) old new
-joined one two = adds_both _ _ _ _ _ _ one two
 
 -- a key and its value
-pub member_added : (name : List ℕ) (v : Value) (old named new : Written)
+pub member_open : (around : Nesting) (ms : List Pair) (name : List ℕ) (v : Value) (old named new : Written) → IsOpen around ms old
     → (named.tokens ≡ old.tokens ++ key name ∷ []) × (named.before ≡ old.before)
     → (new.tokens ≡ named.tokens ++ json_tokens (json_of v)) × (new.before ≡ named.before)
-    → Adds 1 ((name, json_of v) ∷ []) old new
-member_added name v old named new first second = record {
-  before = second.1 ∙ first.1;
-  tokens = second.0 ∙ rw first.0 (simp (append_assoc, append-nil));
-  within = let one = depth-json_of v in omega (arith, one);
-}
+    → IsOpen around (ms ++ (name, json_of v) ∷ []) new
+member_open around ms name v old named new o first second =
+    more_open around ms ((name, json_of v) ∷ []) old new (let one = depth-json_of v in omega (arith, one)) o
+    (second.0 ∙ rw first.0 (simp (append_assoc, append-nil)), second.1 ∙ first.1)
 
--- a number without a key
-pub digits_added : (value : ℤ) (text : List ℕ) (old new : Written) → IsDecimalOf value text
-    → (new.tokens ≡ old.tokens ++ json_tokens (number text)) × (new.before ≡ old.before)
-    → AddsValue 0 (IsDecimalOrNull (Some value)) old new
-digits_added value text old new is added = record {
-  value = number text;
-  is = (text, (is, refl));
-  before = added.1;
-  tokens = added.0;
-  within = omega arith;
-}
-
--- no number, without a key
-pub no_number_added : (old new : Written)
-    → (new.tokens ≡ old.tokens ++ json_tokens null) × (new.before ≡ old.before)
-    → AddsValue 0 (IsDecimalOrNull None) old new
-no_number_added old new added = record {
-  value = null;
-  is = refl;
-  before = added.1;
-  tokens = added.0;
-  within = omega arith;
-}
-
--- the decimal of a value, or null, after its key
-pub decimal_added : (name : List ℕ) (value : Option ℤ) (old named new : Written)
+-- a key, and the beginning of its object or its list
+pub begun_open : (around next : Nesting) (ms : List Pair) (name : List ℕ) (t : Token) (old named new : Written)
+    → opened next ≡ opened around ++ (tokens_in ms ++ key name ∷ t ∷ [])
+    → (IsShallow around → AreWithin 3 ms → IsShallow next) → IsOpen around ms old
     → (named.tokens ≡ old.tokens ++ key name ∷ []) × (named.before ≡ old.before)
-    → AddsValue 0 (IsDecimalOrNull value) named new → AddsDecimal name value old new
-decimal_added name value old named new first v = record {
-  decimal = v.value;
-  is = v.is;
-  adds = record {
-    before = v.before ∙ first.1;
-    tokens = v.tokens ∙ rw first.0 (simp (append_assoc, append-nil));
-    within = let inner : depth v.value ≤ 0 = v.within in omega (arith, inner);
-  };
+    → (new.tokens ≡ named.tokens ++ t ∷ []) × (new.before ≡ named.before)
+    → IsOpen next [] new
+begun_open around next ms name t old named new is shallow o first second = record {
+  before = second.1 ∙ first.1 ∙ o.before;
+  tokens = second.0 ∙ rw (first.0, o.tokens, is) (simp (append_assoc, append-nil));
+  within = omega arith;
+  shallow = shallow o.shallow o.within;
+}
+
+pub item_open : (around : Nesting) (ms : List Pair) (name : List ℕ) (items : List Json) (old new : Written)
+    → IsOpen (Listing around ms name items) [] old
+    → (new.tokens ≡ old.tokens ++ begin_object ∷ []) × (new.before ≡ old.before)
+    → IsOpen (Item around ms name items) [] new
+item_open around ms name items old new o last = record {
+  before = last.1 ∙ o.before;
+  tokens = last.0 ∙ rw o.tokens (simp (append_assoc, append-nil));
+  within = omega arith;
+  shallow = o.shallow;
 }
 
 pub members_end : (ms : List Pair) → members_tokens (members_in ms) ≡ tokens_in ms ++ end_object ∷ []
@@ -135,46 +103,54 @@ members_end (m ∷ ms) =
     ap (λ l. key m.0 ∷ (json_tokens m.1 ++ l)) (members_end ms)
     ∙ ap (λ l. key m.0 ∷ l) (sym (append_assoc (json_tokens m.1) (tokens_in ms) (end_object ∷ [])))
 
-pub object_written : (ms : List Pair) (old : Written) (new : List Token) → IsOpen ms old
+pub object_written : (ms : List Pair) (old : Written) (new : List Token) → IsOpen Top ms old
     → new ≡ old.tokens ++ end_object ∷ [] → new ≡ json_tokens (object_in ms)
 object_written ms old new begun last = last ∙ rw (begun.tokens, members_end ms) refl
 
--- an object inside another
-pub object_added : (deep : ℕ) (ms : List Pair) (Is : Json → Type 0) (old begun filled new : Written)
-    → Is (object_in ms)
-    → (begun.tokens ≡ old.tokens ++ begin_object ∷ []) × (begun.before ≡ old.before)
-    → Adds deep ms begun filled
-    → (new.tokens ≡ filled.tokens ++ end_object ∷ []) × (new.before ≡ filled.before)
-    → AddsValue (deep + 1) Is old new
-object_added deep ms Is old begun filled new is first adds last = record {
-  value = object_in ms;
-  is = is;
-  before = last.1 ∙ adds.before ∙ first.1;
-  tokens = last.0 ∙ rw (adds.tokens, first.0, members_end ms) (simp append_assoc);
-  within = let inner : AreWithin deep ms = adds.within in omega (arith, inner);
+pub object_ended : (around : Nesting) (before : List Pair) (name : List ℕ) (ms : List Pair) (old new : Written) → AreWithin 2 ms
+    → IsOpen (Under around before name) ms old
+    → (new.tokens ≡ old.tokens ++ end_object ∷ []) × (new.before ≡ old.before)
+    → IsOpen around (before ++ (name, object_in ms) ∷ []) new
+object_ended around before name ms old new within o last = record {
+  before = last.1 ∙ o.before;
+  tokens = last.0 ∙ rw (o.tokens, tokens_in-append, members_end ms) (simp (append_assoc, append-nil));
+  within = within_joined 3 before ((name, object_in ms) ∷ []) o.shallow.1 (omega (arith, within));
+  shallow = o.shallow.0;
 }
 
--- a value with its key, then another member
-pub value_and_member : (name other : List ℕ) (Is : Json → Type 0) (last : Json) (old named valued new : Written)
-    → (named.tokens ≡ old.tokens ++ key name ∷ []) × (named.before ≡ old.before)
-    → (v : AddsValue 2 Is named valued)
-    → Adds 1 ((other, last) ∷ []) valued new
-    → Adds 2 ((name, v.value) ∷ (other, last) ∷ []) old new
-value_and_member name other Is last old named valued new first v adds = record {
-  before = adds.before ∙ v.before ∙ first.1;
-  tokens = adds.tokens ∙ rw (v.tokens, first.0) (simp append_assoc);
-  within = let inner : depth v.value ≤ 2 = v.within in omega (arith, inner, adds.within);
-}
+depth-items : (items : List Json) (j : Json) → items_depth (items_in items) ≤ 2 → depth j ≤ 2
+    → items_depth (items_in (items ++ j ∷ [])) ≤ 2
+depth-items [] j h k = omega (arith, k)
+depth-items (i ∷ items) j h k =
+    let later : items_depth (items_in items) ≤ 2 = omega (arith, h) in
+    let rest = depth-items items j later k in
+    omega (arith, h, rest)
 
-pub null_added : (Is : Json → Type 0) (old new : Written) → Is null
-    → (new.tokens ≡ old.tokens ++ json_tokens null) × (new.before ≡ old.before)
-    → AddsValue 2 Is old new
-null_added Is old new is added = record {
-  value = null;
-  is = is;
-  before = added.1;
-  tokens = added.0;
+pub item_ended : (around : Nesting) (before : List Pair) (name : List ℕ) (items : List Json) (ms : List Pair) (old new : Written)
+    → AreWithin 1 ms → IsOpen (Item around before name items) ms old
+    → (new.tokens ≡ old.tokens ++ end_object ∷ []) × (new.before ≡ old.before)
+    → IsOpen (Listing around before name (items ++ object_in ms ∷ [])) [] new
+item_ended around before name items ms old new within o last = record {
+  before = last.1 ∙ o.before;
+  tokens = last.0 ∙ rw (o.tokens, flat_map-append json_tokens items (object_in ms ∷ []), members_end ms) (simp (append_assoc, append-nil));
   within = omega arith;
+  shallow = (o.shallow.0, (o.shallow.1.0, depth-items items (object_in ms) o.shallow.1.1 (omega (arith, within))));
+}
+
+items_end : (items : List Json) → items_tokens (items_in items) ≡ flat_map json_tokens items ++ end_array ∷ []
+items_end [] = refl
+items_end (j ∷ items) =
+    rw (items_end items) (sym (append_assoc (json_tokens j) (flat_map json_tokens items) (end_array ∷ [])))
+
+pub list_ended : (around : Nesting) (before : List Pair) (name : List ℕ) (items : List Json) (old new : Written)
+    → IsOpen (Listing around before name items) [] old
+    → (new.tokens ≡ old.tokens ++ end_array ∷ []) × (new.before ≡ old.before)
+    → IsOpen around (before ++ (name, array_in items) ∷ []) new
+list_ended around before name items old new o last = record {
+  before = last.1 ∙ o.before;
+  tokens = last.0 ∙ rw (o.tokens, tokens_in-append, items_end items) (simp (append_assoc, append-nil));
+  within = within_joined 3 before ((name, array_in items) ∷ []) o.shallow.1.0 (let deep = o.shallow.1.1 in omega (arith, deep));
+  shallow = o.shallow.0;
 }
 
 -- ---- reading back

@@ -11,7 +11,7 @@ use Rattle.ipmi_fru.specs.declared.multirecord.MultiFault.{MultiFault}
 use Rattle.ipmi_json.specs.declared.object.Label.{Label}
 use Rattle.ipmi_json.specs.Areas.{AreAreaMembers}
 use Rattle.ipmi_json.specs.Multirecords.{AreRecordMembers}
-use Rattle.ipmi_json.specs.Object.{integer_or_null, IsLineOf, Pair, text_if_any, text_or_null}
+use Rattle.ipmi_json.specs.Object.{integer_or_null, IsLineOfSome, Pair, text_if_any, text_or_null}
 
 -- the words for faults of the header
 abbrev pub header_fault_word : FruFault → List ℕ
@@ -77,26 +77,25 @@ bare_members id name state fault bytes =
     (device_members id name state fault ++ no_content) ++ bytes_members bytes
 
 -- a device whose inventory has no fault in its header
-pub record IsReadLine (id : ℕ) (name : Option (List ℕ)) (bytes : List ℕ) (labels : List Label)
-    (text : List ℕ) : Type 0 where
+pub record AreReadMembers (id : ℕ) (name : Option (List ℕ)) (bytes : List ℕ) (ms : List Pair) : Type 0 where
   pub content : List Pair
   pub are_content : AreContentMembers bytes content
-  pub is_line : IsLineOf ((device_members (Some id) name (codes "read") None ++ content)
-      ++ bytes_members (Some bytes)) labels text
+  pub are : ms ≡ (device_members (Some id) name (codes "read") None ++ content) ++ bytes_members (Some bytes)
 
-abbrev pub IsLineByFault : Option FruFault → ℕ → Option (List ℕ) → List ℕ → List Label → List ℕ
-    → Type 0
-IsLineByFault None id name bytes labels text = IsReadLine id name bytes labels text
-IsLineByFault (Some f) id name bytes labels text =
-    IsLineOf (bare_members (Some id) name (codes "faulty") (Some (header_fault_word f)) (Some bytes))
-    labels text
+abbrev pub AreMembersByFault : Option FruFault → ℕ → Option (List ℕ) → List ℕ → List Pair → Type 0
+AreMembersByFault None id name bytes ms = AreReadMembers id name bytes ms
+AreMembersByFault (Some f) id name bytes ms =
+    ms ≡ bare_members (Some id) name (codes "faulty") (Some (header_fault_word f)) (Some bytes)
 
--- the line of a device: it is not present, the header of its inventory has a fault, or it can be read
+-- a device: it is not present, the header of its inventory has a fault, or it can be read
+abbrev pub AreFruMembers : ℕ → Option (List ℕ) → Option (List ℕ) → List Pair → Type 0
+AreFruMembers id name None ms = ms ≡ bare_members (Some id) name (codes "not_present") None None
+AreFruMembers id name (Some bytes) ms = AreMembersByFault (header_fault bytes) id name bytes ms
+
+-- the line of a device
 abbrev pub IsFruLine : ℕ → Option (List ℕ) → Option (List ℕ) → List Label → List ℕ → Type 0
-IsFruLine id name None labels text =
-    IsLineOf (bare_members (Some id) name (codes "not_present") None None) labels text
-IsFruLine id name (Some bytes) labels text =
-    IsLineByFault (header_fault bytes) id name bytes labels text
+IsFruLine id name inventory labels text =
+    IsLineOfSome (AreFruMembers id name inventory) labels text
 
 -- a device that is not reached through the controller itself
 abbrev pub elsewhere_members : Option (List ℕ) → List Pair

@@ -1,9 +1,9 @@
 -- The objects of infos, and the object at the end of a listing.
-use Rattle.std.specs.Prelude.{ℕ, Option, List, [], ◌∷◌, codes}
+use Rattle.std.specs.Prelude.{◌≡◌, ℕ, Option, List, [], ◌∷◌, codes}
 use Rattle.json.specs.Json.{boolean, string}
 use Rattle.ipmi_records.specs.Prelude.{byte_at, has_bit, number_at}
 use Rattle.ipmi_json.specs.declared.object.Label.{Label}
-use Rattle.ipmi_json.specs.Object.{integer, IsLineOf, Pair, text_or_null}
+use Rattle.ipmi_json.specs.Object.{integer, IsLineOfSome, Pair, text_or_null}
 use Rattle.ipmi_json.specs.Time.{IsIsoTimeOf}
 
 -- ---- infos
@@ -25,13 +25,16 @@ info_members name addition erase bytes =
     ∷ (codes "operation_support", integer (byte_at 14 bytes))
     ∷ []
 
--- the line of an info, with the name of its object
-pub record IsInfoLine (name bytes : List ℕ) (labels : List Label) (text : List ℕ) : Type 0 where
+pub record AreInfoMembers (name bytes : List ℕ) (ms : List Pair) : Type 0 where
   pub addition : Option (List ℕ)
   pub erase : Option (List ℕ)
   pub is_addition : IsIsoTimeOf (number_at 6 4 bytes) addition
   pub is_erase : IsIsoTimeOf (number_at 10 4 bytes) erase
-  pub is_line : IsLineOf (info_members name addition erase bytes) labels text
+  pub are : ms ≡ info_members name addition erase bytes
+
+-- the line of an info, with the name of its object
+abbrev pub IsInfoLine : List ℕ → List ℕ → List Label → List ℕ → Type 0
+IsInfoLine name bytes labels text = IsLineOfSome (AreInfoMembers name bytes) labels text
 
 -- ---- the end
 

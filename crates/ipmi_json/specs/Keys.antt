@@ -2,7 +2,7 @@
 use Rattle.std.specs.Prelude.{◌≡◌, ℕ, Bool, true, List, [], ◌∷◌, bytes_eq, codes}
 use Rattle.std.specs.List.{list_all, list_any}
 use Rattle.ipmi_json.specs.declared.object.Label.{Label}
-use Rattle.ipmi_json.specs.Object.{IsLineOf, Pair}
+use Rattle.ipmi_json.specs.Object.{IsLineOfSome, Pair}
 
 -- the keys of all objects; those of objects inside them are left out, as no label is added there
 abbrev pub object_keys : List (List ℕ)
@@ -85,7 +85,5 @@ abbrev pub HaveObjectKeys : List Pair → Type 0
 HaveObjectKeys ms = list_all (λ (m : Pair). is_object_key m.0) ms ≡ true
 
 -- the line of an object with such keys, then the labels
-pub record IsLineOfObjectKeys (labels : List Label) (text : List ℕ) : Type 0 where
-  pub ms : List Pair
-  pub is_line : IsLineOf ms labels text
-  pub have_keys : HaveObjectKeys ms
+abbrev pub IsLineOfObjectKeys : List Label → List ℕ → Type 0
+IsLineOfObjectKeys labels text = IsLineOfSome HaveObjectKeys labels text

@@ -8,13 +8,34 @@ use Rattle.ipmi_records.specs.declared.sdr.SdrFault.{SdrFault}
 use Rattle.ipmi_records.specs.declared.sdr.SdrView.{SdrView}
 use Rattle.ipmi_records.specs.declared.sel.SelView.{SelView}
 use Rattle.ipmi_json.specs.declared.object.Label.{Label}
-use Rattle.ipmi_json.specs.Fru.{IsFruLine, elsewhere_members}
-use Rattle.ipmi_json.specs.Info.{IsInfoLine, end_members}
+use Rattle.ipmi_json.specs.Fru.{AreFruMembers, IsFruLine, elsewhere_members}
+use Rattle.ipmi_json.specs.Info.{AreInfoMembers, IsInfoLine, end_members}
 use Rattle.ipmi_json.specs.Object.{IsLineOf, Pair}
-use Rattle.ipmi_json.specs.Sdr.{IsSdrLine, bytes_members, fault_members}
-use Rattle.ipmi_json.specs.Sel.{IsSelLine}
+use Rattle.ipmi_json.specs.Sdr.{AreRecordMembers, IsSdrLine, bytes_members, fault_members}
+use Rattle.ipmi_json.specs.Sel.{AreEntryMembers, IsSelLine}
 
--- ---- at most one
+-- ---- at most one list of members
+
+-- members that satisfy `Are` are the only ones
+abbrev pub AreUnique : (List Pair → Type 0) → Type 0
+AreUnique Are = (ms more : List Pair) → Are ms → Are more → ms ≡ more
+
+abbrev pub RecordMembersAreUnique : Type 0
+RecordMembersAreUnique = (id : ℕ) (view : SdrView) (reading : Option Reading)
+    → AreUnique (AreRecordMembers id view reading)
+
+abbrev pub EntryMembersAreUnique : Type 0
+EntryMembersAreUnique = (id : ℕ) (view : SelView) (records : Option (List (List ℕ)))
+    → AreBytes (entry_bytes view) → AreUnique (AreEntryMembers id view records)
+
+abbrev pub InfoMembersAreUnique : Type 0
+InfoMembersAreUnique = (name bytes : List ℕ) → AreBytes bytes → AreUnique (AreInfoMembers name bytes)
+
+abbrev pub DeviceMembersAreUnique : Type 0
+DeviceMembersAreUnique = (id : ℕ) (name inventory : Option (List ℕ))
+    → AreUnique (AreFruMembers id name inventory)
+
+-- ---- at most one line
 
 -- an object with labels has at most one line
 abbrev pub ObjectLineIsUnique : Type 0

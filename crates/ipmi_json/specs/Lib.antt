@@ -1,10 +1,13 @@
 pub mod Areas
+pub mod Format
 pub mod Fru
 pub mod Info
 pub mod Keys
 pub mod Laws
+pub mod Members
 pub mod Multirecords
 pub mod Object
+pub mod Open
 pub mod Record
 pub mod Sdr
 pub mod Sel

@@ -1,12 +1,11 @@
 -- A JSON object as a list of members, and its line: RFC 8259 without spaces, in UTF-8.
-use Rattle.std.specs.Prelude.{◌≡◌, ℕ, ◌≤◌, ℤ, Option, Some, None, List, [], ◌∷◌, ◌++◌, codes, decimal, flat_map, map, string_bytes}
+use Rattle.std.specs.Prelude.{◌≡◌, ℕ, ◌≤◌, ℤ, Option, Some, None, List, [], ◌∷◌, ◌++◌, codes, decimal, map, string_bytes}
 use Rattle.std.specs.Borrow.{Bor}
 use Rattle.std.specs.Str.{IsUtf8}
 use Rattle.json.specs.Json.{Json, Items, Members, array, boolean, document, item, member, no_items, no_members, null, number, object, string}
 use Rattle.json.specs.Print.{print}
-use Rattle.json.specs.Token.{Token, begin_object, key}
-use Rattle.json.specs.Tree.{depth, items_depth, json_tokens, members_depth}
-use Rattle.json.specs.Written.{Written}
+use Rattle.json.specs.Token.{Token, key}
+use Rattle.json.specs.Tree.{json_tokens, members_depth}
 use Rattle.ipmi_text.specs.Decimal.{IsDecimalOf}
 use Rattle.ipmi_json.specs.declared.object.Value.{Value}
 use Rattle.ipmi_json.specs.declared.object.Label.{Label}
@@ -74,6 +73,7 @@ abbrev pub json_of : Value → Json
 json_of Value.Null = null
 json_of (Value.Bool b) = boolean b
 json_of (Value.Integer n) = integer n
+json_of (Value.Number n) = number n.digits.now
 json_of (Value.Text text) = string text.now
 json_of (Value.Texts list) = texts (map (λ text. string_bytes text) list.now)
 
@@ -95,6 +95,13 @@ labels_of labels = map pair_of_label labels
 abbrev pub IsLineOf : List Pair → List Label → List ℕ → Type 0
 IsLineOf ms labels text = IsLineOfJson (object_in (ms ++ labels_of labels)) text
 
+-- the line of an object with members that satisfy `Are`, then the labels
+pub record IsLineOfSome (Are : List Pair → Type 0) (labels : List Label)
+    (text : List ℕ) : Type 0 where
+  pub ms : List Pair
+  pub are : Are ms
+  pub is_line : IsLineOf ms labels text
+
 -- ---- the written tokens
 
 -- the tokens of members, without brackets
@@ -105,43 +112,3 @@ tokens_in (m ∷ ms) = (key m.0 ∷ json_tokens m.1) ++ tokens_in ms
 -- the nesting of arrays and objects in the values is at most this deep
 abbrev pub AreWithin : ℕ → List Pair → Type 0
 AreWithin deep ms = members_depth (members_in ms) ≤ deep
-
--- these members were written
-pub record Adds (deep : ℕ) (ms : List Pair) (old new : Written) : Type 0 where
-  pub before : new.before ≡ old.before
-  pub tokens : new.tokens ≡ old.tokens ++ tokens_in ms
-  pub within : AreWithin deep ms
-
--- members that satisfy `Are` were written
-pub record AddsSome (deep : ℕ) (Are : List Pair → Type 0) (old new : Written) : Type 0 where
-  pub ms : List Pair
-  pub are : Are ms
-  pub adds : Adds deep ms old new
-
--- the exact decimal of a value, or null, was written under a key
-pub record AddsDecimal (name : List ℕ) (value : Option ℤ) (old new : Written) : Type 0 where
-  pub decimal : Json
-  pub is : IsDecimalOrNull value decimal
-  pub adds : Adds 1 ((name, decimal) ∷ []) old new
-
--- a value that satisfies `Is` was written
-pub record AddsValue (deep : ℕ) (Is : Json → Type 0) (old new : Written) : Type 0 where
-  pub value : Json
-  pub is : Is value
-  pub before : new.before ≡ old.before
-  pub tokens : new.tokens ≡ old.tokens ++ json_tokens value
-  pub within : depth value ≤ deep
-
--- the items of an array, which satisfy `Are`, were written
-pub record AddsItems (deep : ℕ) (Are : List Json → Type 0) (old new : Written) : Type 0 where
-  pub items : List Json
-  pub are : Are items
-  pub before : new.before ≡ old.before
-  pub tokens : new.tokens ≡ old.tokens ++ flat_map json_tokens items
-  pub within : items_depth (items_in items) ≤ deep
-
--- the beginning of an object and these members were written
-pub record IsOpen (ms : List Pair) (out : Written) : Type 0 where
-  pub before : out.before ≡ []
-  pub tokens : out.tokens ≡ begin_object ∷ tokens_in ms
-  pub within : AreWithin 3 ms

@@ -20,7 +20,7 @@ use Rattle.ipmi_events.specs.Entities.{entity_words}
 use Rattle.ipmi_events.specs.States.{set_states, state_words}
 use Rattle.ipmi_events.specs.Status.{status_in_words}
 use Rattle.ipmi_json.specs.declared.object.Label.{Label}
-use Rattle.ipmi_json.specs.Object.{integer, integer_or_null, IsDecimalOrNull, IsLineOf, Pair, text_unless_empty, texts}
+use Rattle.ipmi_json.specs.Object.{integer, integer_or_null, IsDecimalOrNull, IsLineOfSome, Pair, text_unless_empty, texts}
 use Rattle.ipmi_json.specs.Record.{head_members, raw_members}
 
 -- ---- every record
@@ -215,14 +215,19 @@ AreTold (SdrView.Fru bytes) reading ms = ms ≡ fru_locator_members bytes
 AreTold (SdrView.Controller bytes) reading ms = ms ≡ controller_members (locator_in bytes)
 AreTold (SdrView.Other bytes) reading ms = ms ≡ []
 
--- the line of a record, with its id
-pub record IsSdrLine (id : ℕ) (view : SdrView) (reading : Option Reading) (labels : List Label)
-    (text : List ℕ) : Type 0 where
+-- the members of a record, with its id
+pub record AreRecordMembers (id : ℕ) (view : SdrView) (reading : Option Reading)
+    (ms : List Pair) : Type 0 where
   pub told : List Pair
   pub are_told : AreTold view reading told
-  pub is_line : IsLineOf (
+  pub are : ms ≡
       ((head_members (codes "sdr_record") id (record_type (record_bytes view)) (kind_word view)
-      ++ name_members (name_of view)) ++ told) ++ raw_members (record_bytes view)) labels text
+      ++ name_members (name_of view)) ++ told) ++ raw_members (record_bytes view)
+
+-- the line of a record, with its id
+abbrev pub IsSdrLine : ℕ → SdrView → Option Reading → List Label → List ℕ → Type 0
+IsSdrLine id view reading labels text =
+    IsLineOfSome (AreRecordMembers id view reading) labels text
 
 -- ---- a record with a fault
 

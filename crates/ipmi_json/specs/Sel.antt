@@ -12,7 +12,7 @@ use Rattle.ipmi_events.specs.EventLines.{event_offset, full_of, record_for}
 use Rattle.ipmi_events.specs.Name.{sensor_name}
 use Rattle.ipmi_events.specs.Words.{event_words}
 use Rattle.ipmi_json.specs.declared.object.Label.{Label}
-use Rattle.ipmi_json.specs.Object.{integer, IsLineOf, Pair, text_or_null, text_unless_empty}
+use Rattle.ipmi_json.specs.Object.{integer, IsLineOfSome, Pair, text_or_null, text_unless_empty}
 use Rattle.ipmi_json.specs.Record.{head_members, raw_members}
 use Rattle.ipmi_json.specs.Time.{IsIsoTimeOf}
 
@@ -98,10 +98,15 @@ AreTold (SelView.OemTimed bytes) records ms = AreTimedMembers bytes ms
 AreTold (SelView.OemPlain bytes) records ms = ms ≡ data_members (data_after_type bytes)
 AreTold (SelView.Other bytes) records ms = ms ≡ data_members (data_after_type bytes)
 
--- the line of an entry, with its id
-pub record IsSelLine (id : ℕ) (view : SelView) (records : Option (List (List ℕ)))
-    (labels : List Label) (text : List ℕ) : Type 0 where
+-- the members of an entry, with its id
+pub record AreEntryMembers (id : ℕ) (view : SelView) (records : Option (List (List ℕ)))
+    (ms : List Pair) : Type 0 where
   pub told : List Pair
   pub are_told : AreTold view records told
-  pub is_line : IsLineOf ((head_members (codes "sel_entry") id (entry_type (entry_bytes view)) (kind_word view)
-      ++ told) ++ raw_members (entry_bytes view)) labels text
+  pub are : ms ≡ (head_members (codes "sel_entry") id (entry_type (entry_bytes view)) (kind_word view)
+      ++ told) ++ raw_members (entry_bytes view)
+
+-- the line of an entry, with its id
+abbrev pub IsSelLine : ℕ → SelView → Option (List (List ℕ)) → List Label → List ℕ → Type 0
+IsSelLine id view records labels text =
+    IsLineOfSome (AreEntryMembers id view records) labels text

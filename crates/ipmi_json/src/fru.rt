@@ -1,14 +1,14 @@
-//! The objects of inventories.
-ghost use Rattle.std.specs.Prelude.{◌≡◌, IfOk, None, OnOk, Some, length, option_map};
-ghost use Rattle.ipmi_text.specs.FieldText.{binary_text};
-ghost use Rattle.ipmi_json.specs.Fru.{AreContentMembers, IsFruLine, IsReadLine, bare_members, bytes_members, device_members, elsewhere_members, header_fault_word, no_content};
-ghost use Rattle.ipmi_json.specs.Object.{Adds, AddsSome, integer_or_null, IsLineOf, json_of};
+//! What is told of inventories, and their objects.
+ghost use Rattle.std.specs.Prelude.{◌≡◌, IfOk, None, OnOk, Some, option_map};
+ghost use Rattle.ipmi_json.specs.Fru.{AreContentMembers, AreFruMembers, AreReadMembers, IsFruLine, bare_members, bytes_members, device_members, elsewhere_members, header_fault_word, no_content};
+ghost use Rattle.ipmi_json.specs.Members.{Tells, TellsSome};
+ghost use Rattle.ipmi_json.specs.Object.{integer_or_null, IsLineOf, json_of};
 
-use crate::areas::write_area;
-use crate::multirecords::write_records;
-use crate::object::{Label, Value, begin, finish, text_if_any, text_or_null, write_members};
+use crate::areas::tell_area;
+use crate::members::{Members, put_members};
+use crate::multirecords::tell_records;
+use crate::object::{Label, Value, begin, finish, text_if_any, text_or_null};
 use ipmi_fru::{FruFault, FruView};
-use json::Writer;
 use std::alloc::{AllocError, Global};
 
 /// The id of a device, or null.
@@ -21,18 +21,18 @@ fn id_or_null(id: Option<u8>) -> Value<'static>
     }
 }
 
-/// Writes the members of a device.
-fn write_device(
-    out: &mut Writer,
+/// Tells the first members of a device.
+fn tell_head<M: Members>(
+    out: &mut M,
     id: Option<u8>,
     name: Option<&str>,
     state: &'static str,
     fault: Option<&'static str>,
 ) -> Result<(), AllocError>
-    ensures { OnOk result (Adds 1 (device_members id (option_map (λ name. name.now) name.entry)
+    ensures { OnOk result (Tells M.told (device_members id (option_map (λ name. name.now) name.entry)
         state.entry.now (option_map (λ word. word.now) fault.entry)) out.old out.new) }
 {
-    write_members(
+    put_members(
         out,
         &[
             ("object", Value::Text("fru")),
@@ -44,11 +44,11 @@ fn write_device(
     )
 }
 
-/// Writes null for each area and for the records.
-fn write_no_content(out: &mut Writer) -> Result<(), AllocError>
-    ensures { OnOk result (Adds 1 no_content out.old out.new) }
+/// Tells that no area and no record can be read.
+fn tell_no_content<M: Members>(out: &mut M) -> Result<(), AllocError>
+    ensures { OnOk result (Tells M.told no_content out.old out.new) }
 {
-    write_members(
+    put_members(
         out,
         &[
             ("chassis", Value::Null),
@@ -63,25 +63,33 @@ fn write_no_content(out: &mut Writer) -> Result<(), AllocError>
     )
 }
 
-/// Writes the areas and the records of an inventory.
-fn write_content(alloc: Global, out: &mut Writer, inventory: &FruView) -> Result<(), AllocError>
-    ensures { OnOk result (AddsSome 3 (AreContentMembers inventory.now) out.old out.new) }
+/// Tells the areas and the records of an inventory.
+fn tell_content<M: Members>(
+    alloc: Global,
+    out: &mut M,
+    inventory: &FruView,
+) -> Result<(), AllocError>
+    ensures { OnOk result (TellsSome M.told (AreContentMembers inventory.now) out.old out.new) }
 {
-    write_area(alloc, out, "chassis", "chassis_fault", &inventory.chassis())?;
-    write_area(alloc, out, "board", "board_fault", &inventory.board())?;
-    write_area(alloc, out, "product", "product_fault", &inventory.product())?;
-    write_records(alloc, out, inventory.records())
+    tell_area(alloc, out, "chassis", "chassis_fault", &inventory.chassis())?;
+    tell_area(alloc, out, "board", "board_fault", &inventory.board())?;
+    tell_area(alloc, out, "product", "product_fault", &inventory.product())?;
+    tell_records(alloc, out, inventory.records())
 }
 
-/// Writes the size and the bytes of an inventory.
-fn write_bytes(alloc: Global, out: &mut Writer, bytes: Option<&[u8]>) -> Result<(), AllocError>
-    ensures { OnOk result (Adds 1 (bytes_members (option_map (λ bytes. bytes.now) bytes.entry))
+/// Tells the size and the bytes of an inventory.
+fn tell_bytes<M: Members>(
+    alloc: Global,
+    out: &mut M,
+    bytes: Option<&[u8]>,
+) -> Result<(), AllocError>
+    ensures { OnOk result (Tells M.told (bytes_members (option_map (λ bytes. bytes.now) bytes.entry))
         out.old out.new) }
 {
     match bytes {
         Some(bytes) => {
             let raw = hex::encode(alloc, bytes)?;
-            write_members(
+            put_members(
                 out,
                 &[
                     ("size", Value::Integer(bytes.len() as u64)),
@@ -89,50 +97,45 @@ fn write_bytes(alloc: Global, out: &mut Writer, bytes: Option<&[u8]>) -> Result<
                 ],
             )
         }
-        None => write_members(out, &[("size", Value::Null), ("raw", Value::Null)]),
+        None => put_members(out, &[("size", Value::Null), ("raw", Value::Null)]),
     }
 }
 
-/// The line of a device whose inventory has no areas or records that can be read.
-fn bare_line(
+/// Tells the members of a device whose inventory has no areas or records that can be read.
+fn tell_bare<M: Members>(
     alloc: Global,
+    out: &mut M,
     id: Option<u8>,
     name: Option<&str>,
     state: &'static str,
     fault: Option<&'static str>,
     bytes: Option<&[u8]>,
-    labels: &[Label],
-) -> Result<Vec<u8>, AllocError>
-    ensures { IfOk result (λ line. IsLineOf (bare_members id
-        (option_map (λ name. name.now) name.entry) state.entry.now
-        (option_map (λ word. word.now) fault.entry) (option_map (λ bytes. bytes.now) bytes.entry))
-        labels.now line.items) }
+) -> Result<(), AllocError>
+    ensures { OnOk result (Tells M.told (bare_members id (option_map (λ name. name.now) name.entry)
+        state.entry.now (option_map (λ word. word.now) fault.entry)
+        (option_map (λ bytes. bytes.now) bytes.entry)) out.old out.new) }
 {
-    let mut out = begin(alloc)?;
-    write_device(&mut out, id, name, state, fault)?;
-    write_no_content(&mut out)?;
-    write_bytes(alloc, &mut out, bytes)?;
-    finish(out, labels)
+    tell_head(out, id, name, state, fault)?;
+    tell_no_content(out)?;
+    tell_bytes(alloc, out, bytes)
 }
 
-/// The line of a device whose inventory can be read.
-fn read_line(
+/// Tells the members of a device whose inventory can be read.
+fn tell_read<M: Members>(
     alloc: Global,
+    out: &mut M,
     id: u8,
     name: Option<&str>,
     bytes: &[u8],
     inventory: &FruView,
-    labels: &[Label],
-) -> Result<Vec<u8>, AllocError>
+) -> Result<(), AllocError>
     requires { inventory.now ≡ bytes.now }
-    ensures { IfOk result (λ line. IsReadLine id (option_map (λ name. name.now) name.entry)
-        bytes.now labels.now line.items) }
+    ensures { OnOk result (TellsSome M.told
+        (AreReadMembers id (option_map (λ name. name.now) name.entry) bytes.now) out.old out.new) }
 {
-    let mut out = begin(alloc)?;
-    write_device(&mut out, Some(id), name, "read", None)?;
-    write_content(alloc, &mut out, inventory)?;
-    write_bytes(alloc, &mut out, Some(bytes))?;
-    finish(out, labels)
+    tell_head(out, Some(id), name, "read", None)?;
+    tell_content(alloc, out, inventory)?;
+    tell_bytes(alloc, out, Some(bytes))
 }
 
 /// The word for the fault of a header.
@@ -146,8 +149,31 @@ fn header_fault_word(fault: FruFault) -> &'static str
     }
 }
 
-/// The line of a FRU device: its object, with its id, its name from a locator, and its inventory. `inventory` has the bytes of
-/// the inventory; None if it is not present.
+/// Tells the members of a FRU device: its id, its name from a locator, and its inventory. `inventory` has the bytes of the
+/// inventory; None if it is not present. An area is an object under its key; the records are a list of objects.
+pub fn tell_device<M: Members>(
+    alloc: Global,
+    out: &mut M,
+    id: u8,
+    name: Option<&str>,
+    inventory: Option<&[u8]>,
+) -> Result<(), AllocError>
+    ensures { OnOk result (TellsSome M.told (AreFruMembers id (option_map (λ name. name.now) name.entry)
+        (option_map (λ bytes. bytes.now) inventory.entry)) out.old out.new) }
+{
+    let Some(bytes) = inventory else {
+        return tell_bare(alloc, out, Some(id), name, "not_present", None, None);
+    };
+    match FruView::read(bytes) {
+        Ok(inventory) => tell_read(alloc, out, id, name, bytes, &inventory),
+        Err(fault) => {
+            let fault = Some(header_fault_word(fault));
+            tell_bare(alloc, out, Some(id), name, "faulty", fault, Some(bytes))
+        }
+    }
+}
+
+/// The line of a FRU device: its object, of the members that `tell_device` tells.
 pub fn fru_line(
     alloc: Global,
     id: u8,
@@ -158,16 +184,21 @@ pub fn fru_line(
     ensures { IfOk result (λ line. IsFruLine id (option_map (λ name. name.now) name.entry)
         (option_map (λ bytes. bytes.now) inventory.entry) labels.now line.items) }
 {
-    let Some(bytes) = inventory else {
-        return bare_line(alloc, Some(id), name, "not_present", None, None, labels);
-    };
-    match FruView::read(bytes) {
-        Ok(inventory) => read_line(alloc, id, name, bytes, &inventory, labels),
-        Err(fault) => {
-            let fault = Some(header_fault_word(fault));
-            bare_line(alloc, Some(id), name, "faulty", fault, Some(bytes), labels)
-        }
-    }
+    let mut out = begin(alloc)?;
+    tell_device(alloc, &mut out, id, name, inventory)?;
+    finish(out, labels)
+}
+
+/// Tells the members of a FRU device that is not reached through the controller itself, with its locator's name.
+pub fn tell_device_elsewhere<M: Members>(
+    alloc: Global,
+    out: &mut M,
+    name: Option<&str>,
+) -> Result<(), AllocError>
+    ensures { OnOk result (Tells M.told (elsewhere_members (option_map (λ name. name.now) name.entry))
+        out.old out.new) }
+{
+    tell_bare(alloc, out, None, name, "elsewhere", None, None)
 }
 
 /// The line of a FRU device that is not reached through the controller itself, with its locator's name.
@@ -179,5 +210,7 @@ pub fn fru_elsewhere_line(
     ensures { IfOk result (λ line. IsLineOf (elsewhere_members
         (option_map (λ name. name.now) name.entry)) labels.now line.items) }
 {
-    bare_line(alloc, None, name, "elsewhere", None, None, labels)
+    let mut out = begin(alloc)?;
+    tell_device_elsewhere(alloc, &mut out, name)?;
+    finish(out, labels)
 }

@@ -1,93 +1,50 @@
-//! The objects of infos, and of the end of a listing.
-ghost use Rattle.std.specs.Prelude.{◌≡◌, ℕ, ◌∷◌, [], List, IfOk, OnOk, codes, option_map};
-ghost use Rattle.json.specs.Json.{boolean};
-ghost use Rattle.ipmi_records.specs.Prelude.{info_in};
-ghost use Rattle.ipmi_json.specs.Info.{IsInfoLine, end_members, info_members};
-ghost use Rattle.ipmi_json.specs.Object.{Adds, IsLineOf, integer};
+//! What is told of infos, and the objects of infos and of the end of a listing.
+ghost use Rattle.std.specs.Prelude.{IfOk, OnOk, codes, option_map};
+ghost use Rattle.ipmi_json.specs.Info.{AreInfoMembers, IsInfoLine, end_members};
+ghost use Rattle.ipmi_json.specs.Members.{TellsSome};
+ghost use Rattle.ipmi_json.specs.Object.{IsLineOf};
 
-use crate::object::{
-    Label, Value, begin, finish, object_line, text_or_null, write_member, write_members,
-};
-use crate::time::{time_text, write_time};
+use crate::members::{Members, put_members};
+use crate::object::{Label, Value, begin, finish, text_or_null};
+use crate::time::time_text;
 use ipmi_records::Info;
-use json::Writer;
 use std::alloc::{AllocError, Global};
 
 /// The capacity for a point in time.
 const TIME_CAPACITY: usize = 24;
 
-/// Writes the version and the counts of an info.
-fn write_counts(out: &mut Writer, info: &Info) -> Result<(), AllocError>
-    ensures { OnOk result (Adds 1 ((codes "version", integer info.now.version)
-        ∷ (codes "record_count", integer info.now.record_count)
-        ∷ (codes "free_space", integer info.now.free_space) ∷ []) out.old out.new) }
-{
-    write_members(
-        out,
-        &[
-            ("version", Value::Integer(u64::from(info.version))),
-            ("record_count", Value::Integer(u64::from(info.record_count))),
-            ("free_space", Value::Integer(u64::from(info.free_space))),
-        ],
-    )
-}
-
-/// Writes the overflow and the supported operations of an info.
-fn write_support(out: &mut Writer, info: &Info) -> Result<(), AllocError>
-    ensures { OnOk result (Adds 1 ((codes "overflow", boolean info.now.overflow)
-        ∷ (codes "operation_support", integer info.now.support) ∷ []) out.old out.new) }
-{
-    write_members(
-        out,
-        &[
-            ("overflow", Value::Bool(info.overflow)),
-            ("operation_support", Value::Integer(u64::from(info.support))),
-        ],
-    )
-}
-
-/// Writes the members of an info, given the texts of its times.
-fn write_info(
-    out: &mut Writer,
-    name: &'static str,
-    info: &Info,
-    addition: Option<&str>,
-    erase: Option<&str>,
-) -> Result<(), AllocError>
-    ensures { (bytes : List ℕ) → info.now ≡ info_in bytes → OnOk result
-        (Adds 1 (info_members name.entry.now (option_map (λ s. s.now) addition.entry)
-        (option_map (λ s. s.now) erase.entry) bytes) out.old out.new) }
-{
-    write_member(out, "object", Value::Text(name))?;
-    write_counts(out, info)?;
-    write_time(
-        out,
-        "last_addition",
-        "last_addition_raw",
-        addition,
-        info.last_addition,
-    )?;
-    write_time(out, "last_erase", "last_erase_raw", erase, info.last_erase)?;
-    write_support(out, info)
-}
-
-/// The line of an info. `text` and `other` are used for its times.
-fn line_of_info(
+/// Tells the members of an info, from its bytes without the completion code. `name` is that of its object: `sdr_info` for the answer
+/// of Get SDR Repository Info (IPMI v2.0, section 33.9), `sel_info` for that of Get SEL Info (section 31.2).
+pub fn tell_info<M: Members>(
     alloc: Global,
+    out: &mut M,
     name: &'static str,
-    info: &Info,
-    text: &mut String,
-    other: &mut String,
-    labels: &[Label],
-) -> Result<Vec<u8>, AllocError>
-    ensures { (bytes : List ℕ) → info.now ≡ info_in bytes → IfOk result
-        (λ line. IsInfoLine name.entry.now bytes labels.now line.items) }
+    bytes: &[u8; 14],
+) -> Result<(), AllocError>
+    ensures { OnOk result (TellsSome M.told (AreInfoMembers name.entry.now bytes.now) out.old out.new) }
 {
-    let addition = time_text(text, info.last_addition)?;
-    let erase = time_text(other, info.last_erase)?;
-    let mut out = begin(alloc)?;
-    write_info(&mut out, name, info, addition, erase)?;
-    finish(out, labels)
+    let info = Info::read(bytes);
+    let count = u64::from(info.record_count);
+    let mut text = String::with_capacity(alloc, TIME_CAPACITY)?;
+    out.put("object", Value::Text(name))?;
+    out.put("version", Value::Integer(u64::from(info.version)))?;
+    out.put("record_count", Value::Integer(count))?;
+    out.put("free_space", Value::Integer(u64::from(info.free_space)))?;
+    out.put(
+        "last_addition",
+        text_or_null(time_text(&mut text, info.last_addition)?),
+    )?;
+    out.put(
+        "last_addition_raw",
+        Value::Integer(u64::from(info.last_addition)),
+    )?;
+    out.put(
+        "last_erase",
+        text_or_null(time_text(&mut text, info.last_erase)?),
+    )?;
+    out.put("last_erase_raw", Value::Integer(u64::from(info.last_erase)))?;
+    out.put("overflow", Value::Bool(info.overflow))?;
+    out.put("operation_support", Value::Integer(u64::from(info.support)))
 }
 
 /// The line of an info, from its bytes.
@@ -99,10 +56,9 @@ fn info_line(
 ) -> Result<Vec<u8>, AllocError>
     ensures { IfOk result (λ line. IsInfoLine name.entry.now bytes.now labels.now line.items) }
 {
-    let info = Info::read(bytes);
-    let mut text = String::with_capacity(alloc, TIME_CAPACITY)?;
-    let mut other = String::with_capacity(alloc, TIME_CAPACITY)?;
-    line_of_info(alloc, name, &info, &mut text, &mut other, labels)
+    let mut out = begin(alloc)?;
+    tell_info(alloc, &mut out, name, bytes)?;
+    finish(out, labels)
 }
 
 /// The line of the answer of Get SDR Repository Info (IPMI v2.0, section 33.9), without its completion code.
@@ -141,8 +97,9 @@ pub fn end_line(
     ensures { IfOk result (λ line. IsLineOf (end_members status reason.entry.now
         (option_map (λ text. text.now) message.entry) count) labels.now line.items) }
 {
-    object_line(
-        alloc,
+    let mut out = begin(alloc)?;
+    put_members(
+        &mut out,
         &[
             ("object", Value::Text("end")),
             ("status", Value::Integer(u64::from(status))),
@@ -150,6 +107,6 @@ pub fn end_line(
             ("message", text_or_null(message)),
             ("count", Value::Integer(count)),
         ],
-        labels,
-    )
+    )?;
+    finish(out, labels)
 }

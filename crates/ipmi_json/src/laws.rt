@@ -1,6 +1,21 @@
-//! Laws of lines. They follow from the definitions, so they hold for any code that writes such a text.
+//! Laws of members and of lines. They follow from the definitions, so they hold for any code that tells such members or writes such
+//! a text.
 ghost use Rattle.ipmi_json.specs.Keys.{IsLineOfObjectKeys};
-ghost use Rattle.ipmi_json.specs.Laws.{DeviceLineIsUnique, EntryLineIsUnique, ForEachLine, InfoLineIsUnique, IsOneLine, NoDeviceLineIsEmpty, NoEntryLineIsEmpty, NoInfoLineIsEmpty, NoObjectLineIsEmpty, NoRecordLineIsEmpty, ObjectLineIsUnique, RecordLineIsUnique};
+ghost use Rattle.ipmi_json.specs.Laws.{DeviceLineIsUnique, DeviceMembersAreUnique, EntryLineIsUnique, EntryMembersAreUnique, ForEachLine, InfoLineIsUnique, InfoMembersAreUnique, IsOneLine, NoDeviceLineIsEmpty, NoEntryLineIsEmpty, NoInfoLineIsEmpty, NoObjectLineIsEmpty, NoRecordLineIsEmpty, ObjectLineIsUnique, RecordLineIsUnique, RecordMembersAreUnique};
+
+/// A record, an entry, an info and a device each have at most one list of members, so what `tell_record`, `tell_entry`, `tell_info` and
+/// `tell_device` tell is the only one.
+pub fn one_list_of_members()
+    ensures record_is { RecordMembersAreUnique }
+    ensures entry_is { EntryMembersAreUnique }
+    ensures info_is { InfoMembersAreUnique }
+    ensures device_is { DeviceMembersAreUnique }
+{
+    ipmi_text::laws::one_decimal_of_a_value();
+    ipmi_text::laws::one_minutes_text();
+    ipmi_text::laws::one_utc_text();
+    ipmi_events::laws::one_text_of_details();
+}
 
 /// An object has at most one line for labels, so the results of `sdr_fault_line`, `sdr_raw_line`, `fru_elsewhere_line` and
 /// `end_line` are the only ones.

@@ -1,16 +1,16 @@
-//! The objects of multirecords.
+//! What is told of multirecords.
 ghost use Rattle.std.specs.Prelude.{◌≡◌, ◌≤◌, IfOk, None, OnOk, length, option_map};
 ghost use Rattle.ipmi_fru.specs.Prelude.{form_of, items_left, record_of};
+ghost use Rattle.ipmi_json.specs.Members.{IsItem, Tells, TellsSome, TellsSomeItems};
 ghost use Rattle.ipmi_json.specs.Multirecords.{AreFormMembers, AreObjects, AreRangeMembers, AreRecordMembers, IsRecordObject, access_members, current_members, dc_word, fault_among, high_key, low_key, number_members, record_fault_word, record_head, record_type_name, records_among};
-ghost use Rattle.ipmi_json.specs.Object.{Adds, AddsItems, AddsSome, AddsValue};
 
-use crate::number::write_decimal;
-use crate::object::{Value, text_or_null, write_members};
-use crate::record::write_raw;
+use crate::decimal::decimal_or_null;
+use crate::members::{Members, put_members};
+use crate::object::{Value, text_or_null};
+use crate::record::put_raw;
 use ipmi_fru::{
     DcFields, DcKind, MultiFault, MultiView, RecordForm, Records, access_text, form_of,
 };
-use json::Writer;
 use std::alloc::{AllocError, Global};
 
 /// The names of record types, starting with 00h (Platform Management FRU Information Storage Definition v1.0, table 16-2).
@@ -45,11 +45,15 @@ fn record_type_name(kind: u8) -> Option<&'static str>
     RECORD_TYPES.get(usize::from(kind)).copied()
 }
 
-/// Writes the first members of each record.
-fn write_head(out: &mut Writer, kind: &'static str, view: &MultiView) -> Result<(), AllocError>
-    ensures { OnOk result (Adds 1 (record_head kind.entry.now (record_of view.now)) out.old out.new) }
+/// Tells the first members of each record.
+fn tell_head<M: Members>(
+    out: &mut M,
+    kind: &'static str,
+    view: &MultiView,
+) -> Result<(), AllocError>
+    ensures { OnOk result (Tells M.told (record_head kind.entry.now (record_of view.now)) out.old out.new) }
 {
-    write_members(
+    put_members(
         out,
         &[
             ("kind", Value::Text(kind)),
@@ -59,14 +63,14 @@ fn write_head(out: &mut Writer, kind: &'static str, view: &MultiView) -> Result<
     )
 }
 
-/// Writes the number of an output or a load, and whether an output is a standby output.
-fn write_number(out: &mut Writer, kind: DcKind, fields: &DcFields) -> Result<(), AllocError>
-    ensures { OnOk result (Adds 1 (number_members kind fields.now) out.old out.new) }
+/// Tells the number of an output or a load, and whether an output is a standby output.
+fn tell_number<M: Members>(out: &mut M, kind: DcKind, fields: &DcFields) -> Result<(), AllocError>
+    ensures { OnOk result (Tells M.told (number_members kind fields.now) out.old out.new) }
 {
     let number = ("number", Value::Integer(u64::from(fields.number)));
     match kind {
-        DcKind::Output => write_members(out, &[number, ("standby", Value::Bool(fields.standby))]),
-        DcKind::Load => write_members(out, &[number]),
+        DcKind::Output => put_members(out, &[number, ("standby", Value::Bool(fields.standby))]),
+        DcKind::Load => put_members(out, &[number]),
     }
 }
 
@@ -100,14 +104,14 @@ fn high_key(kind: DcKind) -> &'static str
     }
 }
 
-/// Writes the currents of an output or a load.
-fn write_currents(out: &mut Writer, fields: &DcFields) -> Result<(), AllocError>
-    ensures { OnOk result (Adds 1 (current_members fields.now) out.old out.new) }
+/// Tells the currents of an output or a load.
+fn tell_currents<M: Members>(out: &mut M, fields: &DcFields) -> Result<(), AllocError>
+    ensures { OnOk result (Tells M.told (current_members fields.now) out.old out.new) }
 {
     let ripple = u64::from(fields.ripple);
     let least = u64::from(fields.least_current);
     let greatest = u64::from(fields.greatest_current);
-    write_members(
+    put_members(
         out,
         &[
             ("ripple_millivolts", Value::Integer(ripple)),
@@ -117,29 +121,35 @@ fn write_currents(out: &mut Writer, fields: &DcFields) -> Result<(), AllocError>
     )
 }
 
-/// Writes the voltages and the currents of an output or a load.
-fn write_ranges(
+/// Tells the voltages and the currents of an output or a load.
+fn tell_ranges<M: Members>(
     alloc: Global,
-    out: &mut Writer,
+    out: &mut M,
     kind: DcKind,
     fields: &DcFields,
 ) -> Result<(), AllocError>
-    ensures { OnOk result (AddsSome 1 (AreRangeMembers kind fields.now) out.old out.new) }
+    ensures { OnOk result (TellsSome M.told (AreRangeMembers kind fields.now) out.old out.new) }
 {
     let mut text = String::with_capacity(alloc, DECIMAL_CAPACITY)?;
-    write_decimal(out, &mut text, "nominal_volts", fields.nominal)?;
-    write_decimal(out, &mut text, low_key(kind), fields.low)?;
-    write_decimal(out, &mut text, high_key(kind), fields.high)?;
-    write_currents(out, fields)
+    out.put(
+        "nominal_volts",
+        decimal_or_null(&mut text, Some(fields.nominal))?,
+    )?;
+    out.put(low_key(kind), decimal_or_null(&mut text, Some(fields.low))?)?;
+    out.put(
+        high_key(kind),
+        decimal_or_null(&mut text, Some(fields.high))?,
+    )?;
+    tell_currents(out, fields)
 }
 
-/// Writes the members of a management access record.
-fn write_access(alloc: Global, out: &mut Writer, bytes: &[u8]) -> Result<(), AllocError>
+/// Tells the members of a management access record.
+fn tell_access<M: Members>(alloc: Global, out: &mut M, bytes: &[u8]) -> Result<(), AllocError>
     requires { 1 ≤ length bytes.now }
-    ensures { OnOk result (Adds 1 (access_members bytes.now) out.old out.new) }
+    ensures { OnOk result (Tells M.told (access_members bytes.now) out.old out.new) }
 {
     let value = access_text(alloc, bytes)?;
-    write_members(
+    put_members(
         out,
         &[
             ("subtype", Value::Integer(u64::from(bytes[0]))),
@@ -148,55 +158,55 @@ fn write_access(alloc: Global, out: &mut Writer, bytes: &[u8]) -> Result<(), All
     )
 }
 
-/// Writes the members of a record by its form.
-fn write_told(
+/// Tells the members of a record by its form.
+fn tell_by_form<M: Members>(
     alloc: Global,
-    out: &mut Writer,
+    out: &mut M,
     form: RecordForm,
     view: &MultiView,
 ) -> Result<(), AllocError>
     requires { form ≡ form_of (record_of view.now) }
-    ensures { OnOk result (AddsSome 1 (AreFormMembers form (record_of view.now)) out.old out.new) }
+    ensures { OnOk result (TellsSome M.told (AreFormMembers form (record_of view.now)) out.old out.new) }
 {
     match form {
         RecordForm::Dc(kind) => {
             let fields = DcFields::of(view.bytes);
-            write_head(out, dc_word(kind), view)?;
-            write_number(out, kind, &fields)?;
-            write_ranges(alloc, out, kind, &fields)
+            tell_head(out, dc_word(kind), view)?;
+            tell_number(out, kind, &fields)?;
+            tell_ranges(alloc, out, kind, &fields)
         }
         RecordForm::Access => {
-            write_head(out, "management_access", view)?;
-            write_access(alloc, out, view.bytes)
+            tell_head(out, "management_access", view)?;
+            tell_access(alloc, out, view.bytes)
         }
-        RecordForm::Other => write_head(out, "other", view),
+        RecordForm::Other => tell_head(out, "other", view),
     }
 }
 
-/// Writes the object of a record.
-fn write_record(alloc: Global, out: &mut Writer, view: &MultiView) -> Result<(), AllocError>
-    ensures { OnOk result (AddsValue 2 (IsRecordObject (record_of view.now)) out.old out.new) }
+/// Tells the object of a record.
+fn tell_item<M: Members>(alloc: Global, out: &mut M, view: &MultiView) -> Result<(), AllocError>
+    ensures { OnOk result (TellsSomeItems M.told (IsItem (IsRecordObject (record_of view.now))) out.old out.new) }
 {
-    out.begin_object()?;
-    write_told(alloc, out, form_of(view), view)?;
-    write_raw(alloc, out, view.bytes)?;
-    out.end_object()
+    out.begin_item()?;
+    tell_by_form(alloc, out, form_of(view), view)?;
+    put_raw(alloc, out, view.bytes)?;
+    out.end()
 }
 
-/// Writes the objects of records, and returns the fault after the last one.
-fn write_objects(
+/// Tells the objects of records, and returns the fault after the last one.
+fn tell_objects<M: Members>(
     alloc: Global,
-    out: &mut Writer,
+    out: &mut M,
     records: Records,
 ) -> Result<Option<MultiFault>, AllocError>
-    ensures objects { OnOk result (AddsItems 2 (AreObjects (records_among (items_left records.entry)))
+    ensures objects { OnOk result (TellsSomeItems M.told (AreObjects (records_among (items_left records.entry)))
         out.old out.new) }
     ensures fault { IfOk result (λ fault. fault ≡ fault_among None (items_left records.entry)) }
 {
     let mut end = None;
     'records: for item in records {
         match item {
-            Ok(view) => write_record(alloc, out, &view)?,
+            Ok(view) => tell_item(alloc, out, &view)?,
             Err(fault) => end = Some(fault),
         }
     }
@@ -224,17 +234,16 @@ fn end_word(end: Option<MultiFault>) -> Option<&'static str>
     }
 }
 
-/// Writes the records of an inventory, and the fault after the last one.
-pub(crate) fn write_records(
+/// Tells the records of an inventory, and the fault after the last one.
+pub(crate) fn tell_records<M: Members>(
     alloc: Global,
-    out: &mut Writer,
+    out: &mut M,
     records: Records,
 ) -> Result<(), AllocError>
-    ensures { OnOk result (AddsSome 3 (AreRecordMembers (items_left records.entry)) out.old out.new) }
+    ensures { OnOk result (TellsSome M.told (AreRecordMembers (items_left records.entry)) out.old out.new) }
 {
-    out.key("records")?;
-    out.begin_array()?;
-    let end = write_objects(alloc, out, records)?;
-    out.end_array()?;
-    write_members(out, &[("records_fault", text_or_null(end_word(end)))])
+    out.begin_list("records")?;
+    let end = tell_objects(alloc, out, records)?;
+    out.end_list()?;
+    out.put("records_fault", text_or_null(end_word(end)))
 }

@@ -1,9 +1,12 @@
 //! A JSON object as a list of members, and its line.
-ghost use Rattle.std.specs.Prelude.{◌≡◌, ◌<◌, ◌++◌, ◌∷◌, [], List, IfOk, IfSome, OnOk, decimal, length, map, option_map, slice_index_or, string_bytes};
+ghost use Rattle.std.specs.Prelude.{◌≡◌, ◌<◌, ◌++◌, [], List, IfOk, IfSome, OnOk, decimal, length, map, option_map, slice_index_or, string_bytes};
 ghost use Rattle.json.specs.Json.{string};
 ghost use Rattle.json.specs.Tree.{json_tokens};
-ghost use Rattle.ipmi_json.specs.Object.{Adds, integer, integer_or_null, IsLineOf, IsOpen, json_of, labels_of, Pair, pairs_of, text_if_any, text_or_null, text_unless_empty, texts};
+ghost use Rattle.ipmi_json.specs.Members.{Tells, Top};
+ghost use Rattle.ipmi_json.specs.Object.{integer, integer_or_null, IsLineOf, json_of, labels_of, Pair, text_if_any, text_or_null, text_unless_empty, texts};
+ghost use Rattle.ipmi_json.specs.Open.{IsOpen, written};
 
+use crate::number::Number;
 use json::Writer;
 use std::alloc::{AllocError, Global};
 use std::fmt::Display;
@@ -46,11 +49,18 @@ pub struct Label<'a> {
 
 /// The value of a member. Texts are lent.
 #[derive(Clone, Copy)]
-pub(crate) enum Value<'a> {
+pub enum Value<'a> {
+    /// Nothing.
     Null,
+    /// Whether something is so.
     Bool(bool),
+    /// A whole number.
     Integer(u64),
+    /// Another number.
+    Number(Number<'a>),
+    /// A text.
     Text(&'a str),
+    /// A list of texts.
     Texts(&'a [String]),
 }
 
@@ -159,60 +169,23 @@ pub(crate) fn write_value(out: &mut Writer, value: Value) -> Result<(), AllocErr
         Value::Null => out.null(),
         Value::Bool(truth) => out.boolean(truth),
         Value::Integer(number) => write_integer(out, number),
+        Value::Number(number) => out.number(number.digits),
         Value::Text(text) => out.string(text),
         Value::Texts(list) => write_texts(out, list),
     }
 }
 
-/// Writes a member.
-#[inline(always)]
-pub(crate) fn write_member(
-    out: &mut Writer,
-    key: &'static str,
-    value: Value,
-) -> Result<(), AllocError>
-    ensures { OnOk result (Adds 1 ((key.entry.now, json_of value.entry) ∷ []) out.old out.new) }
-{
-    out.key(key)?;
-    write_value(out, value)
-}
-
 /// Replaces a text with what a value prints.
-fn set_printed<D: Display + Drop>(text: &mut String, value: D) -> Result<(), AllocError>
+pub(crate) fn set_printed<D: Display + Drop>(text: &mut String, value: D) -> Result<(), AllocError>
     ensures { OnOk result (IfSome (D.output value) (λ printed. string_bytes text.new ≡ printed)) }
 {
     text.clear();
     text.write(value)
 }
 
-/// Writes what a value prints as the text under a key. `text` is used for it.
-#[inline(always)]
-pub(crate) fn write_printed<D: Display + Drop>(
-    out: &mut Writer,
-    text: &mut String,
-    key: &'static str,
-    value: D,
-) -> Result<(), AllocError>
-    ensures { OnOk result (IfSome (D.output value)
-        (λ printed. Adds 1 ((key.entry.now, string printed) ∷ []) out.old out.new)) }
-{
-    set_printed(text, value)?;
-    write_member(out, key, Value::Text(text.as_str()))
-}
-
-/// Writes members, without brackets.
-pub(crate) fn write_members(out: &mut Writer, members: &[Member]) -> Result<(), AllocError>
-    ensures { OnOk result (Adds 1 (pairs_of members.now) out.old out.new) }
-{
-    for member in members {
-        write_member(out, member.0, member.1)?;
-    }
-    Ok(())
-}
-
 /// Writes labels, each as a member.
 fn write_labels(out: &mut Writer, labels: &[Label]) -> Result<(), AllocError>
-    ensures { OnOk result (Adds 1 (labels_of labels.now) out.old out.new) }
+    ensures { OnOk result (Tells written (labels_of labels.now) out.old out.new) }
 {
     for label in labels {
         out.key(label.key)?;
@@ -223,7 +196,7 @@ fn write_labels(out: &mut Writer, labels: &[Label]) -> Result<(), AllocError>
 
 /// Begins an object.
 pub(crate) fn begin(alloc: Global) -> Result<Writer, AllocError>
-    ensures { IfOk result (λ out. IsOpen [] out) }
+    ensures { IfOk result (λ out. IsOpen Top [] out) }
 {
     let mut out = Writer::new(Vec::with_capacity(alloc, LINE_CAPACITY)?);
     out.begin_object()?;
@@ -232,7 +205,7 @@ pub(crate) fn begin(alloc: Global) -> Result<Writer, AllocError>
 
 /// The line of an object whose beginning and members were written, with the labels.
 pub(crate) fn finish(mut out: Writer, labels: &[Label]) -> Result<Vec<u8>, AllocError>
-    ensures { (ms : List Pair) → IsOpen ms out → IfOk result
+    ensures { (ms : List Pair) → IsOpen Top ms out → IfOk result
         (λ line. IsLineOf ms labels.now line.items) }
 {
     write_labels(&mut out, labels)?;
@@ -240,17 +213,4 @@ pub(crate) fn finish(mut out: Writer, labels: &[Label]) -> Result<Vec<u8>, Alloc
     let mut line = out.into_inner();
     line.push(b'\n')?;
     Ok(line)
-}
-
-/// The line of the object with these members.
-pub(crate) fn object_line(
-    alloc: Global,
-    members: &[Member],
-    labels: &[Label],
-) -> Result<Vec<u8>, AllocError>
-    ensures { IfOk result (λ line. IsLineOf (pairs_of members.now) labels.now line.items) }
-{
-    let mut out = begin(alloc)?;
-    write_members(&mut out, members)?;
-    finish(out, labels)
 }

@@ -1,19 +1,16 @@
-//! The objects of sensor data records.
-ghost use Rattle.std.specs.Prelude.{◌≡◌, ◌<◌, ◌++◌, ◌∷◌, [], IfOk, OnOk, codes, drop, length, option_map, slice_get, slice_index};
-ghost use Rattle.json.specs.Json.{string};
-ghost use Rattle.ipmi_text.specs.SensorTypes.{sensor_type_text_of};
+//! What is told of sensor data records, and their objects.
+ghost use Rattle.std.specs.Prelude.{◌≡◌, ◌<◌, ◌∷◌, [], IfOk, OnOk, codes, drop, length, option_map, slice_get, slice_index};
 ghost use Rattle.ipmi_text.specs.Units.{unit_text_of};
 ghost use Rattle.ipmi_records.specs.Prelude.{byte_at, has_bit, locator_in, name_of, shown_of};
-ghost use Rattle.ipmi_json.specs.Object.{Adds, AddsDecimal, AddsSome, integer, IsLineOf, text_unless_empty};
-ghost use Rattle.ipmi_json.specs.Sdr.{AreCompactMembers, AreFullMembers, AreThresholdMembers, AreTold, AreValueMembers, IsSdrLine, bytes_members, controller_members, entity_members, fault_members, fault_word, fru_address, fru_id, fru_locator_members, fru_members, generic_members, kind_word, name_members, raw_shown, sensor_members, shown_members, slave_address, states_in, states_shown, threshold_value, value_shown};
+ghost use Rattle.ipmi_json.specs.Members.{Tells, TellsSome};
+ghost use Rattle.ipmi_json.specs.Object.{IsDecimalOrNull, integer, IsLineOf, json_of, text_unless_empty};
+ghost use Rattle.ipmi_json.specs.Sdr.{AreCompactMembers, AreFullMembers, AreRecordMembers, AreThresholdMembers, AreTold, AreValueMembers, IsSdrLine, bytes_members, controller_members, entity_members, fault_members, fault_word, fru_address, fru_id, fru_locator_members, generic_members, kind_word, name_members, raw_shown, sensor_members, shown_members, slave_address, states_in, states_shown, threshold_value, value_shown};
 
-use crate::number::write_decimal_or_null;
-use crate::object::{
-    Label, Value, begin, finish, integer_or_null, object_line, text_unless_empty, write_member,
-    write_members, write_printed,
-};
-use crate::record::{write_head, write_raw};
-use crate::states::write_state_words;
+use crate::decimal::decimal_or_null;
+use crate::members::{Members, put_members, put_printed};
+use crate::object::{Label, Value, begin, finish, integer_or_null, text_unless_empty};
+use crate::record::{put_raw, tell_head};
+use crate::states::tell_state_words;
 use ipmi_events::{EntityWords, status_in_words};
 use ipmi_records::SdrView::{Compact, Controller, EventOnly, Fru, Full, Generic, Other};
 use ipmi_records::{
@@ -21,7 +18,6 @@ use ipmi_records::{
     Threshold, has_thresholds, shown_of, states_in, status_of,
 };
 use ipmi_text::{Fixed, Reading, SensorType, Units, convert, push_sdr_text, push_units};
-use json::Writer;
 use std::alloc::{AllocError, Global};
 
 /// The capacity for most texts.
@@ -51,57 +47,52 @@ fn kind_word(view: &SdrView) -> &'static str
     }
 }
 
-/// Writes the name of a record, if it has one. `text` is used for it.
-fn write_name(
+/// Tells the name of a record, if it has one. `text` is used for it.
+fn tell_name<M: Members>(
     alloc: Global,
-    out: &mut Writer,
+    out: &mut M,
     text: &mut String,
     view: &SdrView,
 ) -> Result<(), AllocError>
-    ensures { OnOk result (Adds 1 (name_members (name_of view.now)) out.old out.new) }
+    ensures { OnOk result (Tells M.told (name_members (name_of view.now)) out.old out.new) }
 {
     match view.id_string() {
         Some(id) => {
             text.clear();
             push_sdr_text(alloc, text, id.type_length, id.rest)?;
-            write_member(out, "name", text_unless_empty(text.as_str()))
+            out.put("name", text_unless_empty(text.as_str()))
         }
-        None => write_members(out, &[]),
+        None => put_members(out, &[]),
     }
 }
 
-/// Writes the numbers of a sensor.
-fn write_numbers(out: &mut Writer, sensor: &Sensor) -> Result<(), AllocError>
-    ensures { OnOk result (Adds 1 ((codes "owner_id", integer sensor.now.owner)
+/// Tells the numbers of a sensor.
+fn tell_numbers<M: Members>(out: &mut M, sensor: &Sensor) -> Result<(), AllocError>
+    ensures { OnOk result (Tells M.told ((codes "owner_id", integer sensor.now.owner)
         ∷ (codes "owner_lun", integer sensor.now.lun)
         ∷ (codes "sensor_number", integer sensor.now.number) ∷ []) out.old out.new) }
 {
     let number = u64::from(sensor.number);
-    write_member(out, "owner_id", Value::Integer(u64::from(sensor.owner)))?;
-    write_member(out, "owner_lun", Value::Integer(u64::from(sensor.lun)))?;
-    write_member(out, "sensor_number", Value::Integer(number))
+    out.put("owner_id", Value::Integer(u64::from(sensor.owner)))?;
+    out.put("owner_lun", Value::Integer(u64::from(sensor.lun)))?;
+    out.put("sensor_number", Value::Integer(number))
 }
 
-/// Writes the types of a sensor. `text` is used for the name of the first.
-fn write_types(out: &mut Writer, text: &mut String, sensor: &Sensor) -> Result<(), AllocError>
-    ensures { OnOk result (Adds 1 ((codes "sensor_type", integer sensor.now.sensor_type)
-        ∷ (codes "sensor_type_name", string (sensor_type_text_of sensor.now.sensor_type))
-        ∷ (codes "event_type", integer sensor.now.event_type) ∷ []) out.old out.new) }
+/// Tells what a record tells of its sensor. `text` is used for its texts.
+fn tell_sensor<M: Members>(
+    out: &mut M,
+    text: &mut String,
+    sensor: &Sensor,
+) -> Result<(), AllocError>
+    ensures { OnOk result (Tells M.told (sensor_members sensor.now) out.old out.new) }
 {
     let kind = sensor.sensor_type;
     let event_type = u64::from(sensor.event_type);
-    write_member(out, "sensor_type", Value::Integer(u64::from(kind)))?;
-    write_printed(out, text, "sensor_type_name", SensorType(kind))?;
-    write_member(out, "event_type", Value::Integer(event_type))
-}
-
-/// Writes what a record tells of its sensor. `text` is used for its texts.
-fn write_sensor(out: &mut Writer, text: &mut String, sensor: &Sensor) -> Result<(), AllocError>
-    ensures { OnOk result (Adds 1 (sensor_members sensor.now) out.old out.new) }
-{
-    write_numbers(out, sensor)?;
-    write_entity(out, text, sensor.entity)?;
-    write_types(out, text, sensor)
+    tell_numbers(out, sensor)?;
+    tell_entity(out, text, sensor.entity)?;
+    out.put("sensor_type", Value::Integer(u64::from(kind)))?;
+    put_printed(out, text, "sensor_type_name", SensorType(kind))?;
+    out.put("event_type", Value::Integer(event_type))
 }
 
 /// The raw byte of the reading, if there is one.
@@ -153,56 +144,49 @@ fn after_first(text: &str) -> &str
     if text.is_empty() { text } else { &text[1..] }
 }
 
-/// Writes units, or null if they have no text. `text` is used for it.
-fn write_unit(out: &mut Writer, text: &mut String, units: Units) -> Result<(), AllocError>
-    ensures { OnOk result (Adds 1 ((
-      codes "unit",
-      text_unless_empty
-          (unit_text_of units.units1 units.base units.modifier),
-    ) ∷ []) out.old out.new) }
+/// The text of units, or null if they have none. `text` is used for it.
+fn unit_or_null(text: &mut String, units: Units) -> Result<Value<'_>, AllocError>
+    ensures { IfOk result (λ unit. json_of unit ≡
+        text_unless_empty (unit_text_of units.units1 units.base units.modifier)) }
 {
     text.clear();
     push_units(text, units)?;
-    let unit = after_first(text.as_str());
-    write_member(out, "unit", text_unless_empty(unit))
+    Ok(text_unless_empty(after_first(text.as_str())))
 }
 
-/// Writes the value of a sensor and its unit. `text` is used for their texts.
-fn write_value(
-    out: &mut Writer,
+/// Tells the value of a sensor and its unit. `text` is used for their texts.
+fn tell_value<M: Members>(
+    out: &mut M,
     text: &mut String,
     value: Option<Fixed>,
     units: Units,
 ) -> Result<(), AllocError>
-    ensures { OnOk result (AddsSome 1 (AreValueMembers (option_map (λ value. value.0) value) units)
+    ensures { OnOk result (TellsSome M.told (AreValueMembers (option_map (λ value. value.0) value) units)
         out.old out.new) }
 {
-    write_decimal_or_null(out, text, "reading", value)?;
-    write_unit(out, text, units)
+    out.put("reading", decimal_or_null(text, value)?)?;
+    out.put("unit", unit_or_null(text, units)?)
 }
 
-/// Writes what else a sensor shows.
-fn write_shown(
+/// Tells what else a sensor shows.
+fn tell_shown<M: Members>(
     alloc: Global,
-    out: &mut Writer,
+    out: &mut M,
     sensor: &Sensor,
     reading: Option<Reading>,
     status: &'static str,
 ) -> Result<(), AllocError>
     ensures { OnOk result
-        (Adds 1 (shown_members sensor.now (shown_of sensor.now reading) status.entry.now)
+        (Tells M.told (shown_members sensor.now (shown_of sensor.now reading) status.entry.now)
         out.old out.new) }
 {
     let shown = shown_of(sensor, reading);
-    write_member(out, "reading_raw", integer_or_null(raw_shown(shown)))?;
-    write_member(out, "states", integer_or_null(states_shown(sensor, shown)))?;
-    write_state_words(alloc, out, sensor, shown)?;
-    write_member(out, "status", Value::Text(status))?;
-    write_member(
-        out,
-        "status_words",
-        Value::Text(status_in_words(sensor, reading)),
-    )
+    let words = status_in_words(sensor, reading);
+    out.put("reading_raw", integer_or_null(raw_shown(shown)))?;
+    out.put("states", integer_or_null(states_shown(sensor, shown)))?;
+    tell_state_words(alloc, out, sensor, shown)?;
+    out.put("status", Value::Text(status))?;
+    out.put("status_words", Value::Text(words))
 }
 
 /// The value of a threshold.
@@ -216,72 +200,55 @@ fn threshold_value(full: &FullSensor, threshold: Threshold) -> Option<Fixed>
     }
 }
 
-/// Writes the exact decimal of a threshold under a key, or null. `text` is used for it.
-#[inline(always)]
-fn write_threshold(
-    out: &mut Writer,
-    text: &mut String,
-    key: &'static str,
+/// The exact decimal of a threshold, or null. `text` is used for it.
+fn threshold<'a>(
+    text: &'a mut String,
     full: &FullSensor,
     threshold: Threshold,
-) -> Result<(), AllocError>
-    ensures { OnOk result
-        (AddsDecimal key.entry.now (threshold_value threshold full.now) out.old out.new) }
+) -> Result<Value<'a>, AllocError>
+    ensures { IfOk result (λ v. IsDecimalOrNull (threshold_value threshold full.now) (json_of v)) }
 {
-    write_decimal_or_null(out, text, key, threshold_value(full, threshold))
+    decimal_or_null(text, threshold_value(full, threshold))
 }
 
-/// Writes the thresholds that a full record has. `text` is used for their texts.
-fn write_thresholds(
-    out: &mut Writer,
+/// Tells the thresholds that a full record has. `text` is used for their texts.
+fn tell_thresholds<M: Members>(
+    out: &mut M,
     text: &mut String,
     full: &FullSensor,
 ) -> Result<(), AllocError>
-    ensures { OnOk result (AddsSome 1 (AreThresholdMembers full.now) out.old out.new) }
+    ensures { OnOk result (TellsSome M.told (AreThresholdMembers full.now) out.old out.new) }
 {
-    write_threshold(
-        out,
-        text,
-        "upper_non_recoverable",
-        full,
-        Threshold::UpperNonRecoverable,
+    let unr = Threshold::UpperNonRecoverable;
+    let lnr = Threshold::LowerNonRecoverable;
+    out.put("upper_non_recoverable", threshold(text, full, unr)?)?;
+    out.put(
+        "upper_critical",
+        threshold(text, full, Threshold::UpperCritical)?,
     )?;
-    write_threshold(out, text, "upper_critical", full, Threshold::UpperCritical)?;
-    write_threshold(
-        out,
-        text,
+    out.put(
         "upper_non_critical",
-        full,
-        Threshold::UpperNonCritical,
+        threshold(text, full, Threshold::UpperNonCritical)?,
     )?;
-    write_threshold(
-        out,
-        text,
-        "lower_non_recoverable",
-        full,
-        Threshold::LowerNonRecoverable,
+    out.put("lower_non_recoverable", threshold(text, full, lnr)?)?;
+    out.put(
+        "lower_critical",
+        threshold(text, full, Threshold::LowerCritical)?,
     )?;
-    write_threshold(out, text, "lower_critical", full, Threshold::LowerCritical)?;
-    write_threshold(
-        out,
-        text,
+    out.put(
         "lower_non_critical",
-        full,
-        Threshold::LowerNonCritical,
+        threshold(text, full, Threshold::LowerNonCritical)?,
     )
 }
 
-/// Writes the entity of a device. `text` is used for it.
-fn write_entity(out: &mut Writer, text: &mut String, entity: Entity) -> Result<(), AllocError>
-    ensures { OnOk result (Adds 1 (entity_members entity) out.old out.new) }
+/// Tells the entity of a device. `text` is used for it.
+fn tell_entity<M: Members>(out: &mut M, text: &mut String, entity: Entity) -> Result<(), AllocError>
+    ensures { OnOk result (Tells M.told (entity_members entity) out.old out.new) }
 {
-    write_member(out, "entity_id", Value::Integer(u64::from(entity.id)))?;
-    write_printed(out, text, "entity_name", EntityWords(entity.id))?;
-    write_member(
-        out,
-        "entity_instance",
-        Value::Integer(u64::from(entity.instance)),
-    )
+    let instance = u64::from(entity.instance);
+    out.put("entity_id", Value::Integer(u64::from(entity.id)))?;
+    put_printed(out, text, "entity_name", EntityWords(entity.id))?;
+    out.put("entity_instance", Value::Integer(instance))
 }
 
 /// The slave address in a byte. Bit 0 is not part of it.
@@ -298,21 +265,21 @@ fn slave_byte(bytes: &[u8]) -> u8
     bytes.get(SLAVE_ADDRESS).copied().unwrap_or(0)
 }
 
-/// Writes what a generic locator tells of its device. `text` is used for the entity, `bytes` are the record.
-fn write_generic(
-    out: &mut Writer,
+/// Tells what a generic locator tells of its device. `text` is used for the entity, `bytes` are the record.
+fn tell_generic<M: Members>(
+    out: &mut M,
     text: &mut String,
     locator: &Locator,
     bytes: &[u8],
 ) -> Result<(), AllocError>
     requires { locator.now ≡ locator_in bytes.now }
-    ensures { OnOk result (Adds 1 (generic_members bytes.now) out.old out.new) }
+    ensures { OnOk result (Tells M.told (generic_members bytes.now) out.old out.new) }
 {
     let access = slave_address(locator.address);
     let own = slave_address(slave_byte(bytes));
-    write_member(out, "device_access_address", Value::Integer(access))?;
-    write_member(out, "device_slave_address", Value::Integer(own))?;
-    write_entity(out, text, locator.entity)
+    out.put("device_access_address", Value::Integer(access))?;
+    out.put("device_slave_address", Value::Integer(own))?;
+    tell_entity(out, text, locator.entity)
 }
 
 /// The FRU device id of a logical device.
@@ -337,108 +304,112 @@ fn fru_address(fru: &FruLocator) -> Option<u64>
     }
 }
 
-/// Writes the members for reaching a FRU device.
-fn write_fru(out: &mut Writer, fru: &FruLocator) -> Result<(), AllocError>
-    ensures { OnOk result (Adds 1 (fru_members fru.now) out.old out.new) }
+/// Tells what a FRU locator tells. `text` is used for the entity.
+fn tell_fru<M: Members>(out: &mut M, text: &mut String, fru: &FruLocator) -> Result<(), AllocError>
+    ensures { OnOk result (Tells M.told (fru_locator_members fru.now) out.old out.new) }
 {
     let access = slave_address(fru.locator().address);
-    write_member(out, "device_access_address", Value::Integer(access))?;
-    write_member(out, "fru_device_id", integer_or_null(fru_id(fru)))?;
-    write_member(
-        out,
-        "device_slave_address",
-        integer_or_null(fru_address(fru)),
-    )?;
-    write_member(out, "is_logical", Value::Bool(fru.is_logical()))?;
-    write_member(out, "access_lun", Value::Integer(u64::from(fru.lun())))
+    let own = integer_or_null(fru_address(fru));
+    out.put("device_access_address", Value::Integer(access))?;
+    out.put("fru_device_id", integer_or_null(fru_id(fru)))?;
+    out.put("device_slave_address", own)?;
+    out.put("is_logical", Value::Bool(fru.is_logical()))?;
+    out.put("access_lun", Value::Integer(u64::from(fru.lun())))?;
+    tell_entity(out, text, fru.locator().entity)
 }
 
-/// Writes what a FRU locator tells. `text` is used for the entity.
-fn write_fru_locator(
-    out: &mut Writer,
-    text: &mut String,
-    fru: &FruLocator,
-) -> Result<(), AllocError>
-    ensures { OnOk result (Adds 1 (fru_locator_members fru.now) out.old out.new) }
-{
-    write_fru(out, fru)?;
-    write_entity(out, text, fru.locator().entity)
-}
-
-/// Writes what the locator of a controller tells. `text` is used for the entity.
-fn write_controller(
-    out: &mut Writer,
+/// Tells what the locator of a controller tells. `text` is used for the entity.
+fn tell_controller<M: Members>(
+    out: &mut M,
     text: &mut String,
     locator: &Locator,
 ) -> Result<(), AllocError>
-    ensures { OnOk result (Adds 1 (controller_members locator.now) out.old out.new) }
+    ensures { OnOk result (Tells M.told (controller_members locator.now) out.old out.new) }
 {
     let address = slave_address(locator.address);
-    write_member(out, "device_slave_address", Value::Integer(address))?;
-    write_entity(out, text, locator.entity)
+    out.put("device_slave_address", Value::Integer(address))?;
+    tell_entity(out, text, locator.entity)
 }
 
-/// Writes what a full record tells. `text` is used for its texts.
-fn write_full(
+/// Tells what a full record tells. `text` is used for its texts.
+fn tell_full<M: Members>(
     alloc: Global,
-    out: &mut Writer,
+    out: &mut M,
     text: &mut String,
     full: &FullSensor,
     reading: Option<Reading>,
     status: &'static str,
 ) -> Result<(), AllocError>
     ensures { OnOk result
-        (AddsSome 1 (AreFullMembers full.now reading status.entry.now) out.old out.new) }
+        (TellsSome M.told (AreFullMembers full.now reading status.entry.now) out.old out.new) }
 {
     let sensor = full.sensor();
     let value = value_shown(full, shown_of(&sensor, reading));
-    write_sensor(out, text, &sensor)?;
-    write_value(out, text, value, full.units())?;
-    write_shown(alloc, out, &sensor, reading, status)?;
-    write_thresholds(out, text, full)
+    tell_sensor(out, text, &sensor)?;
+    tell_value(out, text, value, full.units())?;
+    tell_shown(alloc, out, &sensor, reading, status)?;
+    tell_thresholds(out, text, full)
 }
 
-/// Writes what a compact record tells. `text` is used for its texts.
-fn write_compact(
+/// Tells what a compact record tells. `text` is used for its texts.
+fn tell_compact<M: Members>(
     alloc: Global,
-    out: &mut Writer,
+    out: &mut M,
     text: &mut String,
     compact: &CompactSensor,
     reading: Option<Reading>,
     status: &'static str,
 ) -> Result<(), AllocError>
     ensures { OnOk result
-        (AddsSome 1 (AreCompactMembers compact.now reading status.entry.now) out.old out.new) }
+        (TellsSome M.told (AreCompactMembers compact.now reading status.entry.now) out.old out.new) }
 {
     let sensor = compact.sensor();
-    write_sensor(out, text, &sensor)?;
-    write_value(out, text, None, compact.units())?;
-    write_shown(alloc, out, &sensor, reading, status)
+    tell_sensor(out, text, &sensor)?;
+    tell_value(out, text, None, compact.units())?;
+    tell_shown(alloc, out, &sensor, reading, status)
 }
 
-/// Writes what the record tells by its kind. `text` is used for its texts.
-fn write_told(
+/// Tells the members of a record by its kind. `text` is used for its texts.
+fn tell_by_kind<M: Members>(
     alloc: Global,
-    out: &mut Writer,
+    out: &mut M,
     text: &mut String,
     view: &SdrView,
     reading: Option<Reading>,
 ) -> Result<(), AllocError>
-    ensures { OnOk result (AddsSome 1 (AreTold view.now reading) out.old out.new) }
+    ensures { OnOk result (TellsSome M.told (AreTold view.now reading) out.old out.new) }
 {
     let status = status_of(view, reading);
     match view {
-        Full(full) => write_full(alloc, out, text, full, reading, status),
-        Compact(compact) => write_compact(alloc, out, text, compact, reading, status),
-        EventOnly(event_only) => write_sensor(out, text, &event_only.sensor()),
-        Generic(generic) => write_generic(out, text, &generic.locator(), view.bytes()),
-        Fru(fru) => write_fru_locator(out, text, fru),
-        Controller(controller) => write_controller(out, text, &controller.locator()),
-        Other(_) => write_members(out, &[]),
+        Full(full) => tell_full(alloc, out, text, full, reading, status),
+        Compact(compact) => tell_compact(alloc, out, text, compact, reading, status),
+        EventOnly(event_only) => tell_sensor(out, text, &event_only.sensor()),
+        Generic(generic) => tell_generic(out, text, &generic.locator(), view.bytes()),
+        Fru(fru) => tell_fru(out, text, fru),
+        Controller(controller) => tell_controller(out, text, &controller.locator()),
+        Other(_) => put_members(out, &[]),
     }
 }
 
-/// The line of a record with its id: its object, with the answer of Get Sensor Reading for its sensor, if there is one.
+/// Tells the members of a record with its id, and with the answer of Get Sensor Reading for its sensor, if there is one. The
+/// members are flat: each threshold is a member of the record itself, with a key of its own.
+pub fn tell_record<M: Members>(
+    alloc: Global,
+    out: &mut M,
+    id: u16,
+    view: &SdrView,
+    reading: Option<Reading>,
+) -> Result<(), AllocError>
+    ensures { OnOk result (TellsSome M.told (AreRecordMembers id view.now reading) out.old out.new) }
+{
+    let mut text = String::with_capacity(alloc, TEXT_CAPACITY)?;
+    tell_head(out, "sdr_record", id, view.record_type(), kind_word(view))?;
+    tell_name(alloc, out, &mut text, view)?;
+    tell_by_kind(alloc, out, &mut text, view, reading)?;
+    put_raw(alloc, out, view.bytes())
+}
+
+/// The line of a record with its id: its object, of the members that `tell_record` tells.
 pub fn sdr_record_line(
     alloc: Global,
     id: u16,
@@ -448,18 +419,8 @@ pub fn sdr_record_line(
 ) -> Result<Vec<u8>, AllocError>
     ensures { IfOk result (λ line. IsSdrLine id view.now reading labels.now line.items) }
 {
-    let mut text = String::with_capacity(alloc, TEXT_CAPACITY)?;
     let mut out = begin(alloc)?;
-    write_head(
-        &mut out,
-        "sdr_record",
-        id,
-        view.record_type(),
-        kind_word(view),
-    )?;
-    write_name(alloc, &mut out, &mut text, view)?;
-    write_told(alloc, &mut out, &mut text, view, reading)?;
-    write_raw(alloc, &mut out, view.bytes())?;
+    tell_record(alloc, &mut out, id, view, reading)?;
     finish(out, labels)
 }
 
@@ -481,17 +442,17 @@ fn fault_word(fault: SdrFault) -> &'static str
     }
 }
 
-/// Writes the members of a record with a fault.
-fn write_fault(
+/// Tells the members of a record with a fault, with its id.
+pub fn tell_faulty_record<M: Members>(
     alloc: Global,
-    out: &mut Writer,
+    out: &mut M,
     id: u16,
     fault: SdrFault,
     bytes: &[u8],
 ) -> Result<(), AllocError>
-    ensures { OnOk result (Adds 1 (fault_members id fault bytes.now) out.old out.new) }
+    ensures { OnOk result (Tells M.told (fault_members id fault bytes.now) out.old out.new) }
 {
-    write_members(
+    put_members(
         out,
         &[
             ("object", Value::Text("sdr_record")),
@@ -501,7 +462,7 @@ fn write_fault(
             ("fault", Value::Text(fault_word(fault))),
         ],
     )?;
-    write_raw(alloc, out, bytes)
+    put_raw(alloc, out, bytes)
 }
 
 /// The line of a record with a fault: its object, with its bytes.
@@ -515,8 +476,29 @@ pub fn sdr_fault_line(
     ensures { IfOk result (λ line. IsLineOf (fault_members id fault bytes.now) labels.now line.items) }
 {
     let mut out = begin(alloc)?;
-    write_fault(alloc, &mut out, id, fault, bytes)?;
+    tell_faulty_record(alloc, &mut out, id, fault, bytes)?;
     finish(out, labels)
+}
+
+/// Tells the members of a raw record: its id, the id of the next record, and its bytes.
+pub fn tell_raw_record<M: Members>(
+    alloc: Global,
+    out: &mut M,
+    id: u16,
+    next: u16,
+    bytes: &[u8],
+) -> Result<(), AllocError>
+    ensures { OnOk result (Tells M.told (bytes_members id next bytes.now) out.old out.new) }
+{
+    put_members(
+        out,
+        &[
+            ("object", Value::Text("sdr_raw")),
+            ("record_id", Value::Integer(u64::from(id))),
+            ("next_record_id", Value::Integer(u64::from(next))),
+        ],
+    )?;
+    put_raw(alloc, out, bytes)
 }
 
 /// The line of a raw record, with the id of the next record: the object of `sdr hex`.
@@ -529,15 +511,7 @@ pub fn sdr_raw_line(
 ) -> Result<Vec<u8>, AllocError>
     ensures { IfOk result (λ line. IsLineOf (bytes_members id next bytes.now) labels.now line.items) }
 {
-    let raw = hex::encode(alloc, bytes)?;
-    object_line(
-        alloc,
-        &[
-            ("object", Value::Text("sdr_raw")),
-            ("record_id", Value::Integer(u64::from(id))),
-            ("next_record_id", Value::Integer(u64::from(next))),
-            ("raw", Value::Text(raw.as_str())),
-        ],
-        labels,
-    )
+    let mut out = begin(alloc)?;
+    tell_raw_record(alloc, &mut out, id, next, bytes)?;
+    finish(out, labels)
 }

@@ -2,13 +2,13 @@
 ghost use Rattle.std.specs.Prelude.{◌≡◌, ◌<◌, ◌∷◌, [], IfOk, OnOk, codes, map, string_bytes};
 ghost use Rattle.ipmi_records.specs.Prelude.{has_bit};
 ghost use Rattle.ipmi_events.specs.States.{state_words};
-ghost use Rattle.ipmi_json.specs.Object.{Adds};
+ghost use Rattle.ipmi_json.specs.Members.{Tells};
 ghost use Rattle.ipmi_json.specs.Sdr.{state_words_shown, texts_of_states};
 
-use crate::object::{Value, write_member};
+use crate::members::Members;
+use crate::object::Value;
 use ipmi_events::event_words;
 use ipmi_records::{Sensor, Shown, has_thresholds, states_in};
-use json::Writer;
 use std::alloc::{AllocError, Global};
 
 /// The number of states of a discrete sensor (IPMI v2.0, section 35.14).
@@ -47,22 +47,22 @@ fn texts_of_states(alloc: Global, sensor: &Sensor, states: u16) -> Result<Vec<St
     Ok(texts)
 }
 
-/// Writes the words of the states that a reading shows; null without a reading, and of a sensor with thresholds.
-pub(crate) fn write_state_words(
+/// Tells the words of the states that a reading shows; null without a reading, and of a sensor with thresholds.
+pub(crate) fn tell_state_words<M: Members>(
     alloc: Global,
-    out: &mut Writer,
+    out: &mut M,
     sensor: &Sensor,
     shown: Shown,
 ) -> Result<(), AllocError>
-    ensures { OnOk result (Adds 1 ((codes "state_words", state_words_shown sensor.now shown) ∷ [])
+    ensures { OnOk result (Tells M.told ((codes "state_words", state_words_shown sensor.now shown) ∷ [])
         out.old out.new) }
 {
     let Shown::Value(reading) = shown else {
-        return write_member(out, "state_words", Value::Null);
+        return out.put("state_words", Value::Null);
     };
     if has_thresholds(sensor) {
-        return write_member(out, "state_words", Value::Null);
+        return out.put("state_words", Value::Null);
     }
     let texts = texts_of_states(alloc, sensor, states_in(reading))?;
-    write_member(out, "state_words", Value::Texts(texts.as_slice()))
+    out.put("state_words", Value::Texts(texts.as_slice()))
 }

@@ -1,12 +1,9 @@
 //! Times in the format of ISO 8601.
-ghost use Rattle.std.specs.Prelude.{◌≡◌, ◌+◌, ◌<◌, ◌≤◌, ◌++◌, ◌∷◌, [], IfOk, OnOk, codes, drop, length, option_map, slice_index, string_bytes, take};
+ghost use Rattle.std.specs.Prelude.{◌≡◌, ◌+◌, ◌<◌, ◌≤◌, ◌++◌, IfOk, OnOk, codes, drop, length, option_map, slice_index, string_bytes, take};
 ghost use Rattle.ipmi_text.specs.Times.{IsUtcTextOf};
-ghost use Rattle.ipmi_json.specs.Object.{Adds, integer, text_or_null};
 ghost use Rattle.ipmi_json.specs.Time.{IsIsoMinuteOf, IsIsoTimeOf};
 
-use crate::object::{Value, text_or_null, write_member};
 use ipmi_text::{UtcTime, minutes_text};
-use json::Writer;
 use std::alloc::{AllocError, Global};
 
 /// The last time stamp that is relative to the start of the controller's clock.
@@ -17,22 +14,6 @@ const TO_THE_SECOND: usize = 9;
 
 /// The length of a space and a time of day without seconds.
 const TO_THE_MINUTE: usize = 6;
-
-/// Writes a point in time under a key, and the time stamp that it is from under another.
-#[inline(always)]
-pub(crate) fn write_time(
-    out: &mut Writer,
-    key: &'static str,
-    raw_key: &'static str,
-    time: Option<&str>,
-    stamp: u32,
-) -> Result<(), AllocError>
-    ensures { OnOk result (Adds 1 ((key.entry.now, text_or_null (option_map (λ s. s.now) time.entry))
-        ∷ (raw_key.entry.now, integer stamp) ∷ []) out.old out.new) }
-{
-    write_member(out, key, text_or_null(time))?;
-    write_member(out, raw_key, Value::Integer(u64::from(stamp)))
-}
 
 /// Rewrites a date, a space and a time of day in the format of ISO 8601, with `end` after them.
 fn make_iso(text: &mut String, space: usize, end: &str) -> Result<(), AllocError>

@@ -2,3 +2,4 @@ pub mod Answer
 pub mod Causes
 pub mod Input
 pub mod Printing
+pub mod Wording

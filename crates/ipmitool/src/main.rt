@@ -4,8 +4,8 @@
 
 pub use ipmi_command_line::{Command, Count, Kind, Task, UsageFault, Word, Words, command_of};
 pub use ipmi_commands::{
-    Job, RequestLimits, Summary, Wording, answer, execute, execute_image, execute_pages, report,
-    run, run_pages, write_image,
+    Job, Plain, RequestLimits, Summary, answer, execute, execute_image, execute_pages, report, run,
+    run_pages, write_image,
 };
 pub use ipmi_output::{
     Failure, MessageSink, Sink, SinkFault, Written, write_failure, write_unreadable,

@@ -13,7 +13,7 @@ use ipmi_bus::{
     read_fru, read_reading,
 };
 use ipmi_command_line::{DEFAULT_PART, DEFAULT_TRIES, Kind, Task};
-use ipmi_commands::{Job, RequestLimits, Summary, Wording, execute};
+use ipmi_commands::{Job, Plain, RequestLimits, Summary, execute};
 use ipmi_fru::{AreaFault, FruFault, FruView};
 use ipmi_output::{Failure, Written};
 use ipmi_records::SdrView;
@@ -269,11 +269,19 @@ fn program(rt: &HostRuntime) -> io::Result<()> {
     };
     let task = Task::List(Kind::All);
     // each task but `image rewrite` has a job
-    let job = Job::of(&task, None, Wording::Plain).unwrap();
+    let job = Job::of(&Plain, &task, None).unwrap();
     let limits = RequestLimits::new(DEFAULT_PART, DEFAULT_TRIES);
     let mut out = Written::new(io::writer(rt));
     let mut summary = Summary::new();
-    if let Err(failure) = execute(rt.alloc(), &mut ctl, limits, job, &mut out, &mut summary) {
+    if let Err(failure) = execute(
+        rt.alloc(),
+        &mut ctl,
+        limits,
+        &Plain,
+        job,
+        &mut out,
+        &mut summary,
+    ) {
         explain(rt, &failure)?;
     }
     match value_named(rt.alloc(), &mut ctl, "Temp") {

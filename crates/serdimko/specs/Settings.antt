@@ -5,7 +5,7 @@ use Rattle.ipmi_command_line.specs.Command.{IsTask}
 use Rattle.ipmi_command_line.specs.declared.request.Format.{Format}
 use Rattle.ipmi_commands.specs.Job.{IsFrom}
 use Rattle.serdimko.specs.declared.driver.Query.{Query}
-use Rattle.ipmi_commands.specs.declared.job.Wording.{Wording}
+use Rattle.ipmi_program.specs.declared.wording.Wording.{Wording}
 use Rattle.ipmi_json.specs.declared.object.Label.{Label}
 
 -- the numbers of a query are in their ranges

@@ -17,7 +17,7 @@ use crate::run_error::RunError;
 use ipmi_bus::Controller;
 use ipmi_command_line::{Task, Word, Words};
 use ipmi_commands::{
-    FoundSensors, Job, RequestLimits, Summary, execute, find_sensors, print_sensors,
+    Format, FoundSensors, Job, RequestLimits, Summary, execute, find_sensors, print_sensors,
 };
 use ipmi_image::SnapshotController;
 use ipmi_output::{Failure, MessageSink, RecordName};
@@ -63,10 +63,11 @@ pub(crate) enum Query {
 }
 
 /// Runs the job, which keeps last entries in memory. Without one, as for `image rewrite`, the run fails.
-fn run_job<'a, C: Controller, W: Write + Drop>(
+fn run_job<'a, F: Format, C: Controller, W: Write + Drop>(
     alloc: Global,
     ctl: &mut C,
     limits: RequestLimits,
+    format: &F,
     job: Option<Job<'a>>,
     out: &mut Output<W>,
     summary: &mut Summary,
@@ -74,11 +75,11 @@ fn run_job<'a, C: Controller, W: Write + Drop>(
     requires { IfSome job (λ job. IsJob job) }
     ensures faults { (out_of out.new).faults ≡ (out_of out.old).faults + write_faults result }
     ensures asked { AsksAtMost limits.part (C.seen ctl.old) (C.seen ctl.new) }
-    ensures runs { RunsCommand (option_map keeping_last job.entry) limits.tries (change (C.seen ctl.old) (C.seen ctl.new)
+    ensures runs { RunsCommand (F.texts format.now) (option_map keeping_last job.entry) limits.tries (change (C.seen ctl.old) (C.seen ctl.new)
         (printed (out_of out.old).taken summary.old) (printed (out_of out.new).taken summary.new)) result }
 {
     match job {
-        Some(job) => execute(alloc, ctl, limits, job.keeping_last(), out, summary),
+        Some(job) => execute(alloc, ctl, limits, format, job.keeping_last(), out, summary),
         None => Err(Failure::Usage),
     }
 }
@@ -100,8 +101,8 @@ fn run_task<'a, C: Connection, W: Write + Drop>(
         (state (C.seen ctl.new) (⟦<C as Connection>⟧.lost ctl.new) (out_of out.new)) result }
 {
     let mut summary = Summary::new();
-    let job = Job::of(task, from, report.wording);
-    let ending = run_job(alloc, ctl, limits, job, out, &mut summary);
+    let job = Job::of(&report.wording, task, from);
+    let ending = run_job(alloc, ctl, limits, &report.wording, job, out, &mut summary);
     let said = ctl.last_line(alloc);
     end_run(alloc, report, ending, said, &summary, out)
 }
@@ -118,7 +119,7 @@ fn run_name<'a, W: Write + Drop>(
         (out_of out.old) (out_of out.new) result }
 {
     let mut summary = Summary::new();
-    let ending = match print_sensors(alloc, found, name, report.wording, out, &mut summary) {
+    let ending = match print_sensors(alloc, found, name, &report.wording, out, &mut summary) {
         Ok(()) if summary.pieces() == 0 => Err(Failure::NoName(RecordName::new(name))),
         ending => ending,
     };
@@ -162,7 +163,7 @@ fn print_names<'a, W: Write + Drop>(
         (printed (out_of out.old).taken summary.old) (printed (out_of out.new).taken summary.new) result }
 {
     for name in names {
-        match print_sensors(alloc, found, name.as_str(), report.wording, out, summary) {
+        match print_sensors(alloc, found, name.as_str(), &report.wording, out, summary) {
             Ok(()) => {}
             Err(failure) => return Err(failure),
         }

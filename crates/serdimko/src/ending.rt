@@ -14,10 +14,10 @@ use crate::outcome::Outcome;
 use crate::reason::reason_of;
 use crate::report::Report;
 use crate::run_error::RunError;
-use ipmi_commands::{Summary, Wording};
+use ipmi_commands::Summary;
 use ipmi_json::{Label, end_line};
 use ipmi_output::{Failure, Sink, SinkFault, write_all, write_message};
-use ipmi_program::flush;
+use ipmi_program::{Wording, flush};
 use std::alloc::{AllocError, Global};
 use std::io::Write;
 

@@ -7,9 +7,10 @@ ghost use Rattle.serdimko.specs.Settings.{is_headed, texts_of, wording_of};
 use crate::outcome::Outcome;
 use crate::run_error::RunError;
 use ipmi_command_line::{Format, Word};
-use ipmi_commands::{RequestLimits, Wording};
+use ipmi_commands::RequestLimits;
 use ipmi_json::Label;
 use ipmi_output::{MessageSink, write_message};
+use ipmi_program::Wording;
 
 /// What holds for all inputs of a request.
 #[derive(Drop)]

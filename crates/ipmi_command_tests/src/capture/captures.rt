@@ -1,7 +1,7 @@
 //! Captures of controllers over an image: the text of the captured image, and a line for each item left out.
 use ipmi_bus::{Code, Controller, Ended, FruEnded, Shelf};
 use ipmi_capture::{Captured, Left, Progress, Unread, capture};
-use ipmi_image::{Image, ImageController, Mood, Scripted, image_text};
+use ipmi_image::{Image, ImageController, Mood, Scripted, WithRecords, image_text};
 use std::alloc::Global;
 use std::process::Abort;
 
@@ -38,6 +38,19 @@ sel 0001 - 01000201000020200004013001595f5a
 fru 01 010203
 reading 0 30 2dc00000
 info sdr 510300000401000020ffffffff02
+info sel 510100000201000000ffffffff00
+end
+";
+
+/// `SAVED` with another time of the last addition of a sensor data record.
+const EARLIER: &str = "ipmi-image 2
+sdr 0001 - 010051021b2000300000000000000000000000000000000000000000000000c0
+sdr 0002 - 020051110b20018000000000000000c0
+sel 0001 - 01000201000020200004013001595f5a
+fru 00 0100
+fru 01 010203
+reading 0 30 2dc00000
+info sdr 510300000400000020ffffffff02
 info sel 510100000201000000ffffffff00
 end
 ";
@@ -220,7 +233,7 @@ fn troubles_are_counted_for_each_part_of_an_inventory(rt: HostRuntime) {
     drop(ctl);
 }
 
-// The calls over `SAVED`: a reservation, two records; a reservation, the entry; the infos; the reading; the size and the bytes of
+// The calls over `SAVED`: an info, a reservation, two records; an info, a reservation, the entry; the reading; the size and the bytes of
 // both inventories.
 
 #[test]
@@ -262,7 +275,25 @@ fn an_inventory_that_is_cut_off_is_missed(rt: HostRuntime) {
 fn an_inventory_that_is_gone_is_absent(rt: HostRuntime) {
     let alloc = rt.alloc();
     assert_capture_in_moods(&rt, alloc, 9, "byte lose", WITHOUT_INVENTORY, "");
-    assert_capture_in_moods(&rt, alloc, 9, "byte lose refuse", WITHOUT_INVENTORY, "");
+    assert_capture_in_moods(
+        &rt,
+        alloc,
+        9,
+        "byte lose busy busy cancel",
+        WITHOUT_INVENTORY,
+        "",
+    );
+}
+
+// After CBh the size is requested once more, and neither it nor CBh comes.
+#[test]
+fn an_inventory_that_may_be_there_is_missed(rt: HostRuntime) {
+    let alloc = rt.alloc();
+    let left = "fru 00: gave up\nnot whole\n";
+    let moods = "byte lose busy busy busy busy";
+    assert_capture_in_moods(&rt, alloc, 9, moods, WITHOUT_INVENTORY, left);
+    let left = "fru 00: refused with code C1h\nnot whole\n";
+    assert_capture_in_moods(&rt, alloc, 9, "byte lose refuse", WITHOUT_INVENTORY, left);
 }
 
 #[test]
@@ -293,13 +324,24 @@ end
 fn after_a_record_that_is_refused_the_rest_comes(rt: HostRuntime) {
     let alloc = rt.alloc();
     let left = "sdr: record 0002h refused with code C1h\nnot whole\n";
-    assert_capture_in_moods(&rt, alloc, 2, "refuse refuse", ENTRY_REFUSED, left);
-    assert_capture_in_moods(&rt, alloc, 2, "refuse", SAVED, "");
+    assert_capture_in_moods(&rt, alloc, 3, "refuse refuse", ENTRY_REFUSED, left);
+    assert_capture_in_moods(&rt, alloc, 3, "refuse", SAVED, "");
 }
 
 #[test]
 fn a_changed_controller_is_read_as_it_is(rt: HostRuntime) {
-    assert_capture_in_moods(&rt, rt.alloc(), 2, "change", WITHOUT_READING, "");
+    assert_capture_in_moods(&rt, rt.alloc(), 3, "change", WITHOUT_READING, "");
+}
+
+// The records are those of `SAVED` as soon as the first info was read. So the machine's info, which has another time now, does not tell
+// that it has the records of the image.
+#[test]
+fn an_info_is_not_newer_than_the_records(rt: HostRuntime) {
+    let alloc = rt.alloc();
+    let moods = moods(&rt, alloc, 1, "restore");
+    let mut ctl = Scripted::new(image(&rt, alloc, EARLIER), moods);
+    assert_capture(&rt, alloc, &mut ctl, 254, 3, EARLIER, "");
+    assert!(&rt; WithRecords::of_current(image(&rt, alloc, EARLIER), ctl, 3).is_err());
 }
 
 const LOST: &str = "ipmi-image 2
@@ -328,13 +370,24 @@ fn a_chain_that_breaks_off_is_not_whole_and_one_that_turns_is(rt: HostRuntime) {
     assert_plain_capture(&rt, alloc, TURNED, TURNED, "sdr: cycle at 0005h\n", 2);
 }
 
+/// `WITHOUT_READING` without the info of the sensor data records.
+const WITHOUT_INFO: &str = "ipmi-image 2
+sdr 0001 - 010051021b2000300000000000000000000000000000000000000000000000c0
+sdr 0002 - 020051110b20018000000000000000c0
+sel 0001 - 01000201000020200004013001595f5a
+fru 00 0100
+fru 01 010203
+info sel 510100000201000000ffffffff00
+end
+";
+
 #[test]
 fn a_shelf_is_begun_again_where_a_record_is_gone(rt: HostRuntime) {
     let alloc = rt.alloc();
-    // a reservation, a record, a missing record, and a reservation
-    let moods = moods(&rt, alloc, 3, "change");
+    // an info, which is absent, a reservation, a record, a missing record, and a reservation
+    let moods = moods(&rt, alloc, 4, "change");
     let mut ctl = Scripted::new(image(&rt, alloc, LOST), moods);
-    let came = assert_capture(&rt, alloc, &mut ctl, 254, 3, WITHOUT_READING, "");
+    let came = assert_capture(&rt, alloc, &mut ctl, 254, 3, WITHOUT_INFO, "");
     assert!(&rt; came.records == 4, "got {}", came.records);
     drop(ctl);
 }
@@ -342,7 +395,7 @@ fn a_shelf_is_begun_again_where_a_record_is_gone(rt: HostRuntime) {
 #[test]
 fn the_shelf_that_is_given_up_is_missed(rt: HostRuntime) {
     let left = "sel: gave up at 0000h\nnot whole\n";
-    assert_capture_in_moods(&rt, rt.alloc(), 3, "busy busy busy busy", WITHOUT_SEL, left);
+    assert_capture_in_moods(&rt, rt.alloc(), 5, "busy busy busy busy", WITHOUT_SEL, left);
 }
 
 /// `SAVED` without the event log.

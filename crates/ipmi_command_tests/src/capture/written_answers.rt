@@ -37,11 +37,11 @@ end
 const INVENTORIES: [Case; 4] = [
     Case {
         replies: &[
-            RESERVED,
             NONE,
             RESERVED,
             NONE,
             NONE,
+            RESERVED,
             NONE,
             Reply::Has(FruSize {
                 size: 8,
@@ -53,11 +53,11 @@ const INVENTORIES: [Case; 4] = [
     },
     Case {
         replies: &[
-            RESERVED,
             NONE,
             RESERVED,
             NONE,
             NONE,
+            RESERVED,
             NONE,
             EIGHT,
             Reply::Gives(&[], 0),
@@ -67,11 +67,11 @@ const INVENTORIES: [Case; 4] = [
     },
     Case {
         replies: &[
-            RESERVED,
             NONE,
             RESERVED,
             NONE,
             NONE,
+            RESERVED,
             NONE,
             EIGHT,
             Reply::Gives(&[1, 0, 0], 0),
@@ -82,11 +82,11 @@ const INVENTORIES: [Case; 4] = [
     },
     Case {
         replies: &[
-            RESERVED,
             NONE,
             RESERVED,
             NONE,
             NONE,
+            RESERVED,
             NONE,
             Reply::Has(FruSize {
                 size: 0,
@@ -98,7 +98,7 @@ const INVENTORIES: [Case; 4] = [
     },
 ];
 
-// Both shelves are empty: a reservation, and no first record. Then come two infos and the size of device 0.
+// Both shelves are empty: no info, a reservation, and no first record. Then comes the size of device 0.
 #[test]
 fn an_inventory_by_words_or_that_stalls_is_missed(rt: HostRuntime) {
     for case in &INVENTORIES {
@@ -109,8 +109,10 @@ fn an_inventory_by_words_or_that_stalls_is_missed(rt: HostRuntime) {
 const RECORDS: [Case; 5] = [
     Case {
         replies: &[
+            NONE,
             RESERVED,
             Reply::Gives(&[0xFF, 0xFF, 0x51, 0xC0, 0x00], 0xFFFF),
+            NONE,
             RESERVED,
             NONE,
         ],
@@ -119,7 +121,9 @@ const RECORDS: [Case; 5] = [
     },
     Case {
         replies: &[
+            NONE,
             RESERVED,
+            NONE,
             NONE,
             RESERVED,
             Reply::Gives(
@@ -134,20 +138,30 @@ const RECORDS: [Case; 5] = [
         left: "sel: malformed record FFFFh\nnot whole\n",
     },
     Case {
-        replies: &[RESERVED, Reply::Gives(&[], 0), RESERVED, NONE],
+        replies: &[NONE, RESERVED, Reply::Gives(&[], 0), NONE, RESERVED, NONE],
         image: NOTHING,
         left: "sdr: stalled at 0000h\nnot whole\n",
     },
     Case {
-        replies: &[RESERVED, NONE, RESERVED, Reply::Gives(&[], 0), NONE],
+        replies: &[
+            NONE,
+            RESERVED,
+            NONE,
+            NONE,
+            RESERVED,
+            Reply::Gives(&[], 0),
+            NONE,
+        ],
         image: NOTHING,
         left: "sel: stalled at 0000h\nnot whole\n",
     },
     Case {
         replies: &[
+            NONE,
             RESERVED,
             Reply::Gives(&[0x01, 0x00, 0x51, 0xC0, 0x00], 7),
             Reply::Gives(&[], 0),
+            NONE,
             RESERVED,
             NONE,
         ],

@@ -5,8 +5,9 @@ use crate::cases::{case_of, number};
 use crate::command_line::lines::command;
 use crate::writers::assert_written_text;
 use ipmi_command_line::Command;
-use ipmi_commands::{Job, LIVE_PART, RequestLimits, Summary, Wording, execute};
+use ipmi_commands::{Job, LIVE_PART, RequestLimits, Summary, execute};
 use ipmi_output::Written;
+use ipmi_program::Wording;
 use std::alloc::Global;
 use std::process::Abort;
 
@@ -24,8 +25,16 @@ fn assert_calls(
     let limits = RequestLimits::reading_ahead(LIVE_PART, 5);
     let mut out = Written::new(Vec::new(alloc));
     let mut summary = Summary::new();
-    let job = Job::of(command.task(), command.from(), Wording::Plain).expect(rt, lines);
-    let ended = execute(alloc, &mut ctl, limits, job, &mut out, &mut summary);
+    let job = Job::of(&Wording::Plain, command.task(), command.from()).expect(rt, lines);
+    let ended = execute(
+        alloc,
+        &mut ctl,
+        limits,
+        &Wording::Plain,
+        job,
+        &mut out,
+        &mut summary,
+    );
     assert!(rt; ended.is_ok(), "{lines}");
     let got = ctl.calls;
     assert!(rt; got == calls, "{moods}: {got} calls");

@@ -3,9 +3,10 @@ use super::over_images::scripted;
 use crate::writers::assert_written_text;
 use ipmi_bus::Ended;
 use ipmi_command_line::Words;
-use ipmi_commands::{FoundSensors, RequestLimits, Summary, Wording, find_sensors, print_sensors};
+use ipmi_commands::{FoundSensors, RequestLimits, Summary, find_sensors, print_sensors};
 use ipmi_fixtures::{CPU_TEMP_BLOCK, PSU1_BLOCK};
 use ipmi_output::{Failure, Written};
+use ipmi_program::Wording;
 use std::alloc::Global;
 use std::process::Abort;
 
@@ -75,7 +76,7 @@ fn assert_blocks(
     let mut out = Written::new(Vec::new(alloc));
     let mut summary = Summary::new();
     for (name, count) in NAMES.iter().zip(pieces) {
-        let printed = print_sensors(alloc, found, name, Wording::Plain, &mut out, &mut summary);
+        let printed = print_sensors(alloc, found, name, &Wording::Plain, &mut out, &mut summary);
         assert!(rt; printed.is_ok(), "{name}: printed");
         assert!(rt; summary.pieces() == *count, "{name}: pieces");
     }

@@ -7,8 +7,9 @@ use crate::command_line::lines::command_of_case;
 use crate::controllers::Counting;
 use ipmi_bus::Controller;
 use ipmi_command_line::Command;
-use ipmi_commands::{Summary, Wording, report};
+use ipmi_commands::{Summary, report};
 use ipmi_output::Written;
+use ipmi_program::Wording;
 use std::alloc::Global;
 use std::process::Abort;
 

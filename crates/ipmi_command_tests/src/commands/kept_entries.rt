@@ -5,7 +5,7 @@ use super::over_images::{Two, changing};
 use super::saved::image_named;
 use crate::cases::{case_of, parts};
 use crate::command_line::lines::command_of_case;
-use ipmi_commands::Wording;
+use ipmi_program::Wording;
 use std::alloc::Global;
 use std::process::Abort;
 

@@ -12,9 +12,10 @@ use crate::command_line::lines::command_of_case;
 use crate::controllers::Counting;
 use ipmi_bus::Controller;
 use ipmi_command_line::Command;
-use ipmi_commands::{Job, RequestLimits, Summary, Wording, execute_pages, report};
+use ipmi_commands::{Job, RequestLimits, Summary, execute_pages, report};
 use ipmi_json::Label;
 use ipmi_output::Written;
+use ipmi_program::Wording;
 use std::alloc::Global;
 use std::process::Abort;
 
@@ -173,8 +174,17 @@ fn outcome_in_pages<C: Controller + Drop>(
     let mut err = Vec::new(alloc);
     let mut summary = Summary::new();
     let limits = RequestLimits::of(command);
-    let job = Job::of(command.task(), command.from(), Wording::Json(&[])).unwrap();
-    let ending = execute_pages(alloc, &mut ctl, limits, job, &mut out, &mut summary, pages);
+    let job = Job::of(&Wording::Json(&[]), command.task(), command.from()).unwrap();
+    let ending = execute_pages(
+        alloc,
+        &mut ctl,
+        limits,
+        &Wording::Json(&[]),
+        job,
+        &mut out,
+        &mut summary,
+        pages,
+    );
     let status = report(ending, &mut err);
     let calls = ctl.calls;
     drop(ctl);

@@ -2,8 +2,9 @@
 use crate::controllers::Counting;
 use ipmi_bus::Controller;
 use ipmi_command_line::Command;
-use ipmi_commands::{Job, RequestLimits, Summary, Wording, execute, run};
+use ipmi_commands::{Job, RequestLimits, Summary, execute, run};
 use ipmi_output::{Failure, Sink, Written};
+use ipmi_program::Wording;
 use std::alloc::Global;
 use std::process::Abort;
 
@@ -26,8 +27,16 @@ pub(super) fn execute_in<'a, C: Controller, O: Sink>(
     summary: &mut Summary,
 ) -> Result<(), Failure<'a>> {
     let limits = RequestLimits::of(command);
-    match Job::of(command.task(), command.from(), wording) {
-        Some(job) => execute(alloc, ctl, limits, job.keeping_last(), out, summary),
+    match Job::of(&wording, command.task(), command.from()) {
+        Some(job) => execute(
+            alloc,
+            ctl,
+            limits,
+            &wording,
+            job.keeping_last(),
+            out,
+            summary,
+        ),
         None => Err(Failure::Usage),
     }
 }

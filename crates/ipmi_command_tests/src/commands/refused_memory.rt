@@ -6,10 +6,11 @@ use super::saved::{image_named, with_record};
 use crate::writers::assert_written_text;
 use ipmi_bus::Shelf;
 use ipmi_command_line::{Command, Count, Task, UsageFault, Word};
-use ipmi_commands::{Summary, Wording, report};
+use ipmi_commands::{Summary, report};
 use ipmi_fixtures::{CPU_TEMP_BLOCK, INFO_BLOCK};
 use ipmi_image::{Image, ImageController};
 use ipmi_output::{Failure, Written};
+use ipmi_program::Wording;
 use std::alloc::{AllocError, Global};
 use std::process::Abort;
 

@@ -5,8 +5,9 @@ use super::over_images::scripted;
 use crate::cases::parts;
 use crate::command_line::lines::command;
 use ipmi_command_line::Command;
-use ipmi_commands::{Job, RequestLimits, Summary, Wording, execute, report};
+use ipmi_commands::{Job, RequestLimits, Summary, execute, report};
 use ipmi_output::Written;
+use ipmi_program::Wording;
 use std::alloc::Global;
 use std::process::Abort;
 
@@ -22,8 +23,16 @@ fn outcome_within(
     let mut out = Written::new(Vec::new(alloc));
     let mut err = Vec::new(alloc);
     let mut summary = Summary::new();
-    let job = Job::of(command.task(), command.from(), Wording::Plain).expect(rt, moods);
-    let ending = execute(alloc, &mut ctl, limits, job, &mut out, &mut summary);
+    let job = Job::of(&Wording::Plain, command.task(), command.from()).expect(rt, moods);
+    let ending = execute(
+        alloc,
+        &mut ctl,
+        limits,
+        &Wording::Plain,
+        job,
+        &mut out,
+        &mut summary,
+    );
     let status = report(ending, &mut err);
     let calls = ctl.calls;
     drop(ctl);

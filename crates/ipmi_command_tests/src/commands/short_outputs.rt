@@ -6,10 +6,11 @@ use super::over_images::image_of;
 use super::saved::{THREE_LINES, TO_NOWHERE, image_named, with_record};
 use crate::command_line::lines::{command, command_of_case};
 use crate::writers::Limited;
-use ipmi_commands::{Summary, Wording, answer, report};
+use ipmi_commands::{Summary, answer, report};
 use ipmi_fixtures::{CPU_TEMP_BLOCK, INFO_BLOCK};
 use ipmi_image::ImageController;
 use ipmi_output::{MessageSink, Sink, Written};
+use ipmi_program::Wording;
 use std::alloc::Global;
 use std::process::Abort;
 

@@ -2,9 +2,10 @@
 use super::outcome::execute_in;
 use super::over_images::image_of;
 use crate::command_line::lines::command;
-use ipmi_commands::{Summary, Wording};
+use ipmi_commands::Summary;
 use ipmi_image::ImageController;
 use ipmi_output::Written;
+use ipmi_program::Wording;
 use std::alloc::Global;
 use std::process::Abort;
 

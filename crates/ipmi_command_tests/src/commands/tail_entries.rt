@@ -5,7 +5,7 @@ use super::over_images::{Two, changing};
 use super::saved::{EMPTY, image_in};
 use crate::cases::{byte_of, case_of, parts};
 use ipmi_command_line::{Command, Count, Task};
-use ipmi_commands::Wording;
+use ipmi_program::Wording;
 use std::alloc::Global;
 use std::process::Abort;
 

@@ -6,7 +6,7 @@ use ipmi_records::SelView;
 use std::alloc::{AllocError, Global};
 
 /// A threshold event of 2020.
-const THRESHOLD: [u8; 16] = [
+pub(crate) const THRESHOLD: [u8; 16] = [
     0x01, 0x00, 0x02, 0x00, 0x10, 0x5e, 0x5f, 0x20, 0x00, 0x04, 0x01, 0x01, 0x01, 0x57, 0x47, 0x46,
 ];
 
@@ -30,7 +30,7 @@ const UNKNOWN_LINE: &str =
     r#"{"object":"sel_entry","record_id":3,"record_type":2,"kind":"event","timestamp":null,"timestamp_raw":536870912,"generator_id":32,"event_revision":4,"sensor_type":192,"sensor_type_name":"sensor type 0xc0","sensor_number":153,"sensor_name":null,"event_type":111,"event":"event 0x6f offset 0xf","event_words":null,"direction":"asserted","event_data":"0fffff","event_details":null,"raw":"03000200000020200004c0996f0fffff"}"#;
 
 /// A threshold event of the processor's temperature. The record has the name and the units.
-const HOT: [u8; 16] = [
+pub(crate) const HOT: [u8; 16] = [
     0x05, 0x00, 0x02, 0x00, 0x10, 0x5e, 0x5f, 0x20, 0x00, 0x04, 0x01, 0x01, 0x01, 0x59, 0x5c, 0x5a,
 ];
 
@@ -38,7 +38,7 @@ const HOT_LINE: &str =
     r#"{"object":"sel_entry","record_id":5,"record_type":2,"kind":"event","timestamp":"2020-09-13T12:26:40Z","timestamp_raw":1600000000,"generator_id":32,"event_revision":4,"sensor_type":1,"sensor_type_name":"Temperature","sensor_number":1,"sensor_name":"CPU Temp","event_type":1,"event":"Upper Critical going high","event_words":"Upper Critical going high","direction":"asserted","event_data":"595c5a","event_details":"Reading 9.2 degrees C > threshold 9","raw":"05000200105e5f200004010101595c5a"}"#;
 
 /// The same event with a reading below the threshold, although the event says that it went high.
-const COLD: [u8; 16] = [
+pub(crate) const COLD: [u8; 16] = [
     0x06, 0x00, 0x02, 0x00, 0x10, 0x5e, 0x5f, 0x20, 0x00, 0x04, 0x01, 0x01, 0x01, 0x59, 0x2d, 0x5a,
 ];
 
@@ -46,21 +46,21 @@ const COLD_LINE: &str =
     r#"{"object":"sel_entry","record_id":6,"record_type":2,"kind":"event","timestamp":"2020-09-13T12:26:40Z","timestamp_raw":1600000000,"generator_id":32,"event_revision":4,"sensor_type":1,"sensor_type_name":"Temperature","sensor_number":1,"sensor_name":"CPU Temp","event_type":1,"event":"Upper Critical going high","event_words":"Upper Critical going high","direction":"asserted","event_data":"592d5a","event_details":"Reading 4.5 degrees C, threshold 9","raw":"06000200105e5f200004010101592d5a"}"#;
 
 /// An OEM timestamped record, one without a time stamp, and an entry of another type.
-const TIMED: [u8; 16] = [
+pub(crate) const TIMED: [u8; 16] = [
     0x02, 0x00, 0xc1, 0x00, 0x10, 0x00, 0x00, 0x57, 0x01, 0x00, 0x01, 0x02, 0x03, 0x04, 0x05, 0x06,
 ];
 
 const TIMED_LINE: &str =
     r#"{"object":"sel_entry","record_id":2,"record_type":193,"kind":"oem_timestamped","timestamp":null,"timestamp_raw":4096,"manufacturer_id":343,"oem_data":"010203040506","raw":"0200c100100000570100010203040506"}"#;
 
-const PLAIN: [u8; 16] = [
+pub(crate) const PLAIN: [u8; 16] = [
     0x03, 0x00, 0xe0, 0x01, 0x02, 0x03, 0x04, 0x05, 0x06, 0x07, 0x08, 0x09, 0x0a, 0x0b, 0x0c, 0x0d,
 ];
 
 const PLAIN_LINE: &str =
     r#"{"object":"sel_entry","record_id":3,"record_type":224,"kind":"oem","oem_data":"0102030405060708090a0b0c0d","raw":"0300e00102030405060708090a0b0c0d"}"#;
 
-const OTHER: [u8; 16] = [
+pub(crate) const OTHER: [u8; 16] = [
     0x04, 0x00, 0x03, 0x01, 0x02, 0x03, 0x04, 0x05, 0x06, 0x07, 0x08, 0x09, 0x0a, 0x0b, 0x0c, 0x0d,
 ];
 

@@ -24,12 +24,13 @@ pub(crate) const HOT: Reading = Reading {
 };
 
 /// A compact record of a discrete sensor with states 1, 3 and 14. The standard has a name only for the first.
-const COMPACT: &str = "030051021f200305070100000503000000000000c000000000000000000000c4446f6f72";
+pub(crate) const COMPACT: &str =
+    "030051021f200305070100000503000000000000c000000000000000000000c4446f6f72";
 
 const COMPACT_LINE: &str =
     r#"{"object":"sdr_record","record_id":163,"record_type":2,"kind":"compact","name":"Door","owner_id":32,"owner_lun":3,"sensor_number":5,"entity_id":7,"entity_name":"system board","entity_instance":1,"sensor_type":5,"sensor_type_name":"Physical Security","event_type":3,"reading":null,"unit":null,"reading_raw":0,"states":16394,"state_words":["State Asserted","state 3","state 14"],"status":"ok","status_words":"ok","raw":"030051021f200305070100000503000000000000c000000000000000000000c4446f6f72"}"#;
 
-const DOOR: Reading = Reading {
+pub(crate) const DOOR: Reading = Reading {
     raw: 0,
     flags: 0x40,
     status: 0x0a,

@@ -1,6 +1,8 @@
 use Rattle.std.proofs.Common.{◌≡◌, ◌==◌, ◌||◌, false, arith, slice_index_or}
 use Rattle.ipmi_capture.proofs.FoundLemmas.{not_kept}
-use Rattle.ipmi_capture.proofs.ReadLemmas.{inventories_accounted, inventories_while, keeping_begun, keeping_done, keeping_lacks, keeping_read, keeping_skipped}
+use Rattle.ipmi_capture.specs.Left.{IsStateOf}
+use Rattle.ipmi_capture.proofs.CountLemmas.{is_state}
+use Rattle.ipmi_capture.proofs.ReadLemmas.{absent_now, inventories_accounted, inventories_while, keeping_begun, keeping_done, keeping_lacks, keeping_read, keeping_skipped}
 use Rattle.ipmi_bus.specs.Seen.{stays_trans}
 use Rattle.ipmi_capture.proofs.inventories.capture_inventories.Goals as goal
 
@@ -23,7 +25,8 @@ capture_inventory-requires-clause-none g c = not_kept c.devices.id c.devices.ima
 
 pub devices-preserved : goal.devices-preserved
 devices-preserved g c =
-    rw c.in-Ok-note.ensures (keeping_read c.in-Ok.lacks c.devices.id c.devices.invariant c.in-Ok.ensures.image c.in-Ok.ensures.lacks c.in-Ok.ensures.none
+    rw c.in-Ok-note.ensures (keeping_read c.in-Ok.lacks c.devices.id c.devices.invariant c.in-Ok.ensures.image c.in-Ok.ensures.lacks
+    (absent_now (IsStateOf g.C.Controller.seen) _ _ (is_state g.C.Controller.seen c.capture_inventory.new.ctl) c.in-Ok.lacks c.in-Ok.ensures.none)
     c.in-Ok.ensures.calls c.in-Ok.ensures.asked c.in-Ok.ensures.stays c.in-Ok.ensures.honest c.in-Ok.ensures.meanwhile)
 
 pub returns-clause-accounted : goal.returns-clause-accounted

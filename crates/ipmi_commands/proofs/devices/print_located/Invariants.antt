@@ -11,7 +11,7 @@ invariant-records g l =
     × ((g.C.Controller.seen l.ctl).calls + length (records_in l.rest) * inventory_call_bound l.limits.tries 65535
     ≤ (g.C.Controller.seen l.fn.ctl).calls + length (records_in l.fn.records) * inventory_call_bound l.limits.tries 65535)
     × (IsHonest (g.C.Controller.seen l.fn.ctl) → IsHonest (g.C.Controller.seen l.ctl)
-    × LeadsLocated l.wording l.walked l.limits.tries (records_in l.fn.records) (records_in l.rest)
+    × LeadsLocated (g.F.Format.texts l.format) l.walked l.limits.tries (records_in l.fn.records) (records_in l.rest)
     (g.C.Controller.seen l.fn.ctl) (g.C.Controller.seen l.ctl) (printed (g.O.Sink.taken l.fn.out) l.fn.summary) (printed (g.O.Sink.taken l.out) l.summary))
 
 -- The number of bytes that are left.

@@ -8,7 +8,7 @@ use Rattle.ipmi_commands.proofs.KeptLemmas.{keeping_begun, keeping_more, keeps_d
 use Rattle.ipmi_commands.proofs.kept.keep_after.Goals as goal
 
 pub entries-init : goal.entries-init
-entries-init g c = (search rules, refl, rw c.requires.none (omega arith), λ tries text are. keeping_begun _ tries _ _ text _ c.requires.none c.requires.shelf are c.requires.room)
+entries-init g c = (search rules, refl, rw c.requires.none (omega arith), λ tries text are. keeping_begun (g.F.Format.texts c.args._format.now) _ tries _ _ text _ c.requires.none c.requires.shelf are c.requires.room)
 
 pub returns-in-Ok-None-clause-asked : goal.returns-in-Ok-None-clause-asked
 returns-in-Ok-None-clause-asked g c =
@@ -17,7 +17,7 @@ returns-in-Ok-None-clause-asked g c =
 
 pub returns-in-Ok-None-clause-keeps : goal.returns-in-Ok-None-clause-keeps
 returns-in-Ok-None-clause-keeps g c = λ tries text are.
-    keeps_done (c.entries.invariant.3 tries text are) (rw (c.in-Ok-None.is ∙ ap Ok c.in-Ok-None.field-0-is) at c.step.follows.holds-at-none)
+    keeps_done (g.F.Format.texts c.args._format.now) (c.entries.invariant.3 tries text are) (rw (c.in-Ok-None.is ∙ ap Ok c.in-Ok-None.field-0-is) at c.step.follows.holds-at-none)
 
 pub returns-in-Err-clause-asked : goal.returns-in-Err-clause-asked
 returns-in-Err-clause-asked g c =
@@ -30,7 +30,7 @@ returns-in-Err-clause-ends g c =
 
 pub returns-in-Err-clause-keeps : goal.returns-in-Err-clause-keeps
 returns-in-Err-clause-keeps g c = λ tries text are.
-    keeps_ended (c.entries.invariant.3 tries text are) c.in-Err.ended (rw c.in-Err.is at c.step.follows.holds-at-none)
+    keeps_ended (g.F.Format.texts c.args._format.now) (c.entries.invariant.3 tries text are) c.in-Err.ended (rw c.in-Err.is at c.step.follows.holds-at-none)
 
 pub push-requires-clause-whole : goal.push-requires-clause-whole
 push-requires-clause-whole g c = rw c.in-Ok-Some.field-0-is at (rw (c.entries.invariant.3 (for_inventory c.args.cursor.now.tries) no_output refl).listed.shelf at c.in-Ok-Some.ensures.whole)
@@ -43,7 +43,7 @@ returns-in-Err-push-clause-asked g c =
 pub returns-in-Err-push-clause-keeps : goal.returns-in-Err-push-clause-keeps
 returns-in-Err-push-clause-keeps g c = λ tries text are.
     let step = rw (c.in-Ok-Some.is ∙ ap Ok c.in-Ok-Some.field-0-is) at c.step.follows.holds-at-none in
-    keeps_lost (c.entries.invariant.3 tries text are) step _
+    keeps_lost (g.F.Format.texts c.args._format.now) (c.entries.invariant.3 tries text are) step _
 
 pub entries-smaller : goal.entries-smaller
 entries-smaller g c =
@@ -58,5 +58,5 @@ entries-preserved g c =
       omega (arith, c.entries.invariant.0, (c.entries.invariant.3 (for_inventory c.args.cursor.now.tries) no_output refl).listed.called.keeps.part_falls, step.asked),
       c.push.ensures.most ∙ most,
       rw pushed (last_of-few _ _),
-      λ tries text are. keeping_more (c.entries.invariant.3 tries text are) step _ pushed,
+      λ tries text are. keeping_more (g.F.Format.texts c.args._format.now) (c.entries.invariant.3 tries text are) step _ pushed,
     )

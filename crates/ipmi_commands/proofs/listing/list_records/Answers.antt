@@ -11,11 +11,11 @@ use Rattle.ipmi_commands.proofs.PartLemmas.{end_spares}
 use Rattle.ipmi_commands.proofs.listing.list_records.Goals as goal
 
 pub returns-then-is_reached-clause-lists : goal.returns-then-is_reached-clause-lists
-returns-then-is_reached-clause-lists g c = rw c.end.ensures (listing_full c.records.invariant.2 (sym c.is_reached.ensures ∙ c.if-is_reached.true))
+returns-then-is_reached-clause-lists g c = rw c.end.ensures (listing_full (g.F.Format.texts c.args.format.now) c.records.invariant.2 (sym c.is_reached.ensures ∙ c.if-is_reached.true))
 
 pub returns-in-Ok-None-clause-lists : goal.returns-in-Ok-None-clause-lists
 returns-in-Ok-None-clause-lists g c =
-    rw c.end-in-Ok-None.ensures (listing_done c.records.invariant.2 (sym c.is_reached.ensures ∙ c.if-is_reached.false)
+    rw c.end-in-Ok-None.ensures (listing_done (g.F.Format.texts c.args.format.now) c.records.invariant.2 (sym c.is_reached.ensures ∙ c.if-is_reached.false)
     (rw (c.in-Ok-None.is ∙ ap Ok c.in-Ok-None.field-0-is) at c.step.follows.holds-at-none))
 
 pub returns-in-Err-clause-ends : goal.returns-in-Err-clause-ends
@@ -28,19 +28,19 @@ returns-in-Err-row_text-clause-ends g c =
 
 pub returns-in-Err-clause-lists : goal.returns-in-Err-clause-lists
 returns-in-Err-clause-lists g c =
-    listing_ended c.records.invariant.2 (sym c.is_reached.ensures ∙ c.if-is_reached.false) c.in-Err.ended
+    listing_ended (g.F.Format.texts c.args.format.now) c.records.invariant.2 (sym c.is_reached.ensures ∙ c.if-is_reached.false) c.in-Err.ended
     (rw c.in-Err.is at c.step.follows.holds-at-none)
 
 pub returns-in-Err-row_text-clause-lists : goal.returns-in-Err-row_text-clause-lists
 returns-in-Err-row_text-clause-lists g c =
     let step = rw (c.in-Ok-Some.is ∙ ap Ok c.in-Ok-Some.field-0-is) at c.step.follows.holds-at-none in
-    rw c.from.ensures (listing_none c.records.invariant.2 (sym c.is_reached.ensures ∙ c.if-is_reached.false) step c.row_text.ensures.calls
+    rw c.from.ensures (listing_none (g.F.Format.texts c.args.format.now) c.records.invariant.2 (sym c.is_reached.ensures ∙ c.if-is_reached.false) step c.row_text.ensures.calls
     c.in-Err-row_text.unread c.in-Err-row_text.ensures.honest)
 
 pub returns-in-Err-write_all-clause-lists : goal.returns-in-Err-write_all-clause-lists
 returns-in-Err-write_all-clause-lists g c =
     let step = rw (c.in-Ok-Some.is ∙ ap Ok c.in-Ok-Some.field-0-is) at c.step.follows.holds-at-none in
-    listing_cut c.records.invariant.2 (sym c.is_reached.ensures ∙ c.if-is_reached.false) step c.row_text.ensures.calls
+    listing_cut (g.F.Format.texts c.args.format.now) c.records.invariant.2 (sym c.is_reached.ensures ∙ c.if-is_reached.false) step c.row_text.ensures.calls
     _ _ c.in-Ok.ensures.honest _ (rw c.bytes-bytes.ensures at c.in-Err-write_all.ensures.some)
     (record { part = rw c.bytes-bytes.ensures at c.in-Err-write_all.ensures.err.0; pieces = refl; faults = refl })
 
@@ -55,10 +55,10 @@ records-preserved g c =
     let wrote = c.in-Ok-write_all.ensures.ok in (
       wrote.1 ∙ c.records.invariant.0,
       omega (arith, c.records.invariant.1, c.requires.part, c.records.invariant.2.called.keeps.part_falls, step.asked, c.row_text.ensures.asked),
-      rw (c.is_empty.ensures, c.bytes-bytes.ensures) (listing_more c.records.invariant.2 (sym c.is_reached.ensures ∙ c.if-is_reached.false) step c.row_text.ensures.calls
+      rw (c.is_empty.ensures, c.bytes-bytes.ensures) (listing_more (g.F.Format.texts c.args.format.now) c.records.invariant.2 (sym c.is_reached.ensures ∙ c.if-is_reached.false) step c.row_text.ensures.calls
           _ _ c.in-Ok.ensures.honest _ (counted_more _ _ _ _ _ _ _ _ (wrote.0 ∙ ap (λ (l : List ℕ). g.O.Sink.taken c.records.out ++ l) c.bytes-bytes.ensures)
           (rw c.bytes-bytes.ensures at c.add.ensures.pieces) (rw (c.bytes-bytes.ensures, c.has_fault.ensures) at c.add.ensures.faults))),
-      writes_more c.args.form.now c.records.count _ _ _ _ (row_of_record c.in-Ok-Some.record) _ _ c.records.invariant.3 (search rules) c.in-Ok.ensures.shows c.bytes-bytes.ensures wrote.0,
+      writes_more (g.F.Format.texts c.args.format.now) c.args.form.now c.records.count _ _ _ _ (row_of_record c.in-Ok-Some.record) _ _ c.records.invariant.3 (search rules) c.in-Ok.ensures.shows c.bytes-bytes.ensures wrote.0,
     )
 
 pub returns-then-is_reached-clause-ends : goal.returns-then-is_reached-clause-ends
@@ -81,7 +81,7 @@ records-init g c = (
       ends = search rules;
       holds = search rules;
       along = search rules;
-      tracing = traced_none c.args.form.now c.args.cursor.now (g.C.Controller.seen c.args.ctl.now) (printed (g.O.Sink.taken c.args.out.now) c.args.summary.now) h;
+      tracing = traced_none (g.F.Format.texts c.args.format.now) c.args.form.now c.args.cursor.now (g.C.Controller.seen c.args.ctl.now) (printed (g.O.Sink.taken c.args.out.now) c.args.summary.now) h;
     };
   },
   writes_none c.args.form.now (g.O.Sink.taken c.args.out.now),

@@ -14,7 +14,7 @@ returns-in-Err-clause-calls g c =
 pub returns-in-Err-clause-honest : goal.returns-in-Err-clause-honest
 returns-in-Err-clause-honest g c = λ h.
     let kept = c.pages.invariant in
-    last_leads c.args.form.now c.args.limits.tries c.args.sizes.now c.pages.size-index c.args.start c.pages.place _ _ _ _ _ _ c.pages-test.true (kept.4 h).1
+    last_leads (g.F.Format.texts c.args.format.now) c.args.form.now c.args.limits.tries c.args.sizes.now c.pages.size-index c.args.start c.pages.place _ _ _ _ _ _ c.pages-test.true (kept.4 h).1
     c.in-Err.failure (rw c.in-Err.is at c.list_page.ensures.honest (kept.4 h).0)
 
 pub pages-preserved : goal.pages-preserved
@@ -28,7 +28,7 @@ pages-preserved g c =
       λ h.
           let done = rw c.in-Ok.is at page.honest (kept.4 h).0 in (
             done.ends.stays.honest,
-            page_leads c.args.form.now c.args.limits.tries c.args.sizes.now c.pages.size-index c.args.start c.pages.place _ _ _ _ _ _ c.pages-test.true (kept.4 h).1 c.in-Ok.next done,
+            page_leads (g.F.Format.texts c.args.format.now) c.args.form.now c.args.limits.tries c.args.sizes.now c.pages.size-index c.args.start c.pages.place _ _ _ _ _ _ c.pages-test.true (kept.4 h).1 c.in-Ok.next done,
           ),
     )
 

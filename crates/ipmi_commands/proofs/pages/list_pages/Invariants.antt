@@ -15,5 +15,5 @@ invariant-pages g l =
     ≤ (g.C.Controller.seen l.fn.ctl).calls + pages_made l.fn.sizes * most_on_walk l.form l.limits.tries)
     × (IsHonest (g.C.Controller.seen l.fn.ctl)
     → IsHonest (g.C.Controller.seen l.ctl)
-    × LeadsTo l.form l.limits.tries l.fn.sizes (drop l.size-index l.sizes) l.fn.start l.place
+    × LeadsTo (g.F.Format.texts l.format) l.form l.limits.tries l.fn.sizes (drop l.size-index l.sizes) l.fn.start l.place
     (g.C.Controller.seen l.fn.ctl) (g.C.Controller.seen l.ctl) (printed (g.O.Sink.taken l.fn.out) l.fn.summary) (printed (g.O.Sink.taken l.out) l.summary))

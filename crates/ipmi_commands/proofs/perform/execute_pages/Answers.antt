@@ -6,9 +6,9 @@ use Rattle.ipmi_commands.proofs.perform.execute_pages.Goals as goal
 
 pub returns-in_default-clause-runs : goal.returns-in_default-clause-runs
 returns-in_default-clause-runs g c =
-    paged c.the_tail_is_a_walk.ensures c.args.job c.args.limits.tries c.args.pages.now _ _ _ _ c.list_pages.result c.unwrap-listing.result c.requires.listing
+    paged (g.F.Format.texts c.args.format.now) c.the_tail_is_a_walk.ensures c.args.job c.args.limits.tries c.args.pages.now _ _ _ _ c.list_pages.result c.unwrap-listing.result c.requires.listing
     (sym c.listing.ensures ∙ c.unwrap-listing.ensures) c.list_pages.ensures.calls c.list_pages.ensures.ends c.list_pages.ensures.honest
 
-pub returns-in-NameLookup-default-Events-clause-parts : goal.returns-in-NameLookup-default-Events-clause-parts
-returns-in-NameLookup-default-Events-clause-parts g c = λ h.
-    pages_spare c.args.limits.tries (IsStateOf g.C.Controller.seen) c.list_named_pages.ensures.runs
+pub returns-in-NameLookup-Events-clause-parts : goal.returns-in-NameLookup-Events-clause-parts
+returns-in-NameLookup-Events-clause-parts g c = λ h.
+    pages_spare (g.F.Format.texts c.args.format.now) c.args.limits.tries (IsStateOf g.C.Controller.seen) c.list_named_pages.ensures.runs

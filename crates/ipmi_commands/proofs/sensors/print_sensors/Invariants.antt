@@ -7,4 +7,4 @@ use Rattle.ipmi_commands.proofs.sensors.print_sensors.Given as goal
 abbrev pub invariant-sensors : goal.invariant-sensors
 invariant-sensors g l =
     (g.O.Sink.faults l.out ≡ g.O.Sink.faults l.fn.out)
-    × PrintsBlocks l.wording l.name (take l.sensor-index l.found) (printed (g.O.Sink.taken l.fn.out) l.fn.summary) (printed (g.O.Sink.taken l.out) l.summary)
+    × PrintsBlocks (g.F.Format.texts l.format) l.name (take l.sensor-index l.found) (printed (g.O.Sink.taken l.fn.out) l.fn.summary) (printed (g.O.Sink.taken l.out) l.summary)

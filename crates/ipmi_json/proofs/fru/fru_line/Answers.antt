@@ -1,6 +1,5 @@
-use Rattle.std.proofs.Common.{arith}
-use Rattle.std.proofs.lemmas.Grind.{common_steps}
+use Rattle.ipmi_json.proofs.MemberLemmas.{line_told}
 use Rattle.ipmi_json.proofs.fru.fru_line.Goals as goal
 
-pub returns-in_default : goal.returns-in_default
-returns-in_default c = grind (arith, common_steps)
+pub returns : goal.returns
+returns c = line_told _ c.finish.result c.in_ok-out.ensures c.in_ok-tell_device.ensures c.finish.ensures

@@ -1,4 +1,3 @@
-use Rattle.ipmi_json.proofs.InventoryLawLemmas.{some_device}
 use Rattle.ipmi_json.proofs.LineLawLemmas.{some_line, some_object}
 use Rattle.ipmi_json.proofs.laws.no_line_is_empty.Goals as goal
 
@@ -8,5 +7,5 @@ returns c = record {
   sdr_record = λ id view reading labels text h. some_line _ text h.is_line;
   entry = λ id view records labels text h. some_line _ text h.is_line;
   info = λ name bytes labels text h. some_line _ text h.is_line;
-  device = some_device;
+  device = λ id name inventory labels text h. some_line _ text h.is_line;
 }

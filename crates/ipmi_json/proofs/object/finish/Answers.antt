@@ -1,13 +1,14 @@
-use Rattle.std.proofs.Common.{◌∙◌, ◌++◌, ◌∷◌, [], ap, arith, refl, subst, sym, List, ℕ}
+use Rattle.std.proofs.Common.{◌∙◌, ◌++◌, ◌∷◌, [], ap, refl, subst, sym, List, ℕ}
 use Rattle.std.specs.Str.{IsUtf8}
 use Rattle.ipmi_json.specs.Object.{labels_of, object_in}
-use Rattle.ipmi_json.proofs.ObjectLemmas.{object_depth, object_written, opened_more, read_back, utf8_line}
+use Rattle.ipmi_json.specs.Members.{Top}
+use Rattle.ipmi_json.proofs.ObjectLemmas.{object_depth, object_written, read_back, utf8_line}
 use Rattle.ipmi_json.proofs.object.finish.Goals as goal
 
 pub returns : goal.returns
 returns c = λ ms begun.
     let all = ms ++ labels_of c.args.labels.now in
-    let labelled = opened_more 1 ms _ _ _ (omega arith) begun c.in_ok-write_labels.ensures in
+    let labelled = c.in_ok-write_labels.ensures.more Top ms begun in
     let written = object_written all _ _ labelled c.in_ok-end_object.ensures.ok in
     let before = c.in_ok-end_object.ensures.room.0 ∙ labelled.before in
     let line_is = c.in_ok-push.ensures.items ∙ ap (λ (l : List ℕ). l ++ 10 ∷ []) (c.into_inner-line.ensures.items ∙ rw (before, written) refl) in

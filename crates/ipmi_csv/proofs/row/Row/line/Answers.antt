@@ -1,0 +1,14 @@
+use Rattle.std.proofs.Common.{◌∙◌, ap}
+use Rattle.std.proofs.lemmas.Result.{IfOk-weaker}
+use Rattle.ipmi_csv.specs.Cells.{csv_row}
+use Rattle.ipmi_csv.specs.Columns.{columns_of}
+use Rattle.ipmi_csv.proofs.RowLemmas.{texts_told}
+use Rattle.ipmi_csv.proofs.row.Row.line.Goals as goal
+
+pub returns : goal.returns
+returns c = λ ms is.
+    let texts = rw (c.as_slice.ensures.value, c.columns_of.ensures) at c.in_ok-texts.ensures in
+    let same = texts ∙ texts_told c.args.self.now (columns_of c.args.table) ms is in
+    IfOk-weaker c.csv_row.result _ _
+    (λ line h. h ∙ rw c.as_slice-2.ensures.value (ap (csv_row c.args.separator) same))
+    c.csv_row.ensures

@@ -1,0 +1,12 @@
+//! Records, entries, infos and inventories as CSV: one row per thing.
+#![tactic(auto)]
+
+mod cells;
+mod columns;
+mod format;
+pub mod laws;
+mod row;
+
+pub use cells::Separator;
+pub use columns::Table;
+pub use format::Csv;

@@ -1,0 +1,8 @@
+use Rattle.std.proofs.lemmas.Result.{on_ok_weaker}
+use Rattle.ipmi_json.proofs.MemberLemmas.{joined}
+use Rattle.ipmi_json.proofs.sdr.tell_faulty_record.Goals as goal
+
+pub returns : goal.returns
+returns g c =
+    let told = rw (c.from.ensures, c.integer_or_null.ensures, c.type_of.ensures, c.fault_word.ensures) at c.in_ok-put_members.ensures in
+    on_ok_weaker c.put_raw.result (λ last. joined told last) c.put_raw.ensures
