@@ -9,6 +9,7 @@ use Rattle.ipmi_capture.specs.Capture.{device_named, devices_of, HasWalk, Invent
 use Rattle.ipmi_capture.specs.Laws.{AreOfCapture, CapturesPrintTheSame, CapturesPrintWhatTheyHave, devices_asked, is_info_asked, is_walked, IsKnownPlace, IsOfCapture, IsUnneeded, PrintsTheSame, SamePlan, SameText, sensors_asked}
 use Rattle.ipmi_capture.specs.Left.{EndIsNoted, LacksInfo, LacksInventory, LacksReading, LacksRecords, SameOrLeft}
 use Rattle.ipmi_capture.specs.declared.left.Left.{Left}
+use Rattle.ipmi_records.specs.Prelude.{known}
 use Rattle.ipmi_commands.specs.Prelude.{after_names, after_points, AtInventory, AtRecord, bytes_of_rows, devices_job, events_job, named_entries, has_last, IfChosen, info_plan, inventories_plan, inventory_plan, is_name, IsBlockOfName, IsDevicePiece, IsLocatorPiece, IsRecordText, IsRowText, IsTextOfRecord, Texts, Item, last_plan, last_rows, listing, listing_plan, OfInventory, OnEntries, OnTail, OnTailFrom, OnTried, OnWalk, OnWhole, Plan, points_of_walk, reading_by, reading_for, row_is_of_kind, row_items, ReadPoint, tail_from, walk_call_bound, points_before, view_has_name, with_first_points}
 use Rattle.ipmi_commands.specs.declared.format.Detail.{Detail}
 use Rattle.ipmi_commands.specs.declared.job.EntryText.{EntryText}
@@ -46,14 +47,14 @@ module _ (x : Texts) (a b : Store) where
   record_text : (detail : Detail) (row : Row) (r : Result SdrView SdrFault) → SameFor r
       → Same (λ text. IsRecordText x detail a row r text) (λ text. IsRecordText x detail b row r text)
   record_text detail row (Ok view) same =
-      subst (λ (o : Option Reading). Same (λ text. IsTextOfRecord x detail row.id view (reading_for a view) text) (λ text. IsTextOfRecord x detail row.id view o text)) same (itself _)
+      subst (λ (o : Option Reading). Same (λ text. IsTextOfRecord x detail row.id view (known (reading_for a view)) text) (λ text. IsTextOfRecord x detail row.id view (known o) text)) same (itself _)
   record_text detail row (Err fault) same = itself _
 
   block : (name : List ℕ) (id : ℕ) (r : Result SdrView SdrFault) → (view_has_name name r ≡ true → SameFor r)
       → Same (λ text. IsBlockOfName x name a id r text) (λ text. IsBlockOfName x name b id r text)
   block name id (Ok view) same =
       chosen _ _ (is_name name (sdr.name_of view)) (λ has.
-      subst (λ (o : Option Reading). Same (λ text. IsTextOfRecord x Detail.Block id view (reading_for a view) text) (λ text. IsTextOfRecord x Detail.Block id view o text)) (same has) (itself _))
+      subst (λ (o : Option Reading). Same (λ text. IsTextOfRecord x Detail.Block id view (known (reading_for a view)) text) (λ text. IsTextOfRecord x Detail.Block id view (known o) text)) (same has) (itself _))
   block name id (Err fault) same = itself _
 
   piece : (detail : Detail) (id : ℕ) (name : Option (List ℕ)) → inventory_of id a ≡ inventory_of id b

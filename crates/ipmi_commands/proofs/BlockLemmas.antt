@@ -5,7 +5,7 @@ use Rattle.std.proofs.lemmas.Bool.Decides.{nat_tests}
 use Rattle.std.proofs.lemmas.List.{at_drop_more, take_more}
 use Rattle.std.proofs.lemmas.List.Folds.{list_any_at}
 use Rattle.ipmi_records.specs.Sdr.{name_of}
-use Rattle.ipmi_commands.specs.Below.{Done, Failure, Place, place_after, Row, SdrFault, SdrView, sdr_view_of, Store}
+use Rattle.ipmi_commands.specs.Below.{known, Done, Failure, Place, place_after, Row, SdrFault, SdrView, sdr_view_of, Store}
 use Rattle.ipmi_commands.specs.Output.{and_then, no_output, Output, piece_of}
 use Rattle.ipmi_commands.specs.Prelude.{AreTexts, Detail, Form, IfChosen, IsTextOfRecord, IsBlockOfName, is_name, IsPieceOver, reading_for, row_items, rows_end, some_has_name, WritesPiece}
 use Rattle.ipmi_commands.specs.Sensors.{AreBlocks, BlocksAreOfListing, Found, found_among, found_row, has_one_of, IsBlockOfFound, IsPieceOfFound, reading_in, PrintsBlocks, PrintsFirst, PrintsFound}
@@ -91,7 +91,7 @@ module _ (x : Texts) (names : List (List ℕ)) (name : List ℕ) (among : Contai
   no_text id (Ok view) none = not_chosen (is_name name (name_of view)) refl
     where
       not_chosen : (b : Bool) → is_name name (name_of view) ≡ b
-          → IfChosen b (λ t. IsTextOfRecord x Detail.Block id view (reading_for store view) t) []
+          → IfChosen b (λ t. IsTextOfRecord x Detail.Block id view (known (reading_for store view)) t) []
       not_chosen false is = refl
       not_chosen true is =
           let one = list_any_at (λ n. is_name n (name_of view)) names among.0 name among.1 (ap (λ (n : List ℕ). is_name n (name_of view)) among.2 ∙ is) in

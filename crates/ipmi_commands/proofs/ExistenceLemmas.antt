@@ -1,7 +1,7 @@
 -- Each item has a text.
 use Rattle.std.proofs.Common.{◌≡◌, ℕ, suc, Bool, true, false, cond, nat_eq, Option, None, Some, Result, Ok, Err, List, [], ◌∷◌, All, refl, arith}
 use Rattle.ipmi_bus.specs.Store.{Inventory, IsInventory, inventory_in}
-use Rattle.ipmi_commands.specs.Below.{AreBytes, fru_of, Row, Store, IsStore, inventory_of, SdrFault, SdrView, printed_name, sdr_view_of, sel_view_of}
+use Rattle.ipmi_commands.specs.Below.{known, AreBytes, fru_of, Row, Store, IsStore, inventory_of, SdrFault, SdrView, printed_name, sdr_view_of, sel_view_of}
 use Rattle.ipmi_commands.specs.Prelude.{Detail, Form, IfChosen, IsBlockOfName, IsDevicePiece, IsLocatorPiece, IsRecordText, IsRowText, IsTextOver, is_faulty, ItemsHaveAText, OfInfo, OfInventory, OfRow, reading_for, row_is_of_kind, Subject, Texts, TextsExist}
 use Rattle.ipmi_commands.specs.Output.{no_output, piece_of}
 
@@ -29,12 +29,12 @@ inventory_bytes (x ∷ xs) id bytes all is =
 module _ {x : Texts} (exist : TextsExist x) where
   has_record : (detail : Detail) (store : Store) (row : Row) (view : Result SdrView SdrFault)
       → HasText (IsRecordText x detail store row view)
-  has_record detail store row (Ok view) = exist.has_record detail row.id view (reading_for store view)
+  has_record detail store row (Ok view) = exist.has_record detail row.id view (known (reading_for store view))
   has_record detail store row (Err fault) = exist.has_fault row.id fault row.bytes
 
   has_block_of_name : (name : List ℕ) (store : Store) (id : ℕ) (view : Result SdrView SdrFault)
       → HasText (IsBlockOfName x name store id view)
-  has_block_of_name name store id (Ok view) = has_chosen _ _ (exist.has_record Detail.Block id view (reading_for store view))
+  has_block_of_name name store id (Ok view) = has_chosen _ _ (exist.has_record Detail.Block id view (known (reading_for store view)))
   has_block_of_name name store id (Err fault) = ([], refl)
 
   has_inventory : (detail : Detail) (store : Store) (id : ℕ) (name : Option (List ℕ)) → IsStore store

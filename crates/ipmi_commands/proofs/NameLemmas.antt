@@ -1,6 +1,6 @@
 -- A record with the name was found if and only if something was written.
 use Rattle.std.proofs.Common.{◌≡◌, ℕ, ◌+◌, ◌<◌, ◌≤◌, ◌==◌, ◌||◌, not, Bool, true, false, Option, Result, Ok, Err, List, [], ◌∷◌, ◌++◌, length, refl, ap, ◌∙◌, arith, length-append}
-use Rattle.ipmi_commands.specs.Below.{Failure, Place, Reading, Row, SdrFault, Seen, SdrView, sdr_view_of, Store, Done, place_after}
+use Rattle.ipmi_commands.specs.Below.{known, Failure, Place, Reading, Row, SdrFault, Seen, SdrView, sdr_view_of, Store, Done, place_after}
 use Rattle.ipmi_commands.specs.Prelude.{AreTexts, Detail, end_of, ending_of, Form, IfChosen, IsTextOfRecord, IsBlockOfName, IsPieceOver, IsTextWhile, OfRow, Printed, reading_for, row_items, rows_end, some_has_name, Subject, view_has_name}
 use Rattle.ipmi_commands.specs.Output.{and_then, count_if, Output, piece_of}
 use Rattle.ipmi_commands.proofs.OutputLemmas.{then_nothing}
@@ -38,7 +38,7 @@ wrote_both false false first rest x y = rw (x, y) refl
 
 module _ (x : Texts) (name : List ℕ) (store : Store) where
   chosen_wrote : (b : Bool) (id : ℕ) (view : SdrView) (text : List ℕ)
-      → IfChosen b (λ t. IsTextOfRecord x Detail.Block id view (reading_for store view) t) text → HasText b text
+      → IfChosen b (λ t. IsTextOfRecord x Detail.Block id view (known (reading_for store view)) t) text → HasText b text
   chosen_wrote true id view text is = is.1
   chosen_wrote false id view text is = is
 

@@ -1,6 +1,6 @@
 -- The texts in codes and in words: each thing has one.
 use Rattle.std.proofs.Common.{◌≡◌, ◌++◌, ◌<◌, ℕ, Option, None, Some, List, length, refl, sym, ◌∙◌, arith, length-append}
-use Rattle.ipmi_commands.specs.Below.{AreBytes, entry_bytes, EventInWordsExists, EventInWordsIsUnique, ExtendedLineIsUnique, IsExtendedLine, IsFruLine, IsFruText, IsInfoBlock, IsSdrBlock, IsSdrLine, IsSelBlock, IsSelLine, IsSensorBlock, IsSensorLine, Reading, SdrLineIsUnique, SdrView, SelBlockIsUnique, SelLineIsUnique, SelView, SensorBlockExists, SensorBlockIsUnique, SensorLineExists, SensorLineIsUnique}
+use Rattle.ipmi_commands.specs.Below.{AreBytes, entry_bytes, EventInWordsExists, EventInWordsIsUnique, ExtendedLineIsUnique, IsExtendedLine, IsFruLine, IsFruText, IsInfoBlock, IsSdrBlock, IsSdrLine, IsSelBlock, IsSelLine, IsSensorBlock, IsSensorLine, KnownReading, SdrLineIsUnique, SdrView, SelBlockIsUnique, SelLineIsUnique, SelView, SensorBlockExists, SensorBlockIsUnique, SensorLineExists, SensorLineIsUnique}
 use Rattle.ipmi_commands.specs.declared.format.Detail.{Detail}
 use Rattle.ipmi_commands.specs.Format.{IsTextOfRecord, Texts, TextsAreOne, TextsExist}
 use Rattle.ipmi_commands.specs.Plain.{descriptive_texts, IsDeviceInWords, IsEntryInCodes, IsEntryInWords, IsInventoryPiece, IsInventoryText, IsRecordInCodes, IsRecordInWords, plain_texts}
@@ -10,11 +10,11 @@ abbrev IsOne : (List ℕ → Type 0) → Type 0
 IsOne IsText = (a b : List ℕ) → IsText a → IsText b → a ≡ b
 
 module _ (one_line : SdrLineIsUnique) (one_long : ExtendedLineIsUnique)
-    (one_block : (id : ℕ) (view : SdrView) (r : Option Reading) → IsOne (IsSdrBlock id view r))
+    (one_block : (id : ℕ) (view : SdrView) (r : KnownReading) → IsOne (IsSdrBlock id view r))
     (one_sel_line : SelLineIsUnique) (one_sel_block : SelBlockIsUnique)
     (one_info : (info text other : List ℕ) → AreBytes info → IsInfoBlock info text → IsInfoBlock info other → text ≡ other)
     (one_fru : (bytes : List ℕ) → IsOne (IsFruText bytes)) where
-  one_record : (detail : Detail) (id : ℕ) (view : SdrView) (reading : Option Reading)
+  one_record : (detail : Detail) (id : ℕ) (view : SdrView) (reading : KnownReading)
       → IsOne (IsRecordInCodes detail id view reading)
   one_record Detail.Line id view reading a b p q = one_line view reading a b p q
   one_record Detail.Long id view reading a b p q = one_long view reading a b p q
@@ -47,7 +47,7 @@ module _ (one_line : SdrLineIsUnique) (one_long : ExtendedLineIsUnique)
 
 module _ (plain : TextsAreOne plain_texts) (one_device_line : (id : ℕ) (name inventory : Option (List ℕ)) → IsOne (IsFruLine id name inventory))
     (one_event : EventInWordsIsUnique) (one_sensor_line : SensorLineIsUnique) (one_sensor_block : SensorBlockIsUnique) where
-  record_in_words : (detail : Detail) (id : ℕ) (view : SdrView) (reading : Option Reading)
+  record_in_words : (detail : Detail) (id : ℕ) (view : SdrView) (reading : KnownReading)
       → IsOne (IsRecordInWords detail id view reading)
   record_in_words Detail.Line id view reading a b p q = one_sensor_line view reading a b p q
   record_in_words Detail.Long id view reading a b p q = plain.record_is Detail.Long id view reading a b p q
@@ -82,14 +82,14 @@ module _ (plain : TextsAreOne plain_texts) (one_device_line : (id : ℕ) (name i
 abbrev HasText : (List ℕ → Type 0) → Type 0
 HasText IsText = (text : List ℕ) × IsText text
 
-module _ (line : (view : SdrView) (reading : Option Reading) → HasText (IsSdrLine view reading))
-    (long : (view : SdrView) (reading : Option Reading) → HasText (IsExtendedLine view reading))
-    (block : (id : ℕ) (view : SdrView) (reading : Option Reading) → HasText (IsSdrBlock id view reading))
+module _ (line : (view : SdrView) (reading : KnownReading) → HasText (IsSdrLine view reading))
+    (long : (view : SdrView) (reading : KnownReading) → HasText (IsExtendedLine view reading))
+    (block : (id : ℕ) (view : SdrView) (reading : KnownReading) → HasText (IsSdrBlock id view reading))
     (entry_line : (id : ℕ) (view : SelView) → HasText (IsSelLine id view))
     (entry_block : (id : ℕ) (view : SelView) → HasText (IsSelBlock id view))
     (info : (bytes : List ℕ) → HasText (IsInfoBlock bytes))
     (fru : (bytes : List ℕ) → AreBytes bytes → HasText (IsFruText bytes)) where
-  has_record : (detail : Detail) (id : ℕ) (view : SdrView) (reading : Option Reading)
+  has_record : (detail : Detail) (id : ℕ) (view : SdrView) (reading : KnownReading)
       → HasText (IsTextOfRecord plain_texts detail id view reading)
   has_record Detail.Line id view reading = let has = line view reading in (has.0, (has.1, grind (arith, length-append, has.1)))
   has_record Detail.Long id view reading = let has = long view reading in (has.0, (has.1, grind (arith, length-append, has.1)))
@@ -123,7 +123,7 @@ module _ (line : (view : SdrView) (reading : Option Reading) → HasText (IsSdrL
 module _ (plain : TextsExist plain_texts) (bare : (id : ℕ) (name : Option (List ℕ)) → HasText (IsFruLine id name None))
     (present : (id : ℕ) (name : Option (List ℕ)) (bytes : List ℕ) → AreBytes bytes → HasText (IsFruLine id name (Some bytes)))
     (in_words : EventInWordsExists) (sensor_line : SensorLineExists) (sensor_block : SensorBlockExists) where
-  has_record_in_words : (detail : Detail) (id : ℕ) (view : SdrView) (reading : Option Reading)
+  has_record_in_words : (detail : Detail) (id : ℕ) (view : SdrView) (reading : KnownReading)
       → HasText (IsTextOfRecord descriptive_texts detail id view reading)
   has_record_in_words Detail.Line id view reading = let has = sensor_line view reading in (has.0, (has.1, grind (arith, length-append, has.1)))
   has_record_in_words Detail.Long id view reading = plain.has_record Detail.Long id view reading

@@ -1,6 +1,6 @@
 -- Items have at most one text, and a finished run has at most one output.
 use Rattle.std.proofs.Common.{◌≡◌, ℕ, ◌+◌, zero, suc, ◌-◌, Bool, true, false, Option, None, Some, Result, Ok, Err, List, [], ◌∷◌, length, take, drop, sym, ap, ◌∙◌, arith}
-use Rattle.ipmi_commands.specs.Below.{Count, IsStore, WalkEnd, Shelf, Sdr, Sel, Place, First, Id, start_of, Row, IsShelf, FoundIsRow, AreBytes, Store, info_of, rows_of, store_shelf, AllOf, WalkExists, place_after, place_after_rows, SdrFault, SdrView, entry_bytes, sdr_view_of, sel_view_of, Ending}
+use Rattle.ipmi_commands.specs.Below.{known, Count, IsStore, WalkEnd, Shelf, Sdr, Sel, Place, First, Id, start_of, Row, IsShelf, FoundIsRow, AreBytes, Store, info_of, rows_of, store_shelf, AllOf, WalkExists, place_after, place_after_rows, SdrFault, SdrView, entry_bytes, sdr_view_of, sel_view_of, Ending}
 use Rattle.ipmi_commands.specs.Prelude.{after_names, after_points, AtRecord, bytes_of_rows, has_last, OnTail, OnTailFrom, OnTried, OnWhole, Plan, tail_from, NameLookup, OnNamed, PrintsAll, AreOfBytes, Detail, EntryText, named_entries, first_rows, FinishedRunsAreOne, Form, IfChosen, info_plan, Printed, IsBlockOfName, IsLocatorPiece, IsOfBytes, IsRecordText, IsTextOfRecord, IsRowText, IsTextOver, IsPieceOver, is_faulty, Item, ItemsHaveOneText, Job, last_items, last_plan, last_rows, OnWalk, reading_for, row_items, shelf_of, ReadPoint, points_of_walk, Subject, walk_call_bound, with_first_points, Texts, TextsAreOne}
 use Rattle.ipmi_commands.specs.Output.{Output, piece_of}
 use Rattle.ipmi_commands.specs.declared.limits.Tries.{Tries}
@@ -26,14 +26,14 @@ module _ {x : Texts} (one : TextsAreOne x) where
 
   one_record : (detail : Detail) (store : Store) (row : Row) (view : Result SdrView SdrFault)
       → IsOne (IsRecordText x detail store row view)
-  one_record detail store row (Ok view) a b p q = one.record_is detail row.id view (reading_for store view) a b p.0 q.0
+  one_record detail store row (Ok view) a b p q = one.record_is detail row.id view (known (reading_for store view)) a b p.0 q.0
   one_record detail store row (Err fault) a b p q = one.fault_is row.id fault row.bytes a b p q
 
   one_block_of_name : (name : List ℕ) (store : Store) (id : ℕ) (view : Result SdrView SdrFault)
       → IsOne (IsBlockOfName x name store id view)
   one_block_of_name name store id (Ok view) a b p q =
-      one_chosen _ (IsTextOfRecord x Detail.Block id view (reading_for store view))
-      (λ a b p q. one.record_is Detail.Block id view (reading_for store view) a b p.0 q.0) a b p q
+      one_chosen _ (IsTextOfRecord x Detail.Block id view (known (reading_for store view)))
+      (λ a b p q. one.record_is Detail.Block id view (known (reading_for store view)) a b p.0 q.0) a b p q
   one_block_of_name name store id (Err fault) a b p q = p ∙ sym q
 
   one_row : (form : Form) (store : Store) (row : Row) → AreBytes row.bytes → IsOne (IsRowText x store form row)

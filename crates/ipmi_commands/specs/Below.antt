@@ -2,8 +2,10 @@
 pub use Rattle.ipmi_text.specs.Appended.{Appends}
 pub use Rattle.ipmi_text.specs.Bytes.{AreBytes}
 pub use Rattle.ipmi_text.specs.declared.reading.Reading.{Reading}
+pub use Rattle.ipmi_records.specs.declared.column.KnownReading.{KnownReading}
 pub use Rattle.ipmi_fru.specs.Line.{elsewhere_line, IsFruLine}
 pub use Rattle.ipmi_fru.specs.Print.{IsFruText}
+pub use Rattle.ipmi_records.specs.Columns.{known}
 pub use Rattle.ipmi_records.specs.Info.{info_in, IsInfoBlock}
 pub use Rattle.ipmi_records.specs.Laws.{ExtendedLineIsUnique, SdrLineIsUnique, SelBlockIsUnique, SelLineIsUnique}
 pub use Rattle.ipmi_records.specs.Sdr.{fru_of, sdr_view_of}

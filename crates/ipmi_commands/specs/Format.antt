@@ -1,10 +1,10 @@
 -- What contracts say of a form of output: which texts it has for each thing that a command prints.
 use Rattle.std.specs.Prelude.{◌≡◌, ℕ, ◌<◌, length, Bool, Option, Some, List}
-use Rattle.ipmi_commands.specs.Below.{AreBytes, entry_bytes, Reading, Row, SdrFault, SdrView, SelView, Shelf}
+use Rattle.ipmi_commands.specs.Below.{AreBytes, entry_bytes, KnownReading, Row, SdrFault, SdrView, SelView, Shelf}
 use Rattle.ipmi_commands.specs.declared.format.Detail.{Detail}
 
 -- the texts of:
--- a sensor data record, by its id, with its reading;
+-- a sensor data record, by its id, with what is known of its sensor's reading;
 -- a record with a fault, by its id, the fault and its bytes;
 -- a record in hex;
 -- an entry of the event log, by its id, with the sensor data records that name its sensor, if they were read;
@@ -13,7 +13,7 @@ use Rattle.ipmi_commands.specs.declared.format.Detail.{Detail}
 -- a device of this name that is reached elsewhere.
 -- And whether the text of a device names a fault of its inventory, and whether entries and devices have names.
 pub record Texts : Type 1 where
-  pub IsRecord : Detail → ℕ → SdrView → Option Reading → List ℕ → Type 0
+  pub IsRecord : Detail → ℕ → SdrView → KnownReading → List ℕ → Type 0
   pub IsFault : ℕ → SdrFault → List ℕ → List ℕ → Type 0
   pub IsHex : Row → List ℕ → Type 0
   pub IsEntry : Detail → ℕ → SelView → Option (List (List ℕ)) → List ℕ → Type 0
@@ -24,12 +24,12 @@ pub record Texts : Type 1 where
   pub has_names : Detail → Bool
 
 -- a text of a record is not empty
-abbrev pub IsTextOfRecord : Texts → Detail → ℕ → SdrView → Option Reading → List ℕ → Type 0
+abbrev pub IsTextOfRecord : Texts → Detail → ℕ → SdrView → KnownReading → List ℕ → Type 0
 IsTextOfRecord x detail id view reading text = x.IsRecord detail id view reading text × (0 < length text)
 
 -- each thing has at most one text, if the numbers in it are bytes
 pub record TextsAreOne (x : Texts) : Type 0 where
-  pub record_is : (detail : Detail) (id : ℕ) (view : SdrView) (reading : Option Reading) (a b : List ℕ)
+  pub record_is : (detail : Detail) (id : ℕ) (view : SdrView) (reading : KnownReading) (a b : List ℕ)
       → x.IsRecord detail id view reading a → x.IsRecord detail id view reading b → a ≡ b
   pub fault_is : (id : ℕ) (fault : SdrFault) (bytes a b : List ℕ)
       → x.IsFault id fault bytes a → x.IsFault id fault bytes b → a ≡ b
@@ -43,7 +43,7 @@ pub record TextsAreOne (x : Texts) : Type 0 where
 
 -- each thing has a text
 pub record TextsExist (x : Texts) : Type 0 where
-  pub has_record : (detail : Detail) (id : ℕ) (view : SdrView) (reading : Option Reading)
+  pub has_record : (detail : Detail) (id : ℕ) (view : SdrView) (reading : KnownReading)
       → (text : List ℕ) × IsTextOfRecord x detail id view reading text
   pub has_fault : (id : ℕ) (fault : SdrFault) (bytes : List ℕ) → (text : List ℕ) × x.IsFault id fault bytes text
   pub has_hex : (row : Row) → (text : List ℕ) × x.IsHex row text

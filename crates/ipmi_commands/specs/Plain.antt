@@ -2,13 +2,13 @@
 use Rattle.std.specs.Prelude.{◌≡◌, ℕ, ◌++◌, Bool, true, false, is_some, Option, None, Some, List, [], codes, decimal}
 use Rattle.ipmi_fru.specs.Fault.{has_fault}
 use Rattle.ipmi_fru.specs.Header.{header_fault}
-use Rattle.ipmi_commands.specs.Below.{elsewhere_line, fault_line, IsEventInWords, IsExtendedLine, IsFruLine, IsFruText, IsInfoBlock, IsSdrBlock, IsSdrLine, IsSelBlock, IsSelLine, IsSensorBlock, IsSensorLine, Reading, record_line_of, SdrView, SelView}
+use Rattle.ipmi_commands.specs.Below.{elsewhere_line, fault_line, IsEventInWords, IsExtendedLine, IsFruLine, IsFruText, IsInfoBlock, IsSdrBlock, IsSdrLine, IsSelBlock, IsSelLine, IsSensorBlock, IsSensorLine, KnownReading, record_line_of, SdrView, SelView}
 use Rattle.ipmi_commands.specs.declared.format.Detail.{Detail}
 use Rattle.ipmi_commands.specs.Format.{Texts}
 
 -- ---- in codes
 
-abbrev pub IsRecordInCodes : Detail → ℕ → SdrView → Option Reading → List ℕ → Type 0
+abbrev pub IsRecordInCodes : Detail → ℕ → SdrView → KnownReading → List ℕ → Type 0
 IsRecordInCodes Detail.Line id view reading text = IsSdrLine view reading text
 IsRecordInCodes Detail.Long id view reading text = IsExtendedLine view reading text
 IsRecordInCodes Detail.Block id view reading text = IsSdrBlock id view reading text
@@ -49,7 +49,7 @@ plain_texts = record {
 
 -- ---- in words, of which only those are other texts that tell more
 
-abbrev pub IsRecordInWords : Detail → ℕ → SdrView → Option Reading → List ℕ → Type 0
+abbrev pub IsRecordInWords : Detail → ℕ → SdrView → KnownReading → List ℕ → Type 0
 IsRecordInWords Detail.Line id view reading text = IsSensorLine view reading text
 IsRecordInWords Detail.Long id view reading text = IsExtendedLine view reading text
 IsRecordInWords Detail.Block id view reading text = IsSensorBlock id view reading text

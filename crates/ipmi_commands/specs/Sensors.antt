@@ -2,7 +2,7 @@
 use Rattle.std.specs.Prelude.{◌≡◌, ◌⊎◌, ℕ, ◌+◌, ◌*◌, ◌<◌, ◌≤◌, ◌==◌, Bool, true, false, IsTrue, if◌then◌else◌, Option, None, Some, Result, Ok, Err, List, [], ◌∷◌, ◌++◌, length, take, drop}
 use Rattle.std.specs.FinSet as set
 use Rattle.std.specs.List.{Contains, list_any}
-use Rattle.ipmi_commands.specs.Below.{CursorState, CursorHoldsCurrent, CycleAt, digits, Done, End, Ended, Ending, Failure, Kind, LastCallSays, MissingAt, OnGrowing, Place, Reading, RefusesRecord, Row, Sdr, SdrFault, SdrView, sdr_view_of, Seen, Stepped, Store, WalkEnd, WasHeld}
+use Rattle.ipmi_commands.specs.Below.{CursorState, CursorHoldsCurrent, CycleAt, digits, Done, End, Ended, Ending, Failure, Kind, known, LastCallSays, MissingAt, OnGrowing, Place, Reading, RefusesRecord, Row, Sdr, SdrFault, SdrView, sdr_view_of, Seen, Stepped, Store, WalkEnd, WasHeld}
 use Rattle.ipmi_commands.specs.declared.limits.Tries.{Tries}
 use Rattle.ipmi_records.specs.Sdr as sdr
 use Rattle.ipmi_commands.specs.declared.format.Detail.{Detail}
@@ -202,7 +202,7 @@ SearchCalls tries begun s s' = 0 < begun.part
 -- the block of a found sensor with this name; nothing for any other, or with a fault
 abbrev pub IsBlockOfFound : Texts → List ℕ → Found → Result SdrView SdrFault → List ℕ → Type 0
 IsBlockOfFound x name found (Ok view) text =
-    IfChosen (is_name name (sdr.name_of view)) (λ t. IsTextOfRecord x Detail.Block found.id view found.reading t) text
+    IfChosen (is_name name (sdr.name_of view)) (λ t. IsTextOfRecord x Detail.Block found.id view (known found.reading) t) text
 IsBlockOfFound x name found (Err fault) text = text ≡ []
 
 -- it was printed, and counted as an item without a fault

@@ -1,6 +1,6 @@
 -- The texts that a command prints for a row, an inventory and an info, in any form of output.
 use Rattle.std.specs.Prelude.{◌≡◌, ℕ, ◌==◌, ◌||◌, not, Bool, true, false, is_err, Option, Some, None, Result, Ok, Err, List, [], bytes_eq}
-use Rattle.ipmi_commands.specs.Below.{Reading, Row, Store, inventory_of, reading_of, SdrFault, SdrView, Shelf, printed_name, sel_view_of, Kind}
+use Rattle.ipmi_commands.specs.Below.{known, Reading, Row, Store, inventory_of, reading_of, SdrFault, SdrView, Shelf, printed_name, sel_view_of, Kind}
 use Rattle.ipmi_records.specs.Sdr as sdr
 use Rattle.ipmi_commands.specs.declared.format.Detail.{Detail}
 use Rattle.ipmi_commands.specs.declared.job.Form.{Form}
@@ -45,7 +45,7 @@ reading_for store view = reading_by store (sdr.reading_of view)
 
 -- the text of a record with its reading, or of its fault
 abbrev pub IsRecordText : Texts → Detail → Store → Row → Result SdrView SdrFault → List ℕ → Type 0
-IsRecordText x detail store row (Ok view) text = IsTextOfRecord x detail row.id view (reading_for store view) text
+IsRecordText x detail store row (Ok view) text = IsTextOfRecord x detail row.id view (known (reading_for store view)) text
 IsRecordText x detail store row (Err fault) text = x.IsFault row.id fault row.bytes text
 
 -- the text of a record of this kind, nothing for any other
@@ -58,7 +58,7 @@ IsListedOfKind x detail kind store row text =
 abbrev pub IsBlockOfName : Texts → List ℕ → Store → ℕ → Result SdrView SdrFault → List ℕ → Type 0
 IsBlockOfName x name store id (Ok view) text =
     IfChosen (is_name name (sdr.name_of view))
-    (λ t. IsTextOfRecord x Detail.Block id view (reading_for store view) t) text
+    (λ t. IsTextOfRecord x Detail.Block id view (known (reading_for store view)) t) text
 IsBlockOfName x name store id (Err fault) text = text ≡ []
 
 -- ---- devices

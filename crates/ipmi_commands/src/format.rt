@@ -6,8 +6,7 @@ ghost use Rattle.ipmi_commands.specs.Format.{IsTextOfRecord, Texts, TextsAreOne,
 use ipmi_bus::{Record, Shelf};
 use ipmi_events::Sensors;
 use ipmi_image::LineBuffer;
-use ipmi_records::{SdrFault, SdrView, SelView};
-use ipmi_text::Reading;
+use ipmi_records::{KnownReading, SdrFault, SdrView, SelView};
 use std::alloc::{AllocError, Global};
 
 /// How much a command prints of a record, an entry or a device. A form of output may have the same text for several.
@@ -31,14 +30,14 @@ pub trait Format {
     fn has_names(&self, detail: Detail) -> bool
         ensures { result ≡ (texts self.now).has_names detail };
 
-    /// The text of a sensor data record with its reading.
+    /// The text of a sensor data record with what is known of its sensor's reading.
     fn record(
         &self,
         alloc: Global,
         detail: Detail,
         id: u16,
         view: &SdrView<'_>,
-        reading: Option<Reading>,
+        reading: KnownReading,
     ) -> Result<Vec<u8>, AllocError>
         ensures { IfOk result (λ text. IsTextOfRecord (texts self.now) detail id view.now reading text.items) };
 

@@ -15,8 +15,8 @@ use ipmi_bus::{Controller, Record, SEL_ENTRY_LEN, read_reading};
 use ipmi_command_line::Kind;
 use ipmi_image::LineBuffer;
 use ipmi_records::{
-    COMPACT_TYPE, CONTROLLER_TYPE, EVENT_ONLY_TYPE, FRU_TYPE, FULL_TYPE, GENERIC_TYPE, SdrView,
-    SelView,
+    COMPACT_TYPE, CONTROLLER_TYPE, EVENT_ONLY_TYPE, FRU_TYPE, FULL_TYPE, GENERIC_TYPE,
+    KnownReading, SdrView, SelView,
 };
 use ipmi_text::Reading;
 use std::alloc::{AllocError, Global};
@@ -97,7 +97,7 @@ fn listed_text<F: Format, C: Controller>(
         }
     };
     let reading = reading_for(ctl, lent.id, &view, tries)?;
-    let text = format.record(alloc, detail, lent.id, &view, reading)?;
+    let text = format.record(alloc, detail, lent.id, &view, KnownReading::from(reading))?;
     Ok(Piece::sound(text))
 }
 
@@ -138,7 +138,7 @@ fn named_block<F: Format, C: Controller>(
     }
     let id = lent.id;
     let reading = reading_for(ctl, id, &view, tries)?;
-    Ok(format.record(alloc, Detail::Block, id, &view, reading)?)
+    Ok(format.record(alloc, Detail::Block, id, &view, KnownReading::from(reading))?)
 }
 
 /// The text of an entry of the event log.

@@ -9,10 +9,9 @@ use ipmi_events::{Sensors, event_line, sensor_block, sensor_line};
 use ipmi_fru::{FruView, elsewhere_line, fru_line, has_fault, push_fru};
 use ipmi_image::{LineBuffer, record_line};
 use ipmi_records::{
-    SdrFault, SdrView, SelView, info_block, sdr_block, sdr_eline, sdr_fault_line, sdr_line,
-    sel_block, sel_line,
+    KnownReading, SdrFault, SdrView, SelView, info_block, sdr_block_with, sdr_eline_with,
+    sdr_fault_line, sdr_line_with, sel_block, sel_line,
 };
-use ipmi_text::Reading;
 use std::alloc::{AllocError, Global};
 
 /// The specified texts, in which most events and states are numbers. Events have no names.
@@ -85,12 +84,12 @@ impl Format for Plain {
         detail: Detail,
         id: u16,
         view: &SdrView<'_>,
-        reading: Option<Reading>,
+        reading: KnownReading,
     ) -> Result<Vec<u8>, AllocError> {
         match detail {
-            Detail::Line => Ok(sdr_line(alloc, view, reading)?.into_bytes()),
-            Detail::Long => Ok(sdr_eline(alloc, view, reading)?.into_bytes()),
-            Detail::Block => Ok(sdr_block(alloc, id, view, reading)?.into_bytes()),
+            Detail::Line => Ok(sdr_line_with(alloc, view, reading)?.into_bytes()),
+            Detail::Long => Ok(sdr_eline_with(alloc, view, reading)?.into_bytes()),
+            Detail::Block => Ok(sdr_block_with(alloc, id, view, reading)?.into_bytes()),
         }
     }
 
@@ -187,7 +186,7 @@ impl Format for Descriptive {
         detail: Detail,
         id: u16,
         view: &SdrView<'_>,
-        reading: Option<Reading>,
+        reading: KnownReading,
     ) -> Result<Vec<u8>, AllocError> {
         match detail {
             Detail::Line => Ok(sensor_line(alloc, view, reading)?.into_bytes()),

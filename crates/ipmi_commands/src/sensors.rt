@@ -18,7 +18,7 @@ use crate::summary::Summary;
 use ipmi_bus::{Controller, Cursor, Record};
 use ipmi_command_line::Word;
 use ipmi_output::{Failure, Sink};
-use ipmi_records::SdrView;
+use ipmi_records::{KnownReading, SdrView};
 use ipmi_text::Reading;
 use std::alloc::{AllocError, Global};
 use std::marker::Model;
@@ -198,7 +198,13 @@ fn found_block<F: Format>(
     if !is_name(name, &own) {
         return Ok(Vec::new(alloc));
     }
-    format.record(alloc, Detail::Block, found.id, &view, found.reading)
+    format.record(
+        alloc,
+        Detail::Block,
+        found.id,
+        &view,
+        KnownReading::from(found.reading),
+    )
 }
 
 /// Prints the block of each found sensor with this name, and counts it. Prints nothing if there is

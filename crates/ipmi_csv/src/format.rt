@@ -16,8 +16,7 @@ use ipmi_json::{
     tell_device, tell_device_elsewhere, tell_entry, tell_faulty_record, tell_info, tell_raw_record,
     tell_record,
 };
-use ipmi_records::{SdrFault, SdrView, SelView};
-use ipmi_text::Reading;
+use ipmi_records::{KnownReading, SdrFault, SdrView, SelView};
 use std::alloc::{AllocError, Global};
 
 /// CSV: a row for each record, entry, device and info, with the values of its JSON object. Events have the names of their
@@ -62,7 +61,7 @@ impl Format for Csv {
         _detail: Detail,
         id: u16,
         view: &SdrView<'_>,
-        reading: Option<Reading>,
+        reading: KnownReading,
     ) -> Result<Vec<u8>, AllocError> {
         let mut row = Row::new(alloc)?;
         tell_record(alloc, &mut row, id, view, reading)?;

@@ -1,7 +1,7 @@
 -- The line of a sensor consists of its columns.
 use Rattle.std.proofs.Common.{◌≡◌, ◌∙◌, ℕ, List, [], ◌∷◌, ◌++◌, Option, append_assoc, codes, refl}
 use Rattle.std.specs.List.{flat_map}
-use Rattle.ipmi_events.specs.Below.{Appends, Reading, SdrView, Sensor, columns_line, padded_to, shown_of}
+use Rattle.ipmi_events.specs.Below.{Appends, KnownReading, SdrView, Sensor, columns_line, padded_to, shown_of}
 use Rattle.ipmi_events.specs.SensorLines.{AppendsColumns, AppendsPadded, IsLineOfSensor, from_lowest, head_columns, with_thresholds}
 use Rattle.ipmi_events.specs.Shown.{IsReadingInWords}
 use Rattle.ipmi_events.specs.Status.{status_in_words}
@@ -12,7 +12,7 @@ columns_after : (first : List ℕ) (columns : List (List ℕ))
 columns_after first [] = refl
 columns_after first (next ∷ columns) = rw (columns_after next columns) (simp append_assoc)
 
-pub line_made : (view : SdrView) (sensor : Sensor) (reading : Option Reading) (told : Option (List ℕ))
+pub line_made : (view : SdrView) (sensor : Sensor) (reading : KnownReading) (told : Option (List ℕ))
     (empty named shown status rated bounded text : List ℕ) → empty ≡ []
     → named ≡ empty ++ head_columns view sensor
     → AppendsPadded 17 (IsReadingInWords view reading) named shown

@@ -1,17 +1,17 @@
 -- A record has a line and a block of its sensor.
 use Rattle.std.proofs.Common.{ℕ, Bool, true, false, Option, None, Some, ℤ, List, [], ◌∷◌, refl}
-use Rattle.ipmi_events.specs.Below.{DecimalExists, IsNumberText, Reading, ReadingColumnExists, SdrBlockExists, SdrLineExists, SdrView, Sensor, Threshold, ThresholdTextExists, factors_in, is_readable, reading_value, sensor_in, threshold_in, thresholds_of}
+use Rattle.ipmi_events.specs.Below.{DecimalExists, IsNumberText, KnownReading, ReadingColumnExists, SdrBlockExists, SdrLineExists, SdrView, Sensor, Threshold, ThresholdTextExists, factors_in, is_readable, reading_value, sensor_in, threshold_in, thresholds_of}
 use Rattle.ipmi_events.specs.SensorBlocks.{AreShownLines, AreThresholdLines, IsBlockOfSensor, IsSensorBlock}
 use Rattle.ipmi_events.specs.SensorLines.{AreThresholdColumns, IsLineOfSensor, IsSensorLine, IsThresholdColumn, IsValueOrDash, from_lowest, with_thresholds}
 use Rattle.ipmi_events.specs.Shown.{IsReadingInWords, IsShownBy, discrete_sensor}
 
 module _ (column : ReadingColumnExists) where
-  shown_text : (sensor : Option Sensor) (view : SdrView) (reading : Option Reading)
+  shown_text : (sensor : Option Sensor) (view : SdrView) (reading : KnownReading)
       → (text : List ℕ) × IsShownBy sensor view reading text
   shown_text None view reading = column view reading
   shown_text (Some sensor) view reading = (_, refl)
 
-  reading_text : (view : SdrView) (reading : Option Reading)
+  reading_text : (view : SdrView) (reading : KnownReading)
       → (text : List ℕ) × IsReadingInWords view reading text
   reading_text view reading = shown_text (discrete_sensor view) view reading
 
@@ -38,21 +38,21 @@ module _ (column : ReadingColumnExists) where
         let more = threshold_columns told thresholds in
         (first.0 ∷ more.0, (first.0, more.0, (first.1, (more.1, refl))))
 
-    line_of_sensor : (view : SdrView) (sensor : Sensor) (reading : Option Reading)
+    line_of_sensor : (view : SdrView) (sensor : Sensor) (reading : KnownReading)
         → (text : List ℕ) × IsLineOfSensor view sensor reading text
     line_of_sensor view sensor reading =
         let shown = reading_text view reading in
         let thresholds = threshold_columns (with_thresholds view) from_lowest in
         (_, record { column = shown.0; thresholds = thresholds.0; is_column = shown.1; are_thresholds = thresholds.1; text_is = refl })
 
-    pub sensor_line : (view : SdrView) (reading : Option Reading)
+    pub sensor_line : (view : SdrView) (reading : KnownReading)
         → (text : List ℕ) × IsSensorLine view reading text
     sensor_line (SdrView.Full bytes) reading = line_of_sensor (SdrView.Full bytes) (sensor_in bytes) reading
     sensor_line (SdrView.Compact bytes) reading = line_of_sensor (SdrView.Compact bytes) (sensor_in bytes) reading
     sensor_line view reading = line view reading
 
   module _ (texts : ThresholdTextExists) (block : SdrBlockExists) where
-    shown_lines : (view : SdrView) (sensor : Sensor) (reading : Option Reading)
+    shown_lines : (view : SdrView) (sensor : Sensor) (reading : KnownReading)
         → (text : List ℕ) × AreShownLines view sensor reading text
     shown_lines view sensor reading = let shown = reading_text view reading in (_, record { column = shown.0; is_column = shown.1; text_is = refl })
 
@@ -61,14 +61,14 @@ module _ (column : ReadingColumnExists) where
     threshold_lines (SdrView.Full bytes) sensor = texts bytes (thresholds_of sensor)
     threshold_lines _ sensor = (_, refl)
 
-    block_of_sensor : (id : ℕ) (view : SdrView) (sensor : Sensor) (reading : Option Reading)
+    block_of_sensor : (id : ℕ) (view : SdrView) (sensor : Sensor) (reading : KnownReading)
         → (text : List ℕ) × IsBlockOfSensor id view sensor reading text
     block_of_sensor id view sensor reading =
         let shown = shown_lines view sensor reading in
         let thresholds = threshold_lines view sensor in
         (_, record { shown = shown.0; thresholds = thresholds.0; are_shown = shown.1; are_thresholds = thresholds.1; text_is = refl })
 
-    pub sensor_block : (id : ℕ) (view : SdrView) (reading : Option Reading)
+    pub sensor_block : (id : ℕ) (view : SdrView) (reading : KnownReading)
         → (text : List ℕ) × IsSensorBlock id view reading text
     sensor_block id (SdrView.Full bytes) reading = block_of_sensor id (SdrView.Full bytes) (sensor_in bytes) reading
     sensor_block id (SdrView.Compact bytes) reading = block_of_sensor id (SdrView.Compact bytes) (sensor_in bytes) reading

@@ -1,17 +1,17 @@
 -- A record has at most one line and one block of its sensor.
 use Rattle.std.proofs.Common.{◌≡◌, ◌∙◌, ℕ, Bool, true, false, Option, None, Some, ℤ, List, [], ◌∷◌, sym}
-use Rattle.ipmi_events.specs.Below.{DecimalIsUnique, IsNumberText, Reading, ReadingColumnIsUnique, SdrBlockIsUnique, SdrLineIsUnique, SdrView, Sensor, Threshold, ThresholdTextIsUnique, factors_in, is_readable, reading_value, sensor_in, threshold_in, thresholds_of}
+use Rattle.ipmi_events.specs.Below.{DecimalIsUnique, IsNumberText, KnownReading, ReadingColumnIsUnique, SdrBlockIsUnique, SdrLineIsUnique, SdrView, Sensor, Threshold, ThresholdTextIsUnique, factors_in, is_readable, reading_value, sensor_in, threshold_in, thresholds_of}
 use Rattle.ipmi_events.specs.SensorBlocks.{AreShownLines, AreThresholdLines, IsBlockOfSensor, IsSensorBlock}
 use Rattle.ipmi_events.specs.SensorLines.{AreThresholdColumns, IsLineOfSensor, IsSensorLine, IsThresholdColumn, IsValueOrDash, from_lowest, with_thresholds}
 use Rattle.ipmi_events.specs.Shown.{IsReadingInWords, IsShownBy, discrete_sensor}
 
 module _ (one_column : ReadingColumnIsUnique) where
-  one_shown : (sensor : Option Sensor) (view : SdrView) (reading : Option Reading) (text other : List ℕ)
+  one_shown : (sensor : Option Sensor) (view : SdrView) (reading : KnownReading) (text other : List ℕ)
       → IsShownBy sensor view reading text → IsShownBy sensor view reading other → text ≡ other
   one_shown None view reading text other h k = one_column view reading text other h k
   one_shown (Some sensor) view reading text other h k = h ∙ sym k
 
-  one_reading : (view : SdrView) (reading : Option Reading) (text other : List ℕ)
+  one_reading : (view : SdrView) (reading : KnownReading) (text other : List ℕ)
       → IsReadingInWords view reading text → IsReadingInWords view reading other → text ≡ other
   one_reading view reading = one_shown (discrete_sensor view) view reading
 
@@ -40,20 +40,20 @@ module _ (one_column : ReadingColumnIsUnique) where
     one_list told (threshold ∷ thresholds) columns others h k =
         h.2.1.1 ∙ rw (one_threshold told threshold h.0 k.0 h.2.0 k.2.0, one_list told thresholds h.1 k.1 h.2.1.0 k.2.1.0) (sym k.2.1.1)
 
-    one_of_sensor : (view : SdrView) (sensor : Sensor) (reading : Option Reading) (text other : List ℕ)
+    one_of_sensor : (view : SdrView) (sensor : Sensor) (reading : KnownReading) (text other : List ℕ)
         → IsLineOfSensor view sensor reading text → IsLineOfSensor view sensor reading other
         → text ≡ other
     one_of_sensor view sensor reading text other h k =
         h.text_is ∙ rw (one_reading view reading h.column k.column h.is_column k.is_column, one_list (with_thresholds view) from_lowest h.thresholds k.thresholds h.are_thresholds k.are_thresholds) (sym k.text_is)
 
-    pub one_sensor_line : (view : SdrView) (reading : Option Reading) (text other : List ℕ)
+    pub one_sensor_line : (view : SdrView) (reading : KnownReading) (text other : List ℕ)
         → IsSensorLine view reading text → IsSensorLine view reading other → text ≡ other
     one_sensor_line (SdrView.Full bytes) reading text other h k = one_of_sensor (SdrView.Full bytes) (sensor_in bytes) reading text other h k
     one_sensor_line (SdrView.Compact bytes) reading text other h k = one_of_sensor (SdrView.Compact bytes) (sensor_in bytes) reading text other h k
     one_sensor_line view reading text other h k = one_line view reading text other h k
 
   module _ (one_text : ThresholdTextIsUnique) (one_block : SdrBlockIsUnique) where
-    one_shown_text : (view : SdrView) (sensor : Sensor) (reading : Option Reading) (text other : List ℕ)
+    one_shown_text : (view : SdrView) (sensor : Sensor) (reading : KnownReading) (text other : List ℕ)
         → AreShownLines view sensor reading text → AreShownLines view sensor reading other
         → text ≡ other
     one_shown_text view sensor reading text other h k =
@@ -64,13 +64,13 @@ module _ (one_column : ReadingColumnIsUnique) where
     one_threshold_text (SdrView.Full bytes) sensor text other h k = one_text bytes (thresholds_of sensor) text other h k
     one_threshold_text _ sensor text other h k = h ∙ sym k
 
-    block_of_sensor : (id : ℕ) (view : SdrView) (sensor : Sensor) (reading : Option Reading) (text other : List ℕ)
+    block_of_sensor : (id : ℕ) (view : SdrView) (sensor : Sensor) (reading : KnownReading) (text other : List ℕ)
         → IsBlockOfSensor id view sensor reading text → IsBlockOfSensor id view sensor reading other
         → text ≡ other
     block_of_sensor id view sensor reading text other h k =
         h.text_is ∙ rw (one_shown_text view sensor reading h.shown k.shown h.are_shown k.are_shown, one_threshold_text view sensor h.thresholds k.thresholds h.are_thresholds k.are_thresholds) (sym k.text_is)
 
-    pub one_sensor_block : (id : ℕ) (view : SdrView) (reading : Option Reading) (text other : List ℕ)
+    pub one_sensor_block : (id : ℕ) (view : SdrView) (reading : KnownReading) (text other : List ℕ)
         → IsSensorBlock id view reading text → IsSensorBlock id view reading other → text ≡ other
     one_sensor_block id (SdrView.Full bytes) reading text other h k = block_of_sensor id (SdrView.Full bytes) (sensor_in bytes) reading text other h k
     one_sensor_block id (SdrView.Compact bytes) reading text other h k = block_of_sensor id (SdrView.Compact bytes) (sensor_in bytes) reading text other h k

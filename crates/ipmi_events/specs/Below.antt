@@ -8,6 +8,7 @@ pub use Rattle.ipmi_text.specs.SensorTypes.{sensor_type_text_of}
 pub use Rattle.ipmi_text.specs.declared.reading.Reading.{Reading}
 pub use Rattle.ipmi_records.specs.Bytes.{columns_line, labelled_lines}
 pub use Rattle.ipmi_records.specs.Prelude.{AreThresholdTexts, IsNumberText, IsRawValue, IsReadingColumn, IsSdrBlock, IsSdrLine, ReadingColumnExists, ReadingColumnIsUnique, SdrBlockExists, SdrBlockIsUnique, SdrLineExists, SdrLineIsUnique, ThresholdTextExists, ThresholdTextIsUnique, analog_format, factors_in, has_bit, has_thresholds, is_readable, padded_to, printed_name, sensor_in, sharing_of, shown_of, states_of, threshold_bit, threshold_in, thresholds_of}
+pub use Rattle.ipmi_records.specs.declared.column.KnownReading.{KnownReading}
 pub use Rattle.ipmi_records.specs.declared.column.Shown.{Shown}
 pub use Rattle.ipmi_records.specs.declared.sdr.SdrView.{SdrView}
 pub use Rattle.ipmi_records.specs.declared.sensor.Sensor.{Sensor}

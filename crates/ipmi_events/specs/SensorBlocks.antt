@@ -1,7 +1,7 @@
 -- The block of a sensor (the project's own).
 use Rattle.std.specs.Prelude.{◌≡◌, ℕ, nat_lt, if◌then◌else◌, Option, Some, None, List, [], ◌∷◌, ◌++◌, codes, decimal}
 use Rattle.std.specs.List.{concat}
-use Rattle.ipmi_events.specs.Below.{AreThresholdTexts, IsSdrBlock, Reading, SdrView, Sensor, Sharing, byte_h, labelled, labelled_lines, printed_name, sensor_in, sensor_type_text_of, sharing_of, shown_of, thresholds_of, word_h}
+use Rattle.ipmi_events.specs.Below.{AreThresholdTexts, IsSdrBlock, KnownReading, SdrView, Sensor, Sharing, byte_h, labelled, labelled_lines, printed_name, sensor_in, sensor_type_text_of, sharing_of, shown_of, thresholds_of, word_h}
 use Rattle.ipmi_events.specs.Entities.{entity_in_words}
 use Rattle.ipmi_events.specs.Shown.{IsReadingInWords}
 use Rattle.ipmi_events.specs.Status.{status_in_words}
@@ -28,7 +28,7 @@ identity_lines id view sensor = labelled_lines (
     ∷ []))
 
 -- the reading and the status of the sensor
-pub record AreShownLines (view : SdrView) (sensor : Sensor) (reading : Option Reading)
+pub record AreShownLines (view : SdrView) (sensor : Sensor) (reading : KnownReading)
     (text : List ℕ) : Type 0 where
   pub column : List ℕ
   pub is_column : IsReadingInWords view reading column
@@ -42,7 +42,7 @@ AreThresholdLines (SdrView.Full bytes) sensor text =
 AreThresholdLines _ sensor text = text ≡ []
 
 -- the block ends with an empty line; for sensors that share a record, it describes the first
-pub record IsBlockOfSensor (id : ℕ) (view : SdrView) (sensor : Sensor) (reading : Option Reading)
+pub record IsBlockOfSensor (id : ℕ) (view : SdrView) (sensor : Sensor) (reading : KnownReading)
     (text : List ℕ) : Type 0 where
   pub shown : List ℕ
   pub thresholds : List ℕ
@@ -52,7 +52,7 @@ pub record IsBlockOfSensor (id : ℕ) (view : SdrView) (sensor : Sensor) (readin
       identity_lines id view sensor ∷ shown ∷ thresholds ∷ codes "\n" ∷ [])
 
 -- the block of a full or a compact record; any other record has the block of `sdr get`
-abbrev pub IsSensorBlock : ℕ → SdrView → Option Reading → List ℕ → Type 0
+abbrev pub IsSensorBlock : ℕ → SdrView → KnownReading → List ℕ → Type 0
 IsSensorBlock id (SdrView.Full bytes) reading text =
     IsBlockOfSensor id (SdrView.Full bytes) (sensor_in bytes) reading text
 IsSensorBlock id (SdrView.Compact bytes) reading text =

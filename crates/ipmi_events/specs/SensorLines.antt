@@ -1,6 +1,6 @@
 -- The line of a sensor (the project's own).
 use Rattle.std.specs.Prelude.{◌≡◌, ℕ, Bool, true, false, if◌then◌else◌, Option, Some, None, List, [], ◌∷◌, ◌++◌, codes, flat_map}
-use Rattle.ipmi_events.specs.Below.{IsRawValue, IsSdrLine, Reading, SdrView, Sensor, Threshold, byte_h, columns_line, has_thresholds, is_readable, padded_to, printed_name, sensor_in, shown_of, threshold_in}
+use Rattle.ipmi_events.specs.Below.{IsRawValue, IsSdrLine, KnownReading, SdrView, Sensor, Threshold, byte_h, columns_line, has_thresholds, is_readable, padded_to, printed_name, sensor_in, shown_of, threshold_in}
 use Rattle.ipmi_events.specs.Entities.{entity_in_words}
 use Rattle.ipmi_events.specs.Shown.{IsReadingInWords}
 use Rattle.ipmi_events.specs.Status.{status_in_words}
@@ -61,7 +61,7 @@ head_columns view sensor =
 
 -- The name of the record, by which `sensor get` finds it, then number, entity, reading, status, and the thresholds from lowest to
 -- highest. For sensors that share a record, the number and the reading are those of the first.
-pub record IsLineOfSensor (view : SdrView) (sensor : Sensor) (reading : Option Reading)
+pub record IsLineOfSensor (view : SdrView) (sensor : Sensor) (reading : KnownReading)
     (text : List ℕ) : Type 0 where
   pub column : List ℕ
   pub thresholds : List (List ℕ)
@@ -76,7 +76,7 @@ pub record IsLineOfSensor (view : SdrView) (sensor : Sensor) (reading : Option R
       ∷ thresholds)
 
 -- the line of a full or a compact record; any other record has the line of `sdr list`
-abbrev pub IsSensorLine : SdrView → Option Reading → List ℕ → Type 0
+abbrev pub IsSensorLine : SdrView → KnownReading → List ℕ → Type 0
 IsSensorLine (SdrView.Full bytes) reading text =
     IsLineOfSensor (SdrView.Full bytes) (sensor_in bytes) reading text
 IsSensorLine (SdrView.Compact bytes) reading text =

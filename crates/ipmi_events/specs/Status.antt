@@ -30,6 +30,7 @@ passed_status (Some threshold) = threshold_code threshold
 
 abbrev pub status_in_words : Sensor → Shown → List ℕ
 status_in_words sensor Shown.OtherOwner = codes "na"
+status_in_words sensor Shown.NotCaptured = codes "ns"
 status_in_words sensor Shown.NoReading = codes "ns"
 status_in_words sensor (Shown.Value reading) =
     if has_thresholds sensor then passed_status (first_passed from_worst reading.status)

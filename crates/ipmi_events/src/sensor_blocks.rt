@@ -7,8 +7,8 @@ use crate::entities::EntityInWords;
 use crate::shown::push_reading_in_words;
 use crate::status::status_in_words;
 use ipmi_records::SdrView::{self, Compact, Controller, EventOnly, Fru, Full, Generic, Other};
-use ipmi_records::{Sensor, push_name, sdr_block, threshold_lines};
-use ipmi_text::{ByteH, Reading, SensorType, WordH};
+use ipmi_records::{KnownReading, Sensor, push_name, sdr_block_with, threshold_lines};
+use ipmi_text::{ByteH, SensorType, WordH};
 use std::alloc::{AllocError, Global};
 
 /// The capacity for most groups of lines.
@@ -78,7 +78,7 @@ fn shown_lines(
     alloc: Global,
     view: &SdrView,
     sensor: &Sensor,
-    reading: Option<Reading>,
+    reading: KnownReading,
 ) -> Result<String, AllocError>
     ensures { IfOk result (λ text. AreShownLines view.now sensor.now reading (string_bytes text)) }
 {
@@ -106,7 +106,7 @@ fn block_of_sensor(
     id: u16,
     view: &SdrView,
     sensor: &Sensor,
-    reading: Option<Reading>,
+    reading: KnownReading,
 ) -> Result<String, AllocError>
     ensures { IfOk result (λ text.
         IsBlockOfSensor id view.now sensor.now reading (string_bytes text)) }
@@ -127,7 +127,7 @@ pub fn sensor_block(
     alloc: Global,
     id: u16,
     view: &SdrView,
-    reading: Option<Reading>,
+    reading: KnownReading,
 ) -> Result<String, AllocError>
     ensures { IfOk result (λ text. IsSensorBlock id view.now reading (string_bytes text)) }
 {
@@ -135,7 +135,7 @@ pub fn sensor_block(
         Full(full) => block_of_sensor(alloc, id, view, &full.sensor(), reading),
         Compact(compact) => block_of_sensor(alloc, id, view, &compact.sensor(), reading),
         EventOnly(_) | Generic(_) | Fru(_) | Controller(_) | Other(_) => {
-            sdr_block(alloc, id, view, reading)
+            sdr_block_with(alloc, id, view, reading)
         }
     }
 }

@@ -9,9 +9,10 @@ use crate::shown::push_reading_in_words;
 use crate::status::status_in_words;
 use ipmi_records::SdrView::{self, Compact, Controller, EventOnly, Fru, Full, Generic, Other};
 use ipmi_records::{
-    FullSensor, Sensor, Threshold, has_thresholds, pad, push_name_column, push_value, sdr_line,
+    FullSensor, KnownReading, Sensor, Threshold, has_thresholds, pad, push_name_column, push_value,
+    sdr_line_with,
 };
-use ipmi_text::{ByteH, Reading};
+use ipmi_text::ByteH;
 use std::alloc::{AllocError, Global};
 
 /// The capacity for most lines.
@@ -93,7 +94,7 @@ fn push_head_columns(
 fn push_reading_column(
     line: &mut String,
     view: &SdrView,
-    reading: Option<Reading>,
+    reading: KnownReading,
 ) -> Result<(), AllocError>
     ensures { OnOk result (AppendsPadded 17 (IsReadingInWords view.now reading)
         (string_bytes line.old) (string_bytes line.new)) }
@@ -119,7 +120,7 @@ fn line_of_sensor(
     alloc: Global,
     view: &SdrView,
     sensor: &Sensor,
-    reading: Option<Reading>,
+    reading: KnownReading,
 ) -> Result<String, AllocError>
     ensures { IfOk result (λ text. IsLineOfSensor view.now sensor.now reading (string_bytes text)) }
 {
@@ -134,12 +135,12 @@ fn line_of_sensor(
 
 /// The line of a sensor: the name of its record, its number, its entity, its reading, its status, and the thresholds
 /// of its record, from lowest to highest. For a discrete sensor, the reading column has the states in words.
-/// `reading` is the answer of Get Sensor Reading for the sensor that `SdrView::reading_of` names. If sensors share
+/// `reading` is what is known of the reading of the sensor that `SdrView::reading_of` names. If sensors share
 /// the record, the number is that of the first. A record that is neither full nor compact has its line of `sdr_line`.
 pub fn sensor_line(
     alloc: Global,
     view: &SdrView,
-    reading: Option<Reading>,
+    reading: KnownReading,
 ) -> Result<String, AllocError>
     ensures { IfOk result (λ text. IsSensorLine view.now reading (string_bytes text)) }
 {
@@ -147,7 +148,7 @@ pub fn sensor_line(
         Full(full) => line_of_sensor(alloc, view, &full.sensor(), reading),
         Compact(compact) => line_of_sensor(alloc, view, &compact.sensor(), reading),
         EventOnly(_) | Generic(_) | Fru(_) | Controller(_) | Other(_) => {
-            sdr_line(alloc, view, reading)
+            sdr_line_with(alloc, view, reading)
         }
     }
 }

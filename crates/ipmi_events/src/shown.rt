@@ -5,8 +5,10 @@ ghost use Rattle.ipmi_events.specs.Shown.{IsReadingInWords, discrete_column, dis
 
 use crate::states::push_states;
 use ipmi_records::SdrView::{self, Compact, Full};
-use ipmi_records::{Sensor, Shown, has_thresholds, push_reading, shown_of, states_in};
-use ipmi_text::{NO_ANALOG_READING, Reading};
+use ipmi_records::{
+    KnownReading, Sensor, Shown, has_thresholds, push_reading, shown_of, states_in,
+};
+use ipmi_text::NO_ANALOG_READING;
 use std::alloc::AllocError;
 
 /// The sensor, if it has no thresholds.
@@ -37,13 +39,14 @@ fn discrete_sensor(view: &SdrView) -> Option<Sensor>
 fn push_discrete(
     text: &mut String,
     sensor: &Sensor,
-    reading: Option<Reading>,
+    reading: KnownReading,
 ) -> Result<(), AllocError>
     ensures { OnOk result (string_bytes text.new ≡ string_bytes text.old
         ++ discrete_column sensor.now (shown_of sensor.now reading)) }
 {
     match shown_of(sensor, reading) {
         Shown::OtherOwner => text.push_str("other owner"),
+        Shown::NotCaptured => text.push_str("not captured"),
         Shown::NoReading => text.push_str("no reading"),
         Shown::Value(reading) => push_states(text, sensor, states_in(reading)),
     }
@@ -54,7 +57,7 @@ fn push_discrete(
 pub(crate) fn push_reading_in_words(
     text: &mut String,
     view: &SdrView,
-    reading: Option<Reading>,
+    reading: KnownReading,
 ) -> Result<(), AllocError>
     ensures { OnOk result (Appends (IsReadingInWords view.now reading) (string_bytes text.old)
         (string_bytes text.new)) }

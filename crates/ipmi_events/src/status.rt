@@ -3,8 +3,7 @@ ghost use Rattle.std.specs.Prelude.{◌≡◌};
 ghost use Rattle.ipmi_records.specs.Prelude.{shown_of};
 ghost use Rattle.ipmi_events.specs.Status.{first_passed, from_worst, passed_status, status_in_words, threshold_code};
 
-use ipmi_records::{Sensor, Shown, Threshold, has_thresholds, shown_of};
-use ipmi_text::Reading;
+use ipmi_records::{KnownReading, Sensor, Shown, Threshold, has_thresholds, shown_of};
 
 /// The short name of a threshold.
 fn threshold_code(threshold: Threshold) -> &'static str
@@ -50,15 +49,14 @@ fn passed_status(bits: u8) -> &'static str
     }
 }
 
-/// The status of a sensor, from the answer of Get Sensor Reading if there is one: `ok`, or for a threshold sensor the
-/// worst threshold that its reading has passed, such as `ucr` for the upper critical one. It is `ns` without a reading,
-/// and `na` if another controller owns the sensor.
-pub fn status_in_words(sensor: &Sensor, reading: Option<Reading>) -> &'static str
+/// The status of a sensor with this reading: `ok`, or for a threshold sensor the worst threshold that its reading has passed,
+/// such as `ucr` for the upper critical one. It is `ns` without a reading, and `na` if another controller owns the sensor.
+pub fn status_in_words(sensor: &Sensor, reading: KnownReading) -> &'static str
     ensures { result.now ≡ status_in_words sensor.now (shown_of sensor.now reading) }
 {
     match shown_of(sensor, reading) {
         Shown::OtherOwner => "na",
-        Shown::NoReading => "ns",
+        Shown::NotCaptured | Shown::NoReading => "ns",
         Shown::Value(reading) if has_thresholds(sensor) => passed_status(reading.status),
         Shown::Value(_) => "ok",
     }

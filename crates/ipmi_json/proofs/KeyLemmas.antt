@@ -1,7 +1,7 @@
 -- The keys of each object are object keys.
 use Rattle.std.proofs.Common.{◌∙◌, ◌++◌, ℕ, Option, None, Some, List, refl}
 use Rattle.std.proofs.lemmas.List.Folds.{list_all-append}
-use Rattle.ipmi_text.specs.declared.reading.Reading.{Reading}
+use Rattle.ipmi_records.specs.declared.column.KnownReading.{KnownReading}
 use Rattle.ipmi_fru.specs.Prelude.{header_fault}
 use Rattle.ipmi_fru.specs.declared.header.FruFault.{FruFault}
 use Rattle.ipmi_records.specs.Prelude.{entry_bytes, name_of, record_bytes}
@@ -28,7 +28,7 @@ name_keys : (name : Option (List ℕ)) → HaveObjectKeys (name_members name)
 name_keys None = refl
 name_keys (Some name) = refl
 
-record_keys : (view : SdrView) (reading : Option Reading) (ms : List Pair) → AreTold view reading ms → HaveObjectKeys ms
+record_keys : (view : SdrView) (reading : KnownReading) (ms : List Pair) → AreTold view reading ms → HaveObjectKeys ms
 record_keys (SdrView.Full bytes) reading ms h = rw (h.are, h.are_value.are, h.are_thresholds.are) refl
 record_keys (SdrView.Compact bytes) reading ms h = rw (h.are, h.are_value.are) refl
 record_keys (SdrView.EventOnly bytes) reading ms h = rw h refl
@@ -68,7 +68,7 @@ device_keys id name (Some bytes) ms h = keys_by_fault (header_fault bytes) id na
 module _ (Holds : List Label → List ℕ → Type 0)
     (of_object : (ms : List Pair) (labels : List Label) (text : List ℕ) → HaveObjectKeys ms
     → IsLineOf ms labels text → Holds labels text) where
-  of_record : (id : ℕ) (view : SdrView) (reading : Option Reading) (labels : List Label)
+  of_record : (id : ℕ) (view : SdrView) (reading : KnownReading) (labels : List Label)
       (text : List ℕ) → IsSdrLine id view reading labels text → Holds labels text
   of_record id view reading labels text h =
       let told = h.are.told in

@@ -7,7 +7,7 @@ use Rattle.json.specs.Json.{Json, number}
 use Rattle.ipmi_text.specs.Bytes.{AreBytes}
 use Rattle.ipmi_text.specs.Laws.{DecimalIsUnique, UtcTextIsUnique}
 use Rattle.ipmi_text.specs.Times.{IsUtcTextOf, second_text}
-use Rattle.ipmi_text.specs.declared.reading.Reading.{Reading}
+use Rattle.ipmi_records.specs.declared.column.KnownReading.{KnownReading}
 use Rattle.ipmi_text.specs.declared.units.Units.{Units}
 use Rattle.ipmi_events.specs.EventLines.{full_of}
 use Rattle.ipmi_events.specs.Laws.{DetailsAreUnique}
@@ -159,19 +159,19 @@ module _ (one : DecimalIsUnique) where
       let f = one_number one _ _ _ h.is_lower_non_critical k.is_lower_non_critical in
       h.are ∙ rw (a, b, c, d, e, f) (sym k.are)
 
-  one_full : (bytes : List ℕ) (reading : Option Reading) (status : List ℕ) (ms more : List Pair)
+  one_full : (bytes : List ℕ) (reading : KnownReading) (status : List ℕ) (ms more : List Pair)
       → AreFullMembers bytes reading status ms → AreFullMembers bytes reading status more
       → ms ≡ more
   one_full bytes reading status ms more h k =
       h.are ∙ rw (one_value _ _ h.value k.value h.are_value k.are_value, one_thresholds bytes h.thresholds k.thresholds h.are_thresholds k.are_thresholds) (sym k.are)
 
-  one_compact : (bytes : List ℕ) (reading : Option Reading) (status : List ℕ) (ms more : List Pair)
+  one_compact : (bytes : List ℕ) (reading : KnownReading) (status : List ℕ) (ms more : List Pair)
       → AreCompactMembers bytes reading status ms → AreCompactMembers bytes reading status more
       → ms ≡ more
   one_compact bytes reading status ms more h k =
       h.are ∙ rw (one_value _ _ h.value k.value h.are_value k.are_value) (sym k.are)
 
-  one_told : (view : SdrView) (reading : Option Reading) (ms more : List Pair)
+  one_told : (view : SdrView) (reading : KnownReading) (ms more : List Pair)
       → AreTold view reading ms → AreTold view reading more → ms ≡ more
   one_told (SdrView.Full bytes) reading ms more h k = one_full bytes reading _ ms more h k
   one_told (SdrView.Compact bytes) reading ms more h k = one_compact bytes reading _ ms more h k

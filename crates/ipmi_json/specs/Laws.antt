@@ -2,8 +2,8 @@
 use Rattle.std.specs.Prelude.{◌≡◌, ◌≢◌, ◌<◌, ℕ, ◌++◌, List, Option, codes, length}
 use Rattle.std.specs.List.{All}
 use Rattle.ipmi_text.specs.Bytes.{AreBytes}
-use Rattle.ipmi_text.specs.declared.reading.Reading.{Reading}
 use Rattle.ipmi_records.specs.Prelude.{entry_bytes}
+use Rattle.ipmi_records.specs.declared.column.KnownReading.{KnownReading}
 use Rattle.ipmi_records.specs.declared.sdr.SdrFault.{SdrFault}
 use Rattle.ipmi_records.specs.declared.sdr.SdrView.{SdrView}
 use Rattle.ipmi_records.specs.declared.sel.SelView.{SelView}
@@ -21,7 +21,7 @@ abbrev pub AreUnique : (List Pair → Type 0) → Type 0
 AreUnique Are = (ms more : List Pair) → Are ms → Are more → ms ≡ more
 
 abbrev pub RecordMembersAreUnique : Type 0
-RecordMembersAreUnique = (id : ℕ) (view : SdrView) (reading : Option Reading)
+RecordMembersAreUnique = (id : ℕ) (view : SdrView) (reading : KnownReading)
     → AreUnique (AreRecordMembers id view reading)
 
 abbrev pub EntryMembersAreUnique : Type 0
@@ -44,7 +44,7 @@ ObjectLineIsUnique = (ms : List Pair) (labels : List Label) (text other : List �
 
 -- a record has at most one line for an id, a reading and labels
 abbrev pub RecordLineIsUnique : Type 0
-RecordLineIsUnique = (id : ℕ) (view : SdrView) (reading : Option Reading) (labels : List Label)
+RecordLineIsUnique = (id : ℕ) (view : SdrView) (reading : KnownReading) (labels : List Label)
     (text other : List ℕ) → IsSdrLine id view reading labels text
     → IsSdrLine id view reading labels other → text ≡ other
 
@@ -75,7 +75,7 @@ NoObjectLineIsEmpty = (ms : List Pair) (labels : List Label) (text : List ℕ)
     → IsLineOf ms labels text → 0 < length text
 
 abbrev pub NoRecordLineIsEmpty : Type 0
-NoRecordLineIsEmpty = (id : ℕ) (view : SdrView) (reading : Option Reading) (labels : List Label)
+NoRecordLineIsEmpty = (id : ℕ) (view : SdrView) (reading : KnownReading) (labels : List Label)
     (text : List ℕ) → IsSdrLine id view reading labels text → 0 < length text
 
 abbrev pub NoEntryLineIsEmpty : Type 0
@@ -102,7 +102,7 @@ pub record IsOneLine (text : List ℕ) : Type 0 where
 
 -- what holds for each line of this crate, and the labels in it
 pub record ForEachLine (Holds : List Label → List ℕ → Type 0) : Type 0 where
-  pub sdr_record : (id : ℕ) (view : SdrView) (reading : Option Reading) (labels : List Label)
+  pub sdr_record : (id : ℕ) (view : SdrView) (reading : KnownReading) (labels : List Label)
       (text : List ℕ) → IsSdrLine id view reading labels text → Holds labels text
   pub sdr_fault : (id : ℕ) (fault : SdrFault) (bytes : List ℕ) (labels : List Label)
       (text : List ℕ) → IsLineOf (fault_members id fault bytes) labels text → Holds labels text

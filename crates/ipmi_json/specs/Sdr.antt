@@ -9,6 +9,7 @@ use Rattle.ipmi_text.specs.Units.{unit_text_of}
 use Rattle.ipmi_text.specs.declared.reading.Reading.{Reading}
 use Rattle.ipmi_text.specs.declared.units.Units.{Units}
 use Rattle.ipmi_records.specs.Prelude.{byte_at, event_only_sensor, factors_in, has_bit, has_thresholds, is_readable, locator_in, name_of, record_bytes, record_type, sensor_in, shown_of, states_of, status_of, threshold_in, units_in}
+use Rattle.ipmi_records.specs.declared.column.KnownReading.{KnownReading}
 use Rattle.ipmi_records.specs.declared.column.Shown.{Shown}
 use Rattle.ipmi_records.specs.declared.entity.Entity.{Entity}
 use Rattle.ipmi_records.specs.declared.locator.Locator.{Locator}
@@ -96,6 +97,11 @@ pub record AreValueMembers (value : Option ℤ) (units : Units) (ms : List Pair)
       ∷ (codes "unit", text_unless_empty (unit_text_of units.units1 units.base units.modifier))
       ∷ []
 
+-- the status with its direction, unless the reading was not captured
+abbrev pub status_words : Sensor → Shown → List ℕ
+status_words sensor Shown.NotCaptured = codes "not captured"
+status_words sensor shown = status_in_words sensor shown
+
 -- what else a sensor shows
 abbrev pub shown_members : Sensor → Shown → List ℕ → List Pair
 shown_members sensor shown status =
@@ -103,7 +109,7 @@ shown_members sensor shown status =
     ∷ (codes "states", integer_or_null (states_shown sensor shown))
     ∷ (codes "state_words", state_words_shown sensor shown)
     ∷ (codes "status", string status)
-    ∷ (codes "status_words", string (status_in_words sensor shown))
+    ∷ (codes "status_words", string (status_words sensor shown))
     ∷ []
 
 -- ---- thresholds
@@ -186,7 +192,7 @@ controller_members locator =
 -- ---- records
 
 -- a full record: its sensor, its reading with the status, and its thresholds
-pub record AreFullMembers (bytes : List ℕ) (reading : Option Reading) (status : List ℕ)
+pub record AreFullMembers (bytes : List ℕ) (reading : KnownReading) (status : List ℕ)
     (ms : List Pair) : Type 0 where
   pub value : List Pair
   pub thresholds : List Pair
@@ -196,7 +202,7 @@ pub record AreFullMembers (bytes : List ℕ) (reading : Option Reading) (status 
       ++ shown_members (sensor_in bytes) (shown_of (sensor_in bytes) reading) status) ++ thresholds
 
 -- a compact record, which has no conversion of readings
-pub record AreCompactMembers (bytes : List ℕ) (reading : Option Reading) (status : List ℕ)
+pub record AreCompactMembers (bytes : List ℕ) (reading : KnownReading) (status : List ℕ)
     (ms : List Pair) : Type 0 where
   pub value : List Pair
   pub are_value : AreValueMembers None (units_in bytes) value
@@ -204,7 +210,7 @@ pub record AreCompactMembers (bytes : List ℕ) (reading : Option Reading) (stat
       ++ shown_members (sensor_in bytes) (shown_of (sensor_in bytes) reading) status
 
 -- the members by the kind of the record; only a full and a compact record have a reading
-abbrev pub AreTold : SdrView → Option Reading → List Pair → Type 0
+abbrev pub AreTold : SdrView → KnownReading → List Pair → Type 0
 AreTold (SdrView.Full bytes) reading ms =
     AreFullMembers bytes reading (status_of (SdrView.Full bytes) reading) ms
 AreTold (SdrView.Compact bytes) reading ms =
@@ -216,7 +222,7 @@ AreTold (SdrView.Controller bytes) reading ms = ms ≡ controller_members (locat
 AreTold (SdrView.Other bytes) reading ms = ms ≡ []
 
 -- the members of a record, with its id
-pub record AreRecordMembers (id : ℕ) (view : SdrView) (reading : Option Reading)
+pub record AreRecordMembers (id : ℕ) (view : SdrView) (reading : KnownReading)
     (ms : List Pair) : Type 0 where
   pub told : List Pair
   pub are_told : AreTold view reading told
@@ -225,7 +231,7 @@ pub record AreRecordMembers (id : ℕ) (view : SdrView) (reading : Option Readin
       ++ name_members (name_of view)) ++ told) ++ raw_members (record_bytes view)
 
 -- the line of a record, with its id
-abbrev pub IsSdrLine : ℕ → SdrView → Option Reading → List Label → List ℕ → Type 0
+abbrev pub IsSdrLine : ℕ → SdrView → KnownReading → List Label → List ℕ → Type 0
 IsSdrLine id view reading labels text =
     IsLineOfSome (AreRecordMembers id view reading) labels text
 

@@ -9,8 +9,7 @@ use ipmi_commands::{Detail, Format};
 use ipmi_events::Sensors;
 use ipmi_fru::has_fault;
 use ipmi_image::LineBuffer;
-use ipmi_records::{SdrFault, SdrView, SelView};
-use ipmi_text::Reading;
+use ipmi_records::{KnownReading, SdrFault, SdrView, SelView};
 use std::alloc::{AllocError, Global};
 
 /// JSON: an object in a line for each record, entry, device and info. Events have the names of their sensors.
@@ -35,7 +34,7 @@ impl Format for Json<'_> {
         _detail: Detail,
         id: u16,
         view: &SdrView<'_>,
-        reading: Option<Reading>,
+        reading: KnownReading,
     ) -> Result<Vec<u8>, AllocError> {
         crate::laws::no_line_is_empty();
         sdr_record_line(alloc, id, view, reading, self.labels)

@@ -4,7 +4,7 @@ ghost use Rattle.ipmi_text.specs.Units.{unit_text_of};
 ghost use Rattle.ipmi_records.specs.Prelude.{byte_at, has_bit, locator_in, name_of, shown_of};
 ghost use Rattle.ipmi_json.specs.Members.{Tells, TellsSome};
 ghost use Rattle.ipmi_json.specs.Object.{IsDecimalOrNull, integer, IsLineOf, json_of, text_unless_empty};
-ghost use Rattle.ipmi_json.specs.Sdr.{AreCompactMembers, AreFullMembers, AreRecordMembers, AreThresholdMembers, AreTold, AreValueMembers, IsSdrLine, bytes_members, controller_members, entity_members, fault_members, fault_word, fru_address, fru_id, fru_locator_members, generic_members, kind_word, name_members, raw_shown, sensor_members, shown_members, slave_address, states_in, states_shown, threshold_value, value_shown};
+ghost use Rattle.ipmi_json.specs.Sdr.{AreCompactMembers, AreFullMembers, AreRecordMembers, AreThresholdMembers, AreTold, AreValueMembers, IsSdrLine, bytes_members, controller_members, entity_members, fault_members, fault_word, fru_address, fru_id, fru_locator_members, generic_members, kind_word, name_members, raw_shown, sensor_members, shown_members, slave_address, states_in, states_shown, status_words, threshold_value, value_shown};
 
 use crate::decimal::decimal_or_null;
 use crate::members::{Members, put_members, put_printed};
@@ -14,8 +14,8 @@ use crate::states::tell_state_words;
 use ipmi_events::{EntityWords, status_in_words};
 use ipmi_records::SdrView::{Compact, Controller, EventOnly, Fru, Full, Generic, Other};
 use ipmi_records::{
-    CompactSensor, Entity, FruLocator, FullSensor, Locator, SdrFault, SdrView, Sensor, Shown,
-    Threshold, has_thresholds, shown_of, states_in, status_of,
+    CompactSensor, Entity, FruLocator, FullSensor, KnownReading, Locator, SdrFault, SdrView,
+    Sensor, Shown, Threshold, has_thresholds, shown_of, states_in, status_of,
 };
 use ipmi_text::{Fixed, Reading, SensorType, Units, convert, push_sdr_text, push_units};
 use std::alloc::{AllocError, Global};
@@ -101,7 +101,7 @@ fn raw_shown(shown: Shown) -> Option<u64>
 {
     match shown {
         Shown::Value(reading) => Some(u64::from(reading.raw)),
-        Shown::OtherOwner | Shown::NoReading => None,
+        Shown::OtherOwner | Shown::NotCaptured | Shown::NoReading => None,
     }
 }
 
@@ -122,7 +122,7 @@ fn states_shown(sensor: &Sensor, shown: Shown) -> Option<u64>
 {
     match shown {
         Shown::Value(reading) => Some(states_by(sensor, reading)),
-        Shown::OtherOwner | Shown::NoReading => None,
+        Shown::OtherOwner | Shown::NotCaptured | Shown::NoReading => None,
     }
 }
 
@@ -132,7 +132,7 @@ fn value_shown(full: &FullSensor, shown: Shown) -> Option<Fixed>
 {
     match shown {
         Shown::Value(reading) => convert(&full.factors(), reading.raw),
-        Shown::OtherOwner | Shown::NoReading => None,
+        Shown::OtherOwner | Shown::NotCaptured | Shown::NoReading => None,
     }
 }
 
@@ -168,12 +168,22 @@ fn tell_value<M: Members>(
     out.put("unit", unit_or_null(text, units)?)
 }
 
+/// The status with its direction, unless the reading was not captured.
+fn status_words(sensor: &Sensor, reading: KnownReading) -> &'static str
+    ensures { result.now ≡ status_words sensor.now (shown_of sensor.now reading) }
+{
+    match shown_of(sensor, reading) {
+        Shown::NotCaptured => "not captured",
+        _ => status_in_words(sensor, reading),
+    }
+}
+
 /// Tells what else a sensor shows.
 fn tell_shown<M: Members>(
     alloc: Global,
     out: &mut M,
     sensor: &Sensor,
-    reading: Option<Reading>,
+    reading: KnownReading,
     status: &'static str,
 ) -> Result<(), AllocError>
     ensures { OnOk result
@@ -181,7 +191,7 @@ fn tell_shown<M: Members>(
         out.old out.new) }
 {
     let shown = shown_of(sensor, reading);
-    let words = status_in_words(sensor, reading);
+    let words = status_words(sensor, reading);
     out.put("reading_raw", integer_or_null(raw_shown(shown)))?;
     out.put("states", integer_or_null(states_shown(sensor, shown)))?;
     tell_state_words(alloc, out, sensor, shown)?;
@@ -337,7 +347,7 @@ fn tell_full<M: Members>(
     out: &mut M,
     text: &mut String,
     full: &FullSensor,
-    reading: Option<Reading>,
+    reading: KnownReading,
     status: &'static str,
 ) -> Result<(), AllocError>
     ensures { OnOk result
@@ -357,7 +367,7 @@ fn tell_compact<M: Members>(
     out: &mut M,
     text: &mut String,
     compact: &CompactSensor,
-    reading: Option<Reading>,
+    reading: KnownReading,
     status: &'static str,
 ) -> Result<(), AllocError>
     ensures { OnOk result
@@ -375,7 +385,7 @@ fn tell_by_kind<M: Members>(
     out: &mut M,
     text: &mut String,
     view: &SdrView,
-    reading: Option<Reading>,
+    reading: KnownReading,
 ) -> Result<(), AllocError>
     ensures { OnOk result (TellsSome M.told (AreTold view.now reading) out.old out.new) }
 {
@@ -391,14 +401,14 @@ fn tell_by_kind<M: Members>(
     }
 }
 
-/// Tells the members of a record with its id, and with the answer of Get Sensor Reading for its sensor, if there is one. The
+/// Tells the members of a record with its id, and with what is known of its sensor's reading. The
 /// members are flat: each threshold is a member of the record itself, with a key of its own.
 pub fn tell_record<M: Members>(
     alloc: Global,
     out: &mut M,
     id: u16,
     view: &SdrView,
-    reading: Option<Reading>,
+    reading: KnownReading,
 ) -> Result<(), AllocError>
     ensures { OnOk result (TellsSome M.told (AreRecordMembers id view.now reading) out.old out.new) }
 {
@@ -414,7 +424,7 @@ pub fn sdr_record_line(
     alloc: Global,
     id: u16,
     view: &SdrView,
-    reading: Option<Reading>,
+    reading: KnownReading,
     labels: &[Label],
 ) -> Result<Vec<u8>, AllocError>
     ensures { IfOk result (λ line. IsSdrLine id view.now reading labels.now line.items) }

@@ -5,10 +5,12 @@ mod answer;
 mod causes;
 mod input;
 mod printing;
+mod with_lacks;
 mod wording;
 
 pub use answer::answer_buffered;
 pub use causes::cause_words;
 pub use input::{InputFault, MOST_BYTES, input_name, read_image, read_input, read_words, words_of};
 pub use printing::flush;
+pub use with_lacks::{WithLacks, nothing_lacks};
 pub use wording::Wording;

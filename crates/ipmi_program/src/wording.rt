@@ -4,8 +4,7 @@ use ipmi_commands::{Descriptive, Detail, Format, Plain};
 use ipmi_events::Sensors;
 use ipmi_image::LineBuffer;
 use ipmi_json::{Json, Label};
-use ipmi_records::{SdrFault, SdrView, SelView};
-use ipmi_text::Reading;
+use ipmi_records::{KnownReading, SdrFault, SdrView, SelView};
 use std::alloc::{AllocError, Global};
 
 /// A form of output.
@@ -38,7 +37,7 @@ impl Format for Wording<'_> {
         detail: Detail,
         id: u16,
         view: &SdrView<'_>,
-        reading: Option<Reading>,
+        reading: KnownReading,
     ) -> Result<Vec<u8>, AllocError> {
         match self {
             Wording::Plain => Plain.record(alloc, detail, id, view, reading),

@@ -1,7 +1,7 @@
 -- A record, an entry and an info have a text of each form.
 use Rattle.std.proofs.Common.{ℕ, Bool, true, false, Option, None, Some, ℤ, List, [], ◌∷◌, ◌++◌, ◌==◌, if◌then◌else◌, refl}
-use Rattle.ipmi_records.specs.Below.{reading_value, Reading, DecimalExists, UtcTextExists}
-use Rattle.ipmi_records.specs.Prelude.{Shown, SdrView, SelView, Threshold, IsRawText, IsReadingColumn, IsSensorColumn, IsValueText, analog_format, shown_of, unit_text_in, IsInfoBlock, AreReadingLines, AreThresholdTexts, AreValueLines, IsExtendedLine, IsSdrBlock, IsSdrLine, IsThresholdText, thresholds_of, AreFieldLines, IsSelBlock, IsSelLine, factors_in, is_readable, sensor_in, threshold_in, time_stamp, number_at}
+use Rattle.ipmi_records.specs.Below.{reading_value, DecimalExists, UtcTextExists}
+use Rattle.ipmi_records.specs.Prelude.{KnownReading, Shown, SdrView, SelView, Threshold, IsRawText, IsReadingColumn, IsSensorColumn, IsValueText, analog_format, shown_of, unit_text_in, IsInfoBlock, AreReadingLines, AreThresholdTexts, AreValueLines, IsExtendedLine, IsSdrBlock, IsSdrLine, IsThresholdText, thresholds_of, AreFieldLines, IsSelBlock, IsSelLine, factors_in, is_readable, sensor_in, threshold_in, time_stamp, number_at}
 
 -- ---- sensor data records
 
@@ -19,21 +19,21 @@ module _ (decimal : DecimalExists) where
   sensor_column (Shown.Value reading) (Some bytes) = raw_text bytes reading.raw
   sensor_column _ _ = (_, refl)
 
-  pub column_of : (view : SdrView) (reading : Option Reading)
+  pub column_of : (view : SdrView) (reading : KnownReading)
       → (text : List ℕ) × IsReadingColumn view reading text
   column_of (SdrView.Full bytes) reading = sensor_column (shown_of (sensor_in bytes) reading) (if analog_format bytes == 3 then None else Some bytes)
   column_of (SdrView.Compact bytes) reading = sensor_column (shown_of (sensor_in bytes) reading) None
   column_of _ reading = (_, refl)
 
-  pub sdr_line : (view : SdrView) (reading : Option Reading)
+  pub sdr_line : (view : SdrView) (reading : KnownReading)
       → (text : List ℕ) × IsSdrLine view reading text
   sdr_line view reading = let column = column_of view reading in (_, record { column = column.0; is_column = column.1; text_is = refl })
 
-  pub extended_line : (view : SdrView) (reading : Option Reading)
+  pub extended_line : (view : SdrView) (reading : KnownReading)
       → (text : List ℕ) × IsExtendedLine view reading text
   extended_line view reading = let column = column_of view reading in (_, record { column = column.0; is_column = column.1; text_is = refl })
 
-  reading_lines : (view : SdrView) (reading : Option Reading)
+  reading_lines : (view : SdrView) (reading : KnownReading)
       → (text : List ℕ) × AreReadingLines view reading text
   reading_lines view reading = let column = column_of view reading in (_, record { column = column.0; is_column = column.1; text_is = refl })
 
@@ -57,7 +57,7 @@ module _ (decimal : DecimalExists) where
       let more = threshold_texts bytes thresholds in
       (line.0 ++ more.0, (line.0, more.0, (line.1, (more.1, refl))))
 
-  value_lines : (view : SdrView) (reading : Option Reading)
+  value_lines : (view : SdrView) (reading : KnownReading)
       → (text : List ℕ) × AreValueLines view reading text
   value_lines (SdrView.Full bytes) reading =
       let columns = reading_lines (SdrView.Full bytes) reading in
@@ -66,7 +66,7 @@ module _ (decimal : DecimalExists) where
   value_lines (SdrView.Compact bytes) reading = reading_lines (SdrView.Compact bytes) reading
   value_lines _ reading = (_, refl)
 
-  pub sdr_block : (id : ℕ) (view : SdrView) (reading : Option Reading)
+  pub sdr_block : (id : ℕ) (view : SdrView) (reading : KnownReading)
       → (text : List ℕ) × IsSdrBlock id view reading text
   sdr_block id view reading = let values = value_lines view reading in (_, record { values = values.0; are_values = values.1; text_is = refl })
 

@@ -4,8 +4,8 @@ use Rattle.std.proofs.lemmas.Bool.{cases_lt}
 use Rattle.std.proofs.lemmas.List.{get_or_past}
 use Rattle.byteorder.specs.Endian.{little_from}
 use Rattle.byteorder.specs.Numbers.{little_from-lt}
-use Rattle.ipmi_records.specs.Below.{AreBytes, reading_value, IsUtcTextOf, Reading, DecimalIsUnique, UtcTextIsUnique}
-use Rattle.ipmi_records.specs.Prelude.{Shown, SdrView, SelView, Threshold, IsRawText, IsReadingColumn, IsSensorColumn, IsValueText, analog_format, shown_of, unit_text_in, IsInfoBlock, AreReadingLines, AreThresholdTexts, AreValueLines, IsExtendedLine, IsSdrBlock, IsSdrLine, IsThresholdText, thresholds_of, entry_bytes, AreFieldLines, IsSelBlock, IsSelLine, factors_in, is_readable, sensor_in, threshold_in}
+use Rattle.ipmi_records.specs.Below.{AreBytes, reading_value, IsUtcTextOf, DecimalIsUnique, UtcTextIsUnique}
+use Rattle.ipmi_records.specs.Prelude.{KnownReading, Shown, SdrView, SelView, Threshold, IsRawText, IsReadingColumn, IsSensorColumn, IsValueText, analog_format, shown_of, unit_text_in, IsInfoBlock, AreReadingLines, AreThresholdTexts, AreValueLines, IsExtendedLine, IsSdrBlock, IsSdrLine, IsThresholdText, thresholds_of, entry_bytes, AreFieldLines, IsSelBlock, IsSelLine, factors_in, is_readable, sensor_in, threshold_in}
 
 -- ---- sensor data records
 
@@ -24,21 +24,21 @@ module _ (one_text : DecimalIsUnique) where
   one_sensor (Shown.Value reading) (Some bytes) text other h k = one_raw bytes reading.raw text other h k
   one_sensor _ _ text other h k = h ∙ sym k
 
-  pub one_column : (view : SdrView) (reading : Option Reading) (text other : List ℕ)
+  pub one_column : (view : SdrView) (reading : KnownReading) (text other : List ℕ)
       → IsReadingColumn view reading text → IsReadingColumn view reading other → text ≡ other
   one_column (SdrView.Full bytes) reading text other h k = one_sensor (shown_of (sensor_in bytes) reading) (if analog_format bytes == 3 then None else Some bytes) text other h k
   one_column (SdrView.Compact bytes) reading text other h k = one_sensor (shown_of (sensor_in bytes) reading) None text other h k
   one_column _ reading text other h k = h ∙ sym k
 
-  pub one_sdr_line : (view : SdrView) (reading : Option Reading) (text other : List ℕ)
+  pub one_sdr_line : (view : SdrView) (reading : KnownReading) (text other : List ℕ)
       → IsSdrLine view reading text → IsSdrLine view reading other → text ≡ other
   one_sdr_line view reading text other h k = cc (one_column view reading h.column k.column h.is_column k.is_column)
 
-  pub one_extended_line : (view : SdrView) (reading : Option Reading) (text other : List ℕ)
+  pub one_extended_line : (view : SdrView) (reading : KnownReading) (text other : List ℕ)
       → IsExtendedLine view reading text → IsExtendedLine view reading other → text ≡ other
   one_extended_line view reading text other h k = cc (one_column view reading h.column k.column h.is_column k.is_column)
 
-  one_pair : (view : SdrView) (reading : Option Reading) (text other : List ℕ)
+  one_pair : (view : SdrView) (reading : KnownReading) (text other : List ℕ)
       → AreReadingLines view reading text → AreReadingLines view reading other → text ≡ other
   one_pair view reading text other h k = cc (one_column view reading h.column k.column h.is_column k.is_column)
 
@@ -55,14 +55,14 @@ module _ (one_text : DecimalIsUnique) where
   one_list bytes (threshold ∷ thresholds) text other h k =
       h.2.1.1 ∙ rw (one_threshold (is_readable threshold bytes) bytes threshold h.0 k.0 h.2.0 k.2.0, one_list bytes thresholds h.1 k.1 h.2.1.0 k.2.1.0) (sym k.2.1.1)
 
-  one_values : (view : SdrView) (reading : Option Reading) (text other : List ℕ)
+  one_values : (view : SdrView) (reading : KnownReading) (text other : List ℕ)
       → AreValueLines view reading text → AreValueLines view reading other → text ≡ other
   one_values (SdrView.Full bytes) reading text other h k =
       h.text_is ∙ rw (one_pair (SdrView.Full bytes) reading h.columns k.columns h.are_columns k.are_columns, one_list bytes (thresholds_of (sensor_in bytes)) h.thresholds k.thresholds h.are_thresholds k.are_thresholds) (sym k.text_is)
   one_values (SdrView.Compact bytes) reading text other h k = one_pair (SdrView.Compact bytes) reading text other h k
   one_values _ reading text other h k = h ∙ sym k
 
-  pub one_sdr_block : (id : ℕ) (view : SdrView) (reading : Option Reading) (text other : List ℕ)
+  pub one_sdr_block : (id : ℕ) (view : SdrView) (reading : KnownReading) (text other : List ℕ)
       → IsSdrBlock id view reading text → IsSdrBlock id view reading other → text ≡ other
   one_sdr_block id view reading text other h k = cc (one_values view reading h.values k.values h.are_values k.are_values)
 

@@ -2,6 +2,7 @@
 -- Sensor Reading (IPMI v2.0, section 35.14).
 use Rattle.std.specs.Prelude.{◌≡◌, ℕ, ◌+◌, ◌*◌, ◌%◌, ◌==◌, ◌&&◌, ◌||◌, not, Bool, if◌then◌else◌, ℤ, Option, Some, None, List, ◌++◌, codes, decimal}
 use Rattle.ipmi_records.specs.Below.{IsDecimalOf, byte_h, hex_byte, hex_word, is_available, reading_value, after_space, unit_text_of, Reading}
+use Rattle.ipmi_records.specs.declared.column.KnownReading.{KnownReading}
 use Rattle.ipmi_records.specs.declared.column.Shown.{Shown}
 use Rattle.ipmi_records.specs.declared.sdr.SdrView.{SdrView}
 use Rattle.ipmi_records.specs.declared.sensor.Sensor.{Sensor}
@@ -11,13 +12,19 @@ use Rattle.ipmi_records.specs.Sensor.{analog_format, factors_in, locator_in, sen
 
 -- ---- what is shown of a sensor
 
-abbrev pub shown_reading : Option Reading → Shown
-shown_reading None = Shown.NoReading
-shown_reading (Some reading) = if is_available reading then Shown.Value reading else Shown.NoReading
+-- the reading that a controller has, or that it has none
+abbrev pub known : Option Reading → KnownReading
+known None = KnownReading.Absent
+known (Some reading) = KnownReading.Present reading
 
--- the first that applies: the owner is not the controller itself (20h); there is no reading; there
+abbrev pub shown_reading : KnownReading → Shown
+shown_reading KnownReading.NotCaptured = Shown.NotCaptured
+shown_reading KnownReading.Absent = Shown.NoReading
+shown_reading (KnownReading.Present reading) = if is_available reading then Shown.Value reading else Shown.NoReading
+
+-- the first that applies: the owner is not the controller itself (20h); the reading was not captured; there is none; there
 -- is one
-abbrev pub shown_of : Sensor → Option Reading → Shown
+abbrev pub shown_of : Sensor → KnownReading → Shown
 shown_of sensor reading =
     if sensor.owner == 0x20 then shown_reading reading else Shown.OtherOwner
 
@@ -67,6 +74,7 @@ states_text reading = codes "states 0x" ++ hex_word (states_of reading)
 -- for a sensor: its value by the bytes of its record, or its states if `analog` is None
 abbrev pub IsSensorColumn : Shown → Option (List ℕ) → List ℕ → Type 0
 IsSensorColumn Shown.OtherOwner analog text = text ≡ codes "other owner"
+IsSensorColumn Shown.NotCaptured analog text = text ≡ codes "not captured"
 IsSensorColumn Shown.NoReading analog text = text ≡ codes "no reading"
 IsSensorColumn (Shown.Value reading) None text = text ≡ states_text reading
 IsSensorColumn (Shown.Value reading) (Some bytes) text = IsRawText bytes reading.raw text
@@ -80,7 +88,7 @@ abbrev pub type_text : ℕ → List ℕ
 type_text type = codes "record type 0x" ++ hex_byte type
 
 -- a full record defines a conversion of readings, unless its analog format is 3
-abbrev pub IsReadingColumn : SdrView → Option Reading → List ℕ → Type 0
+abbrev pub IsReadingColumn : SdrView → KnownReading → List ℕ → Type 0
 IsReadingColumn (SdrView.Full bytes) reading text =
     IsSensorColumn (shown_of (sensor_in bytes) reading)
     (if analog_format bytes == 3 then None else Some bytes) text
@@ -110,11 +118,12 @@ has_thresholds sensor = sensor.event_type == 0x01
 
 abbrev pub sensor_status : Sensor → Shown → List ℕ
 sensor_status sensor Shown.OtherOwner = codes "na"
+sensor_status sensor Shown.NotCaptured = codes "ns"
 sensor_status sensor Shown.NoReading = codes "ns"
 sensor_status sensor (Shown.Value reading) =
     if has_thresholds sensor then threshold_status reading.status else codes "ok"
 
-abbrev pub status_of : SdrView → Option Reading → List ℕ
+abbrev pub status_of : SdrView → KnownReading → List ℕ
 status_of (SdrView.Full bytes) reading =
     sensor_status (sensor_in bytes) (shown_of (sensor_in bytes) reading)
 status_of (SdrView.Compact bytes) reading =

@@ -1,6 +1,7 @@
 -- The statements of the laws of lines and blocks, for laws that build on them.
-use Rattle.std.specs.Prelude.{◌≡◌, ℕ, List, Option}
-use Rattle.ipmi_records.specs.Below.{AreBytes, Reading}
+use Rattle.std.specs.Prelude.{◌≡◌, ℕ, List}
+use Rattle.ipmi_records.specs.Below.{AreBytes}
+use Rattle.ipmi_records.specs.declared.column.KnownReading.{KnownReading}
 use Rattle.ipmi_records.specs.declared.sdr.SdrView.{SdrView}
 use Rattle.ipmi_records.specs.declared.sel.SelView.{SelView}
 use Rattle.ipmi_records.specs.declared.threshold.Threshold.{Threshold}
@@ -11,7 +12,7 @@ use Rattle.ipmi_records.specs.SelText.{IsSelBlock, IsSelLine}
 
 -- a record has at most one reading column for a reading
 abbrev pub ReadingColumnIsUnique : Type 0
-ReadingColumnIsUnique = (view : SdrView) (reading : Option Reading) (text other : List ℕ)
+ReadingColumnIsUnique = (view : SdrView) (reading : KnownReading) (text other : List ℕ)
     → IsReadingColumn view reading text → IsReadingColumn view reading other → text ≡ other
 
 -- a record has at most one text of threshold lines
@@ -23,7 +24,7 @@ ThresholdTextIsUnique =
 
 -- a record has a reading column for each reading
 abbrev pub ReadingColumnExists : Type 0
-ReadingColumnExists = (view : SdrView) (reading : Option Reading)
+ReadingColumnExists = (view : SdrView) (reading : KnownReading)
     → (text : List ℕ) × IsReadingColumn view reading text
 
 -- a record's thresholds have lines
@@ -33,28 +34,28 @@ ThresholdTextExists = (bytes : List ℕ) (thresholds : List Threshold)
 
 -- a record has at most one line for a reading
 abbrev pub SdrLineIsUnique : Type 0
-SdrLineIsUnique = (view : SdrView) (reading : Option Reading) (text other : List ℕ)
+SdrLineIsUnique = (view : SdrView) (reading : KnownReading) (text other : List ℕ)
     → IsSdrLine view reading text → IsSdrLine view reading other → text ≡ other
 
 -- and at most one block for an id and a reading
 abbrev pub SdrBlockIsUnique : Type 0
 SdrBlockIsUnique =
-    (id : ℕ) (view : SdrView) (reading : Option Reading) (text other : List ℕ)
+    (id : ℕ) (view : SdrView) (reading : KnownReading) (text other : List ℕ)
     → IsSdrBlock id view reading text → IsSdrBlock id view reading other → text ≡ other
 
 -- a record has a line and a block
 abbrev pub SdrLineExists : Type 0
 SdrLineExists =
-    (view : SdrView) (reading : Option Reading) → (text : List ℕ) × IsSdrLine view reading text
+    (view : SdrView) (reading : KnownReading) → (text : List ℕ) × IsSdrLine view reading text
 
 abbrev pub SdrBlockExists : Type 0
-SdrBlockExists = (id : ℕ) (view : SdrView) (reading : Option Reading)
+SdrBlockExists = (id : ℕ) (view : SdrView) (reading : KnownReading)
     → (text : List ℕ) × IsSdrBlock id view reading text
 
 -- a record has at most one extended line for a reading
 abbrev pub ExtendedLineIsUnique : Type 0
 ExtendedLineIsUnique =
-    (view : SdrView) (reading : Option Reading) (text other : List ℕ)
+    (view : SdrView) (reading : KnownReading) (text other : List ℕ)
     → IsExtendedLine view reading text → IsExtendedLine view reading other → text ≡ other
 
 -- an entry has at most one line for an id

@@ -2,7 +2,8 @@
 -- the line of bytes that are not a record.
 use Rattle.std.specs.Prelude.{◌≡◌, ℕ, Option, Some, None, unwrap_or, Bool, true, false, if◌then◌else◌, List, [], ◌∷◌, ◌++◌, codes, decimal}
 use Rattle.std.specs.List.{concat}
-use Rattle.ipmi_records.specs.Below.{byte_h, sensor_type_text_of, Reading, labelled, word_h}
+use Rattle.ipmi_records.specs.Below.{byte_h, sensor_type_text_of, labelled, word_h}
+use Rattle.ipmi_records.specs.declared.column.KnownReading.{KnownReading}
 use Rattle.ipmi_records.specs.declared.sdr.SdrFault.{SdrFault}
 use Rattle.ipmi_records.specs.declared.sdr.SdrView.{SdrView}
 use Rattle.ipmi_records.specs.declared.entity.Entity.{Entity}
@@ -21,7 +22,7 @@ abbrev pub printed_name : SdrView → List ℕ
 printed_name view = unwrap_or (name_of view) []
 
 -- name, reading and status
-pub record IsSdrLine (view : SdrView) (reading : Option Reading) (text : List ℕ) : Type 0 where
+pub record IsSdrLine (view : SdrView) (reading : KnownReading) (text : List ℕ) : Type 0 where
   pub column : List ℕ
   pub is_column : IsReadingColumn view reading column
   pub text_is : text ≡ columns_line (padded_to 16 (printed_name view) ∷ padded_to 17 column
@@ -56,7 +57,7 @@ sensor_columns view status =
     ++ codes " | ")))))
 
 -- name, sensor number, status, entity and reading
-pub record IsExtendedLine (view : SdrView) (reading : Option Reading) (text : List ℕ) : Type 0 where
+pub record IsExtendedLine (view : SdrView) (reading : KnownReading) (text : List ℕ) : Type 0 where
   pub column : List ℕ
   pub is_column : IsReadingColumn view reading column
   pub text_is : text ≡ columns_line (
@@ -116,7 +117,7 @@ locator_lines (Some locator) =
     ++ labelled (codes "Entity") (entity_text locator.entity)
 
 -- the reading column and the status, one line each
-pub record AreReadingLines (view : SdrView) (reading : Option Reading)
+pub record AreReadingLines (view : SdrView) (reading : KnownReading)
     (text : List ℕ) : Type 0 where
   pub column : List ℕ
   pub is_column : IsReadingColumn view reading column
@@ -159,7 +160,7 @@ abbrev pub thresholds_of : Sensor → List Threshold
 thresholds_of sensor = if has_thresholds sensor then all_thresholds else []
 
 -- a full record: its reading and its readable thresholds
-pub record AreFullLines (bytes : List ℕ) (reading : Option Reading) (text : List ℕ) : Type 0 where
+pub record AreFullLines (bytes : List ℕ) (reading : KnownReading) (text : List ℕ) : Type 0 where
   pub columns : List ℕ
   pub thresholds : List ℕ
   pub are_columns : AreReadingLines (SdrView.Full bytes) reading columns
@@ -167,14 +168,14 @@ pub record AreFullLines (bytes : List ℕ) (reading : Option Reading) (text : Li
   pub text_is : text ≡ columns ++ thresholds
 
 -- the lines of a sensor's values: only a full and a compact record have them
-abbrev pub AreValueLines : SdrView → Option Reading → List ℕ → Type 0
+abbrev pub AreValueLines : SdrView → KnownReading → List ℕ → Type 0
 AreValueLines (SdrView.Full bytes) reading text = AreFullLines bytes reading text
 AreValueLines (SdrView.Compact bytes) reading text =
     AreReadingLines (SdrView.Compact bytes) reading text
 AreValueLines _ reading text = text ≡ []
 
 -- the block of a record, which ends with an empty line
-pub record IsSdrBlock (id : ℕ) (view : SdrView) (reading : Option Reading)
+pub record IsSdrBlock (id : ℕ) (view : SdrView) (reading : KnownReading)
     (text : List ℕ) : Type 0 where
   pub values : List ℕ
   pub are_values : AreValueLines view reading values

@@ -1,7 +1,7 @@
 //! The reading column and the status of a record.
 ghost use Rattle.std.specs.Prelude.{◌≡◌, ◌+◌, ◌*◌, ◌%◌, ◌++◌, OnOk, option_map, string_bytes};
 ghost use Rattle.ipmi_records.specs.Below.{Appends};
-ghost use Rattle.ipmi_records.specs.Prelude.{IsRawText, IsRawValue, IsReadingColumn, IsSensorColumn, fru_column, has_thresholds, raw_byte_text, sensor_status, shown_of, shown_reading, states_of, states_text, status_of, threshold_status};
+ghost use Rattle.ipmi_records.specs.Prelude.{IsRawText, IsRawValue, IsReadingColumn, IsSensorColumn, fru_column, has_thresholds, known, raw_byte_text, sensor_status, shown_of, shown_reading, states_of, states_text, status_of, threshold_status};
 
 use crate::full::FullSensor;
 use crate::record_type::RecordType;
@@ -18,11 +18,35 @@ use std::alloc::AllocError;
 /// Bits 6:0 of a reading's last byte: states 14:8 of a discrete sensor.
 const STATE_BITS: u8 = 0x7F;
 
+/// What is known of the reading of a sensor.
+#[derive(Clone, Copy, Debug, PartialEq, Eq)]
+pub enum KnownReading {
+    /// The controller was not asked: a capture left the reading out.
+    NotCaptured,
+    /// The controller has none.
+    Absent,
+    /// The answer of Get Sensor Reading.
+    Present(Reading),
+}
+
+impl From<Option<Reading>> for KnownReading {
+    ghost from_gives = { λ reading gives. gives ≡ known reading };
+
+    fn from(reading: Option<Reading>) -> Self {
+        match reading {
+            None => KnownReading::Absent,
+            Some(reading) => KnownReading::Present(reading),
+        }
+    }
+}
+
 /// What is shown of a sensor whose record allows a reading.
 #[derive(Clone, Copy, Debug, PartialEq, Eq)]
 pub enum Shown {
     /// Nothing: the sensor's owner is not the controller itself, so no reading is requested.
     OtherOwner,
+    /// A reading that a capture left out.
+    NotCaptured,
     /// No reading.
     NoReading,
     /// A reading.
@@ -30,21 +54,18 @@ pub enum Shown {
 }
 
 /// What is shown of a sensor that the controller itself owns.
-fn shown_reading(reading: Option<Reading>) -> Shown
+fn shown_reading(reading: KnownReading) -> Shown
     ensures { result ≡ shown_reading reading }
 {
-    let Some(reading) = reading else {
-        return Shown::NoReading;
-    };
-    if reading.is_available() {
-        Shown::Value(reading)
-    } else {
-        Shown::NoReading
+    match reading {
+        KnownReading::NotCaptured => Shown::NotCaptured,
+        KnownReading::Present(reading) if reading.is_available() => Shown::Value(reading),
+        KnownReading::Absent | KnownReading::Present(_) => Shown::NoReading,
     }
 }
 
-/// What is shown of a sensor. `reading` is the answer of Get Sensor Reading for it, if there is one.
-pub fn shown_of(sensor: &Sensor, reading: Option<Reading>) -> Shown
+/// What is shown of a sensor.
+pub fn shown_of(sensor: &Sensor, reading: KnownReading) -> Shown
     ensures { result ≡ shown_of sensor.now reading }
 {
     if sensor.owner == OWN_ADDRESS {
@@ -112,6 +133,7 @@ fn push_sensor(
 {
     match shown {
         Shown::OtherOwner => text.push_str("other owner"),
+        Shown::NotCaptured => text.push_str("not captured"),
         Shown::NoReading => text.push_str("no reading"),
         Shown::Value(reading) => match analog {
             Some(full) => push_raw(text, full, reading.raw),
@@ -134,7 +156,7 @@ fn push_fru(text: &mut String, fru: Option<u8>) -> Result<(), AllocError>
 pub fn push_reading(
     text: &mut String,
     view: &SdrView,
-    reading: Option<Reading>,
+    reading: KnownReading,
 ) -> Result<(), AllocError>
     ensures { OnOk result
         (Appends (IsReadingColumn view.now reading) (string_bytes text.old)
@@ -184,12 +206,12 @@ pub fn has_thresholds(sensor: &Sensor) -> bool
 }
 
 /// The status of a sensor with this reading.
-fn sensor_status(sensor: &Sensor, reading: Option<Reading>) -> &'static str
+fn sensor_status(sensor: &Sensor, reading: KnownReading) -> &'static str
     ensures { result.now ≡ sensor_status sensor.now (shown_of sensor.now reading) }
 {
     match shown_of(sensor, reading) {
         Shown::OtherOwner => "na",
-        Shown::NoReading => "ns",
+        Shown::NotCaptured | Shown::NoReading => "ns",
         Shown::Value(reading) => {
             if has_thresholds(sensor) {
                 return threshold_status(reading.status);
@@ -200,7 +222,7 @@ fn sensor_status(sensor: &Sensor, reading: Option<Reading>) -> &'static str
 }
 
 /// The status of a record, as printed by `sdr_line`.
-pub fn status_of(view: &SdrView, reading: Option<Reading>) -> &'static str
+pub fn status_of(view: &SdrView, reading: KnownReading) -> &'static str
     ensures { result.now ≡ status_of view.now reading }
 {
     match view {

@@ -1,7 +1,7 @@
 //! Laws of lines and blocks. They follow from the definitions, so they hold for any code that writes such a text.
-ghost use Rattle.std.specs.Prelude.{◌≡◌, ℕ, List, Option};
-ghost use Rattle.ipmi_records.specs.Below.{AreBytes, Reading};
-ghost use Rattle.ipmi_records.specs.Prelude.{SdrView, SelView, IsInfoBlock, ExtendedLineIsUnique, ReadingColumnExists, ReadingColumnIsUnique, SdrBlockExists, SdrBlockIsUnique, SdrLineExists, SdrLineIsUnique, SelBlockIsUnique, SelLineIsUnique, ThresholdTextExists, ThresholdTextIsUnique, IsExtendedLine, IsSelBlock, IsSelLine};
+ghost use Rattle.std.specs.Prelude.{◌≡◌, ℕ, List};
+ghost use Rattle.ipmi_records.specs.Below.{AreBytes};
+ghost use Rattle.ipmi_records.specs.Prelude.{KnownReading, SdrView, SelView, IsInfoBlock, ExtendedLineIsUnique, ReadingColumnExists, ReadingColumnIsUnique, SdrBlockExists, SdrBlockIsUnique, SdrLineExists, SdrLineIsUnique, SelBlockIsUnique, SelLineIsUnique, ThresholdTextExists, ThresholdTextIsUnique, IsExtendedLine, IsSelBlock, IsSelLine};
 
 /// A record has at most one reading column for a reading, so the one that `push_reading` appends is the only one.
 pub fn one_reading_column()
@@ -71,7 +71,7 @@ pub fn each_record_has_columns()
 /// Each record has a line and an extended line for each reading, and a block for each id and reading.
 pub fn each_record_has_texts()
     ensures line { SdrLineExists }
-    ensures extended_line { (view : SdrView) (reading : Option Reading) →
+    ensures extended_line { (view : SdrView) (reading : KnownReading) →
         (text : List ℕ) × IsExtendedLine view reading text }
     ensures block { SdrBlockExists }
 {

@@ -25,8 +25,8 @@ mod sharing;
 mod threshold;
 
 pub use column::{
-    Shown, has_thresholds, push_raw, push_raw_byte, push_reading, push_value, shown_of, states_in,
-    status_of,
+    KnownReading, Shown, has_thresholds, push_raw, push_raw_byte, push_reading, push_value,
+    shown_of, states_in, status_of,
 };
 pub use compact::{COMPACT_TYPE, CompactSensor};
 pub use entity::Entity;
@@ -40,8 +40,10 @@ pub use locator::{
 };
 pub use padding::pad;
 pub use sdr::{OtherRecord, SdrFault, SdrView};
-pub use sdr_blocks::{sdr_block, threshold_lines};
-pub use sdr_lines::{push_name, push_name_column, sdr_eline, sdr_fault_line, sdr_line};
+pub use sdr_blocks::{sdr_block, sdr_block_with, threshold_lines};
+pub use sdr_lines::{
+    push_name, push_name_column, sdr_eline, sdr_eline_with, sdr_fault_line, sdr_line, sdr_line_with,
+};
 pub use sel::{EventEntry, OemNonTimestampedEntry, OemTimestampedEntry, OtherEntry, SelView};
 pub use sel_texts::{EventSensor, direction_text, sel_block, sel_line, sensor_of_event};
 pub use sensor::Sensor;

@@ -1,8 +1,8 @@
 //! The block of a sensor data record.
 ghost use Rattle.std.specs.Prelude.{◌≡◌, IfOk, string_bytes};
-ghost use Rattle.ipmi_records.specs.Prelude.{name_of, is_readable, AreReadingLines, AreThresholdTexts, AreValueLines, IsSdrBlock, IsThresholdText, all_thresholds, head_lines, kind_text, locator_lines, name_line, sensor_lines, threshold_name, thresholds_of};
+ghost use Rattle.ipmi_records.specs.Prelude.{known, name_of, is_readable, AreReadingLines, AreThresholdTexts, AreValueLines, IsSdrBlock, IsThresholdText, all_thresholds, head_lines, kind_text, locator_lines, name_line, sensor_lines, threshold_name, thresholds_of};
 
-use crate::column::{has_thresholds, push_raw, push_reading, status_of};
+use crate::column::{KnownReading, has_thresholds, push_raw, push_reading, status_of};
 use crate::full::FullSensor;
 use crate::locator::Locator;
 use crate::record_type::RecordType;
@@ -98,11 +98,7 @@ fn locator_lines(alloc: Global, locator: Option<Locator>) -> Result<String, Allo
 }
 
 /// The reading column and the status, one line each.
-fn reading_lines(
-    alloc: Global,
-    view: &SdrView,
-    reading: Option<Reading>,
-) -> Result<String, AllocError>
+fn reading_lines(alloc: Global, view: &SdrView, reading: KnownReading) -> Result<String, AllocError>
     ensures { IfOk result (λ text. AreReadingLines view.now reading (string_bytes text)) }
 {
     let mut text = String::with_capacity(alloc, PART_CAPACITY)?;
@@ -178,11 +174,7 @@ pub fn threshold_lines(
 }
 
 /// The lines of a sensor's values: only a full and a compact record have them.
-fn value_lines(
-    alloc: Global,
-    view: &SdrView,
-    reading: Option<Reading>,
-) -> Result<String, AllocError>
+fn value_lines(alloc: Global, view: &SdrView, reading: KnownReading) -> Result<String, AllocError>
     ensures { IfOk result (λ text. AreValueLines view.now reading (string_bytes text)) }
 {
     match view {
@@ -204,6 +196,18 @@ pub fn sdr_block(
     id: u16,
     view: &SdrView,
     reading: Option<Reading>,
+) -> Result<String, AllocError>
+    ensures { IfOk result (λ text. IsSdrBlock id view.now (known reading) (string_bytes text)) }
+{
+    sdr_block_with(alloc, id, view, KnownReading::from(reading))
+}
+
+/// The block of a record with what is known of its sensor's reading, as printed by `sdr_block`.
+pub fn sdr_block_with(
+    alloc: Global,
+    id: u16,
+    view: &SdrView,
+    reading: KnownReading,
 ) -> Result<String, AllocError>
     ensures { IfOk result (λ text. IsSdrBlock id view.now reading (string_bytes text)) }
 {

@@ -1,8 +1,8 @@
 //! The lines of sensor data records.
 ghost use Rattle.std.specs.Prelude.{◌≡◌, ◌++◌, IfOk, OnOk, string_bytes, Some};
-ghost use Rattle.ipmi_records.specs.Prelude.{padded_to, IsExtendedLine, IsSdrLine, entity_column, entity_or_dash, fault_line, fault_text, printed_name, sensor_columns, number_text};
+ghost use Rattle.ipmi_records.specs.Prelude.{padded_to, IsExtendedLine, IsSdrLine, entity_column, entity_or_dash, fault_line, fault_text, known, printed_name, sensor_columns, number_text};
 
-use crate::column::{push_reading, status_of};
+use crate::column::{KnownReading, push_reading, status_of};
 use crate::entity::Entity;
 use crate::locator::Locator;
 use crate::padding::pad;
@@ -54,6 +54,17 @@ pub fn sdr_line(
     alloc: Global,
     view: &SdrView,
     reading: Option<Reading>,
+) -> Result<String, AllocError>
+    ensures { IfOk result (λ text. IsSdrLine view.now (known reading) (string_bytes text)) }
+{
+    sdr_line_with(alloc, view, KnownReading::from(reading))
+}
+
+/// The line of a record with what is known of its sensor's reading, as printed by `sdr_line`.
+pub fn sdr_line_with(
+    alloc: Global,
+    view: &SdrView,
+    reading: KnownReading,
 ) -> Result<String, AllocError>
     ensures { IfOk result (λ text. IsSdrLine view.now reading (string_bytes text)) }
 {
@@ -147,6 +158,17 @@ pub fn sdr_eline(
     alloc: Global,
     view: &SdrView,
     reading: Option<Reading>,
+) -> Result<String, AllocError>
+    ensures { IfOk result (λ text. IsExtendedLine view.now (known reading) (string_bytes text)) }
+{
+    sdr_eline_with(alloc, view, KnownReading::from(reading))
+}
+
+/// The extended line of a record with what is known of its sensor's reading, as printed by `sdr_eline`.
+pub fn sdr_eline_with(
+    alloc: Global,
+    view: &SdrView,
+    reading: KnownReading,
 ) -> Result<String, AllocError>
     ensures { IfOk result (λ text. IsExtendedLine view.now reading (string_bytes text)) }
 {

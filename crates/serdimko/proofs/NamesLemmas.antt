@@ -6,7 +6,7 @@ use Rattle.ipmi_commands.specs.Output.{Output}
 use Rattle.ipmi_commands.specs.Sensors.{Found, PrintsFound}
 use Rattle.ipmi_output.specs.Failure.{Ending}
 use Rattle.ipmi_output.specs.declared.failure.Failure.{Failure}
-use Rattle.ipmi_program.specs.Wording.{texts_in}
+use Rattle.serdimko.specs.Settings.{texts_for}
 use Rattle.serdimko.specs.Printing.{PrintsNames}
 use Rattle.serdimko.specs.declared.report.Report.{Report}
 
@@ -27,10 +27,10 @@ module _ (report : Report) (found : List Found) (names : List (List ℕ)) (old :
         subst (λ (n : ℕ). drop count names ≡ get_or names count name ∷ drop n names) next (drop-cons names count name lt)
         ∙ ap (λ (x : List ℕ). x ∷ drop (count + 1) names) (sym is)
 
-    pub named_one : PrintsFound (texts_in report.wording) name found now new (Ok tt) → NamedTo (count + 1) new
+    pub named_one : PrintsFound (texts_for report) name found now new (Ok tt) → NamedTo (count + 1) new
     named_one prints last ending more = named last ending (rw split (inl (new, prints, more)))
 
-    pub named_last : (other : Failure) → PrintsFound (texts_in report.wording) name found now new (Err other)
+    pub named_last : (other : Failure) → PrintsFound (texts_for report) name found now new (Err other)
         → PrintsNames report found names old new (Err other)
     named_last other prints = named new (Err other) (rw split (inr (other, prints, refl)))
 

@@ -11,6 +11,7 @@ use Rattle.ipmi_image.specs.Snapshot.{Saved, saved_of_image, snapshot_lacks, sna
 use Rattle.ipmi_image.specs.declared.snapshot_controller.SnapshotController.{SnapshotController}
 use Rattle.ipmi_image.specs.declared.cause.FaultCause.{FaultCause}
 use Rattle.ipmi_image.specs.declared.image.ImageFault.{ImageFault}
+use Rattle.ipmi_image.specs.declared.lack.Lack.{Lack}
 use Rattle.ipmi_output.specs.Failure.{escaped_name, line_text}
 use Rattle.ipmi_output.specs.Received.{Received}
 use Rattle.ipmi_output.specs.Sink.{TakesPart}
@@ -48,14 +49,21 @@ abbrev pub IsImageQuery : ImageQuery → Type 0
 IsImageQuery (ImageQuery.Print query) = IsQuery query.now
 IsImageQuery ImageQuery.Rewrite = Unit {0}
 
+-- the same report of an image that lacks these
+abbrev pub lacking : Bor (List Lack) → Report → Report
+lacking lacks report = record report { format = record report.format { lacks = lacks } }
+
 -- The query runs over a controller that holds the image, whose answers are those of `SnapshotController`: it is honest, its store stays,
--- and if nothing is lacking it is plain. Or the image is rewritten.
+-- and if nothing is lacking it is plain. Readings that are lacking are printed as not captured; memory for the list of them may run out.
+-- Or the image is rewritten.
 abbrev pub PrintsStore : RequestLimits → ImageQuery → Report → Saved → Out → Out → Received → Received → Outcome → Type 0
 PrintsStore limits (ImageQuery.Print query) report saved old new said said' result =
-    (c c' : SnapshotController) × IsHonest (snapshot_seen c) × ((snapshot_seen c).plain ≡ (length saved.lacks == 0))
+    Fails report (RunError.Failed Failure.OutOfMemory) old new said said' result
+    ⊎ ((c c' : SnapshotController) × (lacks : Bor (List Lack)) × (lacks.now ≡ saved.lacks) × IsHonest (snapshot_seen c) × ((snapshot_seen c).plain ≡ (length saved.lacks == 0))
     × ((snapshot_seen c).store ≡ saved.store) × (snapshot_lacks c ≡ saved.lacks)
     × ((snapshot_seen c').stores_added ≡ (snapshot_seen c).stores_added)
-    × PrintsQuery limits query.now report (state (snapshot_seen c) None old) (state (snapshot_seen c') None new) said said' result
+    × PrintsQuery limits query.now (lacking lacks report) (state (snapshot_seen c) None old) (state (snapshot_seen c') None new)
+    said said' result)
 PrintsStore limits ImageQuery.Rewrite report saved old new said said' result = Rewrites report saved old new said said' result
 
 -- the fault of the bytes, and the rule that they break; or memory ran out
@@ -86,7 +94,8 @@ PrintsInput limits query report input old new said said' result =
 pub record IsReport (settings : Settings) (image : Option (List ℕ)) (name : List ℕ) (is_only_input : Bool) (report : Report) : Type 0 where
   pub labels : Bor (List Label)
   pub labels_are : map key_value labels.now ≡ labels_of image (texts_of settings.format)
-  pub wording : report.wording ≡ wording_of settings.format labels
+  pub wording : report.format.format ≡ wording_of settings.format labels
+  pub whole : report.format.lacks.now ≡ []
   pub strict : report.strict ≡ settings.strict
   pub name_is : report.name.now ≡ name
   pub input : report.is_only_input ≡ is_only_input

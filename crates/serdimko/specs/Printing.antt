@@ -7,7 +7,6 @@ use Rattle.ipmi_bus.specs.CursorState.{start_of}
 use Rattle.ipmi_bus.specs.Seen.{AsksAtMost, IsHonest}
 use Rattle.ipmi_command_line.specs.declared.task.Task.{Task}
 use Rattle.ipmi_commands.specs.Prelude.{change, job_of, keeping_last, most_on_walk, Output, RunsCommand}
-use Rattle.ipmi_program.specs.Wording.{texts_in}
 use Rattle.ipmi_program.specs.declared.wording.Wording.{Wording}
 use Rattle.ipmi_commands.specs.Sensors.{AddsNamed, EndsSearch, Found, PrintsFound, Searches, with_readings}
 use Rattle.ipmi_commands.specs.declared.limits.RequestLimits.{RequestLimits}
@@ -26,6 +25,7 @@ use Rattle.serdimko.specs.declared.run_error.RunError.{RunError}
 use Rattle.serdimko.specs.LastWords.{IsLastLine}
 use Rattle.serdimko.specs.Out.{Out, State}
 use Rattle.serdimko.specs.Reason.{reason_of}
+use Rattle.serdimko.specs.Settings.{texts_for}
 use Rattle.serdimko.specs.RunError.{and, error_of, error_text, faults_of_error, is_output_open, is_recoverable, lost_error, outcome_of, output_error, status_of_error, Tells}
 
 -- ---- the object at the end of a run
@@ -61,7 +61,7 @@ EndsInWording (Wording.Json labels) report pieces old new error last =
 EndsInWording wording report pieces old new error last = (new ≡ old) × (last ≡ error)
 
 abbrev pub EndsIn : Report → ℕ → Out → Out → Option RunError → Option RunError → Type 0
-EndsIn report pieces old new error last = EndsInWording report.wording report pieces old new error last
+EndsIn report pieces old new error last = EndsInWording report.format.format report pieces old new error last
 
 -- ---- the end of a run
 
@@ -106,7 +106,7 @@ pub record PrintsTask (limits : RequestLimits) (task : Task) (from : Option ℕ)
   pub last_line : IsLastLine new.lost said
   pub asked : AsksAtMost limits.part old.seen new.seen
   pub runs : RunsThenEnds report
-      (λ before after. RunsCommand (texts_in report.wording) (option_map keeping_last (job_of (texts_in report.wording).has_names task from)) limits.tries (change old.seen new.seen before after))
+      (λ before after. RunsCommand (texts_for report) (option_map keeping_last (job_of (texts_for report).has_names task from)) limits.tries (change old.seen new.seen before after))
       said old.out new.out last
 
 -- the outcome of a run with this error
@@ -135,15 +135,15 @@ named_end name pieces (Err failure) = Err failure
 -- the blocks of what was found with this name
 pub record PrintsName (report : Report) (found : List Found) (name : List ℕ) (before after : Output) (ending : Ending) : Type 0 where
   pub printed : Ending
-  pub prints : PrintsFound (texts_in report.wording) name found before after printed
+  pub prints : PrintsFound (texts_for report) name found before after printed
   pub ends : ending ≡ named_end name after.pieces printed
 
 -- the blocks of each name
 abbrev pub PrintsNames : Report → List Found → List (List ℕ) → Output → Output → Ending → Type 0
 PrintsNames report found [] before after printed = (after ≡ before) × (printed ≡ Ok tt)
 PrintsNames report found (name ∷ names) before after printed =
-    ((now : Output) × PrintsFound (texts_in report.wording) name found before now (Ok tt) × PrintsNames report found names now after printed)
-    ⊎ ((failure : Failure) × PrintsFound (texts_in report.wording) name found before after (Err failure) × (printed ≡ Err failure))
+    ((now : Output) × PrintsFound (texts_for report) name found before now (Ok tt) × PrintsNames report found names now after printed)
+    ⊎ ((failure : Failure) × PrintsFound (texts_for report) name found before after (Err failure) × (printed ≡ Err failure))
 
 -- the end of a run after a search that broke: its failure, unless printing failed
 abbrev pub broken_end : Failure → Ending → Ending

@@ -7,6 +7,10 @@ use Rattle.ipmi_commands.specs.Job.{IsFrom}
 use Rattle.serdimko.specs.declared.driver.Query.{Query}
 use Rattle.ipmi_program.specs.declared.wording.Wording.{Wording}
 use Rattle.ipmi_json.specs.declared.object.Label.{Label}
+use Rattle.ipmi_commands.specs.Format.{Texts}
+use Rattle.ipmi_program.specs.WithLacks.{with_lacks}
+use Rattle.ipmi_program.specs.Wording.{texts_in}
+use Rattle.serdimko.specs.declared.report.Report.{Report}
 
 -- the numbers of a query are in their ranges
 abbrev pub IsQuery : Query → Type 0
@@ -28,3 +32,7 @@ abbrev pub wording_of : Format → Bor (List Label) → Wording
 wording_of Format.Plain labels = Wording.Plain
 wording_of Format.Descriptive labels = Wording.Descriptive
 wording_of (Format.Json texts) labels = Wording.Json labels
+
+-- the texts of runs over an input
+abbrev pub texts_for : Report → Texts
+texts_for report = with_lacks report.format.lacks.now (texts_in report.format.format)

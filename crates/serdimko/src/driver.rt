@@ -101,8 +101,8 @@ fn run_task<'a, C: Connection, W: Write + Drop>(
         (state (C.seen ctl.new) (⟦<C as Connection>⟧.lost ctl.new) (out_of out.new)) result }
 {
     let mut summary = Summary::new();
-    let job = Job::of(&report.wording, task, from);
-    let ending = run_job(alloc, ctl, limits, &report.wording, job, out, &mut summary);
+    let job = Job::of(&report.format, task, from);
+    let ending = run_job(alloc, ctl, limits, &report.format, job, out, &mut summary);
     let said = ctl.last_line(alloc);
     end_run(alloc, report, ending, said, &summary, out)
 }
@@ -119,7 +119,7 @@ fn run_name<'a, W: Write + Drop>(
         (out_of out.old) (out_of out.new) result }
 {
     let mut summary = Summary::new();
-    let ending = match print_sensors(alloc, found, name, &report.wording, out, &mut summary) {
+    let ending = match print_sensors(alloc, found, name, &report.format, out, &mut summary) {
         Ok(()) if summary.pieces() == 0 => Err(Failure::NoName(RecordName::new(name))),
         ending => ending,
     };
@@ -163,7 +163,7 @@ fn print_names<'a, W: Write + Drop>(
         (printed (out_of out.old).taken summary.old) (printed (out_of out.new).taken summary.new) result }
 {
     for name in names {
-        match print_sensors(alloc, found, name.as_str(), &report.wording, out, summary) {
+        match print_sensors(alloc, found, name.as_str(), &report.format, out, summary) {
             Ok(()) => {}
             Err(failure) => return Err(failure),
         }

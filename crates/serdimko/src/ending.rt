@@ -129,7 +129,7 @@ pub(crate) fn end_with<'a, W: Write + Drop>(
         (out_of out.old).faults + faults_of_error result }
     ensures ends { EndsIn report.now pieces (out_of out.old) (out_of out.new) error.entry result }
 {
-    match report.wording {
+    match report.format.format {
         Wording::Json(labels) => print_end(alloc, labels, pieces, error, report, out),
         Wording::Plain | Wording::Descriptive => error,
     }

@@ -86,9 +86,19 @@ fn print_store<W: Write + Drop, E: MessageSink>(
         ImageQuery::Rewrite => return rewrite(alloc, &image, report, out, err),
         ImageQuery::Print(query) => query,
     };
+    let Ok(lacks) = Vec::from_slice(alloc, image.lacks()) else {
+        return fail(
+            alloc,
+            report,
+            RunError::Failed(Failure::OutOfMemory),
+            out,
+            err,
+        );
+    };
+    let report = report.lacking(lacks.as_slice());
     let mut ctl = SnapshotController::new(image);
     ctl.keeps_its_store();
-    let result = print_query(alloc, &mut ctl, limits, query, report, out, err);
+    let result = print_query(alloc, &mut ctl, limits, query, &report, out, err);
     ctl.keeps_its_store();
     drop(ctl);
     result

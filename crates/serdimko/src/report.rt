@@ -1,16 +1,18 @@
 //! How runs over one input are printed, and what is said of one that did not finish.
-ghost use Rattle.std.specs.Prelude.{◌≡◌, Some};
+ghost use Rattle.std.specs.Prelude.{◌≡◌, [], Some};
 ghost use Rattle.ipmi_output.specs.Received.{ReceivesText};
 ghost use Rattle.serdimko.specs.RunError.{said_of_error, Tells};
+ghost use Rattle.serdimko.specs.Images.{lacking};
 ghost use Rattle.serdimko.specs.Settings.{is_headed, texts_of, wording_of};
 
 use crate::outcome::Outcome;
 use crate::run_error::RunError;
 use ipmi_command_line::{Format, Word};
 use ipmi_commands::RequestLimits;
+use ipmi_image::Lack;
 use ipmi_json::Label;
 use ipmi_output::{MessageSink, write_message};
-use ipmi_program::Wording;
+use ipmi_program::{WithLacks, Wording};
 
 /// What holds for all inputs of a request.
 #[derive(Drop)]
@@ -51,10 +53,11 @@ impl Settings {
         name: &'a str,
         is_only_input: bool,
     ) -> Report<'a>
-        ensures wording { result.wording ≡ wording_of self.now.format labels.entry }
+        ensures wording { result.format.format ≡ wording_of self.now.format labels.entry }
         ensures strict { result.strict ≡ self.now.strict }
         ensures name { result.name.now ≡ name.entry.now }
         ensures input { result.is_only_input ≡ is_only_input }
+        ensures whole { result.format.lacks.now ≡ [] }
     {
         let wording = match &self.format {
             Format::Plain => Wording::Plain,
@@ -62,7 +65,10 @@ impl Settings {
             Format::Json(_) => Wording::Json(labels),
         };
         Report {
-            wording,
+            format: WithLacks {
+                format: wording,
+                lacks: &[],
+            },
             strict: self.strict,
             name,
             is_only_input,
@@ -73,8 +79,8 @@ impl Settings {
 /// How runs over one input are printed and reported.
 #[derive(Clone, Copy)]
 pub(crate) struct Report<'a> {
-    /// The form of the output.
-    pub(crate) wording: Wording<'a>,
+    /// The form of the output. It lacks what the input lacks, if that is an image.
+    pub(crate) format: WithLacks<'a, Wording<'a>>,
     /// Whether a printed fault, or a missing device, is an error.
     pub(crate) strict: bool,
     /// The name of the input in messages.
@@ -83,7 +89,20 @@ pub(crate) struct Report<'a> {
     pub(crate) is_only_input: bool,
 }
 
-impl Report<'_> {
+impl<'a> Report<'a> {
+    /// The same of an image that lacks these.
+    pub(crate) fn lacking(&self, lacks: &'a [Lack]) -> Report<'a>
+        ensures { result ≡ lacking lacks.entry self.now }
+    {
+        Report {
+            format: WithLacks {
+                format: self.format.format,
+                lacks,
+            },
+            ..*self
+        }
+    }
+
     /// Writes the message of the error, unless the output was closed.
     #[tactic(auto, using(crate::proofs::RunErrorLemmas::said_unless_closed))]
     fn tell_one<E: MessageSink>(&self, error: &RunError<'_>, err: &mut E)

@@ -10,6 +10,7 @@ no_words : (sensor : Sensor) (shown : Shown) → ((reading : Reading) → shown 
     → state_words_shown sensor shown ≡ null
 no_words sensor (Shown.Value reading) none = absurd (none reading refl)
 no_words sensor Shown.OtherOwner none = refl
+no_words sensor Shown.NotCaptured none = refl
 no_words sensor Shown.NoReading none = refl
 
 pub returns-in_default : goal.returns-in_default

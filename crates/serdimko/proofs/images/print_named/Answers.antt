@@ -11,6 +11,7 @@ returns g c =
         labels = c.as_slice.result;
         labels_are = rw (c.as_slice.ensures.value, ← name) (rw (c.image_label-image.ensures, c.labels.ensures) at c.in-Ok.ensures);
         wording = c.report-report-2.ensures.wording;
+        whole = c.report-report-2.ensures.whole;
         strict = c.report-report-2.ensures.strict;
         name_is = c.report-report-2.ensures.name ∙ name;
         input = c.report-report-2.ensures.input;

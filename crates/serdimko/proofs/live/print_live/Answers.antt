@@ -13,6 +13,7 @@ returns-clause-prints g c =
         labels = c.as_slice.result;
         labels_are = rw c.as_slice.ensures.value (rw c.labels.ensures at c.in-Ok.ensures);
         wording = c.report-report-2.ensures.wording;
+        whole = c.report-report-2.ensures.whole;
         strict = c.report-report-2.ensures.strict;
         name_is = c.report-report-2.ensures.name ∙ c.name_of-is_unknown.ensures.name;
         input = c.report-report-2.ensures.input ∙ c.name_of-is_unknown.ensures.unknown;

@@ -1,11 +1,11 @@
 use Rattle.std.proofs.Common.{◌≡◌, ◌∙◌, ◌-◌, Option, List, [], ◌++◌, ℕ, ap, append_assoc, codes, drop, length, refl, replicate}
 use Rattle.std.proofs.lemmas.List.Prefix.{front_rest}
 use Rattle.std.specs.Fmt.{char_count}
-use Rattle.ipmi_records.specs.Below.{Appends, Reading}
-use Rattle.ipmi_records.specs.Prelude.{IsReadingColumn, IsSdrLine, SdrView, padded_to, printed_name, status_of}
-use Rattle.ipmi_records.proofs.sdr_lines.sdr_line.Goals as goal
+use Rattle.ipmi_records.specs.Below.{Appends}
+use Rattle.ipmi_records.specs.Prelude.{KnownReading, IsReadingColumn, IsSdrLine, SdrView, padded_to, printed_name, status_of}
+use Rattle.ipmi_records.proofs.sdr_lines.sdr_line_with.Goals as goal
 
-short_line_made : (view : SdrView) (reading : Option Reading)
+short_line_made : (view : SdrView) (reading : KnownReading)
     (empty named begun shown filled text status : List ℕ) (start : ℕ) → empty ≡ []
     → named ≡ empty ++ padded_to 16 (printed_name view) → begun ≡ named ++ codes " | "
     → start ≡ length begun → Appends (IsReadingColumn view reading) begun shown

@@ -1,9 +1,9 @@
 use Rattle.std.proofs.Common.{◌≡◌, ◌∙◌, Option, List, [], ◌++◌, ℕ, append_assoc, codes}
-use Rattle.ipmi_records.specs.Below.{Appends, Reading}
-use Rattle.ipmi_records.specs.Prelude.{IsExtendedLine, IsReadingColumn, SdrView, padded_to, printed_name, sensor_columns, status_of}
-use Rattle.ipmi_records.proofs.sdr_lines.sdr_eline.Goals as goal
+use Rattle.ipmi_records.specs.Below.{Appends}
+use Rattle.ipmi_records.specs.Prelude.{KnownReading, IsExtendedLine, IsReadingColumn, SdrView, padded_to, printed_name, sensor_columns, status_of}
+use Rattle.ipmi_records.proofs.sdr_lines.sdr_eline_with.Goals as goal
 
-extended_line_made : (view : SdrView) (reading : Option Reading)
+extended_line_made : (view : SdrView) (reading : KnownReading)
     (empty named told shown text status : List ℕ) → empty ≡ []
     → named ≡ empty ++ padded_to 16 (printed_name view) → status ≡ status_of view reading
     → told ≡ named ++ sensor_columns view status → Appends (IsReadingColumn view reading) told shown
