@@ -147,9 +147,11 @@ record Alone (rows : List Row) : Type 0 where
   live : has_value (codes "live") rows ≡ false
   records : has_value (codes "records") rows ≡ false
   id : has_value (codes "id") rows ≡ false
+  separator : has_value (codes "separator") rows ≡ false
   output : has_value (codes "output") rows ≡ false
   strict : is_given (codes "strict") rows ≡ false
   json : is_given (codes "json") rows ≡ false
+  csv : is_given (codes "csv") rows ≡ false
   quiet : is_given (codes "quiet") rows ≡ false
   partial : is_given (codes "partial") rows ≡ false
   version : is_given (codes "version") rows ≡ false
@@ -164,10 +166,12 @@ alone rows is =
     let label = none_or (has_value (codes "label") rows) _ (not_true _ all.0) in
     let live = none_or (has_value (codes "live") rows) _ label.1 in
     let records = none_or (has_value (codes "records") rows) _ live.1 in
-    let id = none_or (has_value (codes "id") rows) (has_value (codes "output") rows) records.1 in
+    let id = none_or (has_value (codes "id") rows) _ records.1 in
+    let separator = none_or (has_value (codes "separator") rows) (has_value (codes "output") rows) id.1 in
     let strict = none_or (is_given (codes "strict") rows) _ (not_true _ rest.0) in
     let json = none_or (is_given (codes "json") rows) _ strict.1 in
-    let quiet = none_or (is_given (codes "quiet") rows) _ json.1 in
+    let csv = none_or (is_given (codes "csv") rows) _ json.1 in
+    let quiet = none_or (is_given (codes "quiet") rows) _ csv.1 in
     let partial = none_or (is_given (codes "partial") rows) _ quiet.1 in
     let version = none_or (is_given (codes "version") rows) (is_given (codes "help") rows) partial.1 in
     record {
@@ -175,9 +179,11 @@ alone rows is =
       live = live.0;
       records = records.0;
       id = id.0;
-      output = id.1;
+      separator = separator.0;
+      output = separator.1;
       strict = strict.0;
       json = json.0;
+      csv = csv.0;
       quiet = quiet.0;
       partial = partial.0;
       version = version.0;
@@ -193,7 +199,7 @@ no_value (Some text) is = absurd (true≢false is)
 all_placed : (options : List Text) (rows : List Row) → Alone rows → has_option options (codes "image") ≡ true
     → misplaced options rows ≡ None
 unfolding misplaced
-all_placed options rows h takes = grind (arith, takes, h.label, h.live, h.records, h.id, h.output, h.strict, h.json, h.quiet, h.partial)
+all_placed options rows h takes = grind (arith, takes, h.label, h.live, h.records, h.id, h.separator, h.output, h.strict, h.json, h.csv, h.quiet, h.partial)
 
 -- ---- the images
 
@@ -289,7 +295,7 @@ plain_action Task.Rewrite from h = absurd (true≢false h)
 plain_action task from h = refl
 
 plain_format : (rows : List Row) (verb : Verb) → Alone rows → text_format verb ≡ Format.Plain → format_of verb rows ≡ Some Format.Plain
-plain_format rows verb h is = rw (h.json, h.label, is) refl
+plain_format rows verb h is = rw (no_value (first_of (codes "separator") rows) h.separator, h.csv, h.json, h.label, is) refl
 
 limits_are : (rows : List Row) (part : Option ℕ) (tries : ℕ) → part_of_text (first_of (codes "part") rows) ≡ Some part
     → number_or 5 0 255 (first_of (codes "tries") rows) ≡ Some tries → limits_of rows ≡ Some (record { part = part; tries = tries })

@@ -44,14 +44,15 @@ four_options = with_rule (with_rule (with_rule (with_rule base (list_rule (codes
 
 -- and the other options with a value
 abbrev pub valued_options : App
-valued_options = with_rule (with_rule (with_rule (with_rule (with_rule four_options (list_rule (codes "label")))
-    (option_rule (codes "live"))) (option_rule (codes "records"))) (option_rule (codes "id"))) output_rule
+valued_options = with_rule (with_rule (with_rule (with_rule (with_rule (with_rule four_options (list_rule (codes "label")))
+    (option_rule (codes "live"))) (option_rule (codes "records"))) (option_rule (codes "id")))
+    (option_rule (codes "separator"))) output_rule
 
 -- and those without one, and the words
 abbrev pub command_line : App
-command_line = with_rule (with_rule (with_rule (with_rule (with_rule (with_rule (with_rule valued_options
-    (flag_rule (codes "strict"))) (flag_rule (codes "json"))) (flag_rule (codes "quiet"))) (flag_rule (codes "partial")))
-    version_rule) help_rule) words_rule
+command_line = with_rule (with_rule (with_rule (with_rule (with_rule (with_rule (with_rule (with_rule valued_options
+    (flag_rule (codes "strict"))) (flag_rule (codes "json"))) (flag_rule (codes "csv"))) (flag_rule (codes "quiet")))
+    (flag_rule (codes "partial"))) version_rule) help_rule) words_rule
 
 -- `clap` accepts the words; the first is the program's name
 unfoldable pub is_taken : List Text → Bool
@@ -80,13 +81,14 @@ has_value name rows = is_some (first_of name rows)
 -- an option that the reference program lacks, with a value
 unfoldable pub has_other_value : List Row → Bool
 has_other_value rows = has_value (codes "label") rows || (has_value (codes "live") rows
-    || (has_value (codes "records") rows || (has_value (codes "id") rows || has_value (codes "output") rows)))
+    || (has_value (codes "records") rows || (has_value (codes "id") rows || (has_value (codes "separator") rows
+    || has_value (codes "output") rows))))
 
 -- and one without a value
 unfoldable pub has_other_flag : List Row → Bool
-has_other_flag rows = is_given (codes "strict") rows || (is_given (codes "json") rows
+has_other_flag rows = is_given (codes "strict") rows || (is_given (codes "json") rows || (is_given (codes "csv") rows
     || (is_given (codes "quiet") rows || (is_given (codes "partial") rows
-    || (is_given (codes "version") rows || is_given (codes "help") rows))))
+    || (is_given (codes "version") rows || is_given (codes "help") rows)))))
 
 -- only options of the reference program are given, and at most one image
 abbrev pub is_reference : List Row → Bool

@@ -12,6 +12,7 @@ use Rattle.ipmi_command_line.specs.Task.{takes_from}
 use Rattle.ipmi_command_line.specs.declared.commands.Verb.{Verb}
 use Rattle.ipmi_command_line.specs.declared.request.Action.{Action}
 use Rattle.ipmi_command_line.specs.declared.request.Format.{Format}
+use Rattle.ipmi_command_line.specs.declared.request.Separator.{Separator}
 use Rattle.ipmi_command_line.specs.declared.request.Limits.{Limits}
 use Rattle.ipmi_command_line.specs.declared.request.LiveTool.{LiveTool}
 use Rattle.ipmi_command_line.specs.declared.request.Request.{Request}
@@ -220,11 +221,33 @@ text_format Verb.GetSensors = Format.Descriptive
 text_format Verb.ListDevices = Format.Descriptive
 text_format _ = Format.Plain
 
--- only objects have labels
-abbrev pub format_of : Verb → List Row → Option Format
-format_of verb rows =
+-- what separates the values in a row, if this is said; the outer None: no such separator
+abbrev pub separator_of : Option Text → Option (Option Separator)
+separator_of None = Some None
+separator_of (Some text) =
+    if bytes_eq text (codes "comma") then Some (Some Separator.Comma)
+    else (if bytes_eq text (codes "semicolon") then Some (Some Separator.Semicolon) else None)
+
+-- rows have commas unless another separator is said
+abbrev pub csv_format : List Text → Option Separator → Format
+csv_format labels separator = Format.Csv (unwrap_or separator Separator.Comma) labels
+
+-- only rows have separators, and only objects and rows have labels
+abbrev pub other_format : Verb → List Row → Option Separator → Option Format
+other_format verb rows (Some separator) = None
+other_format verb rows None =
     if is_given (codes "json") rows then Some (Format.Json (values_of (codes "label") rows))
     else (if has_value (codes "label") rows then None else Some (text_format verb))
+
+abbrev pub format_by : Verb → List Row → Option (Option Separator) → Option Format
+format_by verb rows None = None
+format_by verb rows (Some separator) =
+    if is_given (codes "csv") rows
+    then (if is_given (codes "json") rows then None else Some (csv_format (values_of (codes "label") rows) separator))
+    else other_format verb rows separator
+
+abbrev pub format_of : Verb → List Row → Option Format
+format_of verb rows = format_by verb rows (separator_of (first_of (codes "separator") rows))
 
 -- ---- the request
 

@@ -89,16 +89,18 @@ fn valued_options<'a>(alloc: Global) -> Result<Command<'a>, AllocError>
         .arg(option_rule(alloc, "live"))?
         .arg(option_rule(alloc, "records"))?
         .arg(option_rule(alloc, "id"))?
+        .arg(option_rule(alloc, "separator"))?
         .arg(output_rule(alloc))
 }
 
-/// The command line: fifteen options, and any number of words.
+/// The command line: seventeen options, and any number of words.
 fn command_line<'a>(alloc: Global) -> Result<Command<'a>, AllocError>
     ensures { IfOk result (λ c. app_of c ≡ command_line) }
 {
     valued_options(alloc)?
         .arg(flag_rule(alloc, "strict"))?
         .arg(flag_rule(alloc, "json"))?
+        .arg(flag_rule(alloc, "csv"))?
         .arg(flag_rule(alloc, "quiet"))?
         .arg(flag_rule(alloc, "partial"))?
         .arg(version_rule(alloc))?
@@ -158,6 +160,7 @@ fn has_other_value(matches: &ArgMatches<'_>) -> bool
         || has_value(matches, "live")
         || has_value(matches, "records")
         || has_value(matches, "id")
+        || has_value(matches, "separator")
         || has_value(matches, "output")
 }
 
@@ -168,6 +171,7 @@ fn has_other_flag(matches: &ArgMatches<'_>) -> bool
 {
     is_given(matches, "strict")
         || is_given(matches, "json")
+        || is_given(matches, "csv")
         || is_given(matches, "quiet")
         || is_given(matches, "partial")
         || is_given(matches, "version")

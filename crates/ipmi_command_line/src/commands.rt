@@ -62,10 +62,29 @@ pub type CommandRow = (
 );
 
 /// The options of commands that print records.
-const PRINTING: &[&str] = &["image", "live", "records", "json", "label", "strict"];
+const PRINTING: &[&str] = &[
+    "image",
+    "live",
+    "records",
+    "json",
+    "csv",
+    "separator",
+    "label",
+    "strict",
+];
 
 /// The options of the command that prints one entry.
-const GETTING: &[&str] = &["image", "live", "records", "json", "label", "strict", "id"];
+const GETTING: &[&str] = &[
+    "image",
+    "live",
+    "records",
+    "json",
+    "csv",
+    "separator",
+    "label",
+    "strict",
+    "id",
+];
 
 /// The options of `capture`.
 const CAPTURING: &[&str] = &["live", "output", "quiet", "partial"];

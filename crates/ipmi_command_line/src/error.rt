@@ -70,8 +70,12 @@ pub enum UsageError<'a> {
     ImageAndLive,
     /// There is `--records` without a live controller.
     RecordsWithoutLive,
-    /// There is `--label` without `--json`.
-    LabelWithoutJson,
+    /// There is `--label` without `--json` or `--csv`.
+    LabelInText,
+    /// There are both `--json` and `--csv`.
+    JsonAndCsv,
+    /// There is `--separator` without `--csv`.
+    SeparatorWithoutCsv,
 }
 
 impl From<AllocError> for UsageError<'_> {
@@ -237,6 +241,7 @@ fn rule_of(option: &str) -> &'static str {
         "tries" => "a number from 0 to 255, decimal without leading zeros",
         "id" => "a hex id of 1 to 4 digits, 1 to FFFE",
         "live" => "TOOL:FOLDER, which serdimko-live gives",
+        "separator" => "comma or semicolon",
         _ => "KEY=VALUE, with a key that no object and no earlier label has",
     }
 }
@@ -313,7 +318,9 @@ impl UsageError<'_> {
             UsageError::StandardInputTwice => "standard input is given twice",
             UsageError::ImageAndLive => "--image does not go with a live controller",
             UsageError::RecordsWithoutLive => "--records goes only with a live controller",
-            UsageError::LabelWithoutJson => "--label goes only with --json",
+            UsageError::LabelInText => "--label goes only with --json or --csv",
+            UsageError::JsonAndCsv => "--json does not go with --csv",
+            UsageError::SeparatorWithoutCsv => "--separator goes only with --csv",
             _ => "the command line can't be read: see serdimko --help",
         }
     }

@@ -17,7 +17,7 @@ pub use command::{Command, DEFAULT_PART, DEFAULT_TRIES, UsageFault, command_of};
 pub use commands::{COMMANDS, CommandRow, Operand, Verb};
 pub use error::{Hint, UsageError};
 pub use request::{
-    Action, FLAGS, Format, Limits, LiveTool, Request, Source, Topic, VALUED, request_of,
+    Action, FLAGS, Format, Limits, LiveTool, Request, Separator, Source, Topic, VALUED, request_of,
 };
 pub use task::{Count, Kind, Task};
 pub use words::{Word, Words};

@@ -4,7 +4,7 @@ ghost use Rattle.clap.specs.Words.{first_of, found_of, rows_of};
 ghost use Rattle.ipmi_command_line.specs.Arguments.{values_of};
 ghost use Rattle.ipmi_command_line.specs.Command.{IsTask, number_or, start_of_text};
 ghost use Rattle.ipmi_command_line.specs.Commands.{row_of, row_state, texts};
-ghost use Rattle.ipmi_command_line.specs.Request.{action_of, among_flags, among_values, capture_of, entry_of, events_of, format_of, hex_id_of, help_of, IsRequest, IsAction, has_option, limits_of, live_at, live_of, misplaced, named_of, part_of_text, printed_of, records_of, request_of, request_of_command, request_of_help, request_of_row, request_of_rows, request_of_words, rewrite_of, short_request, source_of, standard_inputs, start_of, tail_of, task_of_row, tool_of, topic_named, topic_of};
+ghost use Rattle.ipmi_command_line.specs.Request.{action_of, among_flags, among_values, capture_of, entry_of, events_of, format_of, hex_id_of, help_of, IsRequest, IsAction, has_option, limits_of, live_at, live_of, misplaced, named_of, part_of_text, printed_of, records_of, request_of, request_of_command, request_of_help, request_of_row, request_of_rows, request_of_words, rewrite_of, separator_of, short_request, source_of, standard_inputs, start_of, tail_of, task_of_row, text_format, tool_of, topic_named, topic_of};
 ghost use Rattle.ipmi_command_line.specs.declared.error.UsageError.{UsageError};
 
 use crate::arguments::{arguments, has_value, is_given, value, value_count};
@@ -92,6 +92,15 @@ pub struct Limits {
     pub tries: u8,
 }
 
+/// What separates the values in a row.
+#[derive(Clone, Copy, Debug, PartialEq, Eq)]
+pub enum Separator {
+    /// A comma.
+    Comma,
+    /// A semicolon, as spreadsheets take it where a comma begins the decimals.
+    Semicolon,
+}
+
 /// How records are printed.
 #[derive(Debug, Drop)]
 pub enum Format {
@@ -101,6 +110,8 @@ pub enum Format {
     Descriptive,
     /// As objects, each with these labels, `KEY=VALUE`.
     Json(Words),
+    /// As rows of values, the last of which are those of these labels, `KEY=VALUE`.
+    Csv(Separator, Words),
 }
 
 /// What a command line asks for.
@@ -518,10 +529,18 @@ fn action_of<'a>(
 // ---- options
 
 /// The options with a value that go with some commands only.
-pub const VALUED: [&str; 6] = ["image", "label", "live", "records", "id", "output"];
+pub const VALUED: [&str; 7] = [
+    "image",
+    "label",
+    "live",
+    "records",
+    "id",
+    "separator",
+    "output",
+];
 
 /// The options without a value that go with some commands only.
-pub const FLAGS: [&str; 4] = ["strict", "json", "quiet", "partial"];
+pub const FLAGS: [&str; 5] = ["strict", "json", "csv", "quiet", "partial"];
 
 /// Whether an option is among those of a command.
 #[tactic(auto, using(crate::proofs::CommandLemmas::has_option_is))]
@@ -573,6 +592,33 @@ fn misplaced(options: &[&str], matches: &ArgMatches<'_>) -> Option<&'static str>
     among_flags(&FLAGS, options, matches)
 }
 
+/// What separates the values in a row, if this is said.
+fn separator_of<'a>(matches: &ArgMatches<'a>) -> Result<Option<Separator>, UsageError<'a>>
+    ensures { let text = first_of (codes "separator") (rows_of (found_of matches.now)) in
+        MatchResult result (λ separator. separator_of text ≡ Some separator) (λ _. separator_of text ≡ None) }
+{
+    match value(matches, "separator") {
+        None => Ok(None),
+        Some("comma") => Ok(Some(Separator::Comma)),
+        Some("semicolon") => Ok(Some(Separator::Semicolon)),
+        other => Err(value_error("separator", other)),
+    }
+}
+
+/// The form of text in which a command prints records.
+fn text_format(verb: Verb) -> Format
+    ensures { result ≡ text_format verb }
+{
+    match verb {
+        Verb::DescribeEvents
+        | Verb::TailEvents
+        | Verb::DescribeSensors
+        | Verb::GetSensors
+        | Verb::ListDevices => Format::Descriptive,
+        _ => Format::Plain,
+    }
+}
+
 /// How records are printed.
 fn format_of<'a>(
     alloc: Global,
@@ -582,20 +628,24 @@ fn format_of<'a>(
     ensures { let meant = format_of verb (rows_of (found_of matches.now)) in
         MatchResult result (λ format. meant ≡ Some format) (λ e. (e ≡ UsageError.Memory) ⊎ (meant ≡ None)) }
 {
+    let separator = separator_of(matches)?;
+    let labels = copies_of(alloc, matches, "label")?;
+    if is_given(matches, "csv") {
+        if is_given(matches, "json") {
+            return Err(UsageError::JsonAndCsv);
+        }
+        return Ok(Format::Csv(separator.unwrap_or(Separator::Comma), labels));
+    }
+    if separator.is_some() {
+        return Err(UsageError::SeparatorWithoutCsv);
+    }
     if is_given(matches, "json") {
-        return Ok(Format::Json(copies_of(alloc, matches, "label")?));
+        return Ok(Format::Json(labels));
     }
     if has_value(matches, "label") {
-        return Err(UsageError::LabelWithoutJson);
+        return Err(UsageError::LabelInText);
     }
-    Ok(match verb {
-        Verb::DescribeEvents
-        | Verb::TailEvents
-        | Verb::DescribeSensors
-        | Verb::GetSensors
-        | Verb::ListDevices => Format::Descriptive,
-        _ => Format::Plain,
-    })
+    Ok(text_format(verb))
 }
 
 // ---- the request

@@ -6,7 +6,7 @@ use Rattle.csv.specs.Writing.{default_writer, escaped, field_text, fields_text, 
 use Rattle.csv.proofs.RoundTrip.{read-write-many}
 use Rattle.ipmi_csv.specs.Cells.{csv_cell, csv_row, doubled, needs_quotes, next_cell}
 use Rattle.ipmi_csv.specs.Laws.{RowsReadBack}
-use Rattle.ipmi_csv.specs.declared.cells.Separator.{Separator}
+use Rattle.ipmi_command_line.specs.declared.request.Separator.{Separator}
 
 or-same : (a b c d : Bool) → (a || b || (c || d) || false || false) ≡ (a || (b || (c || d)))
 or-same true b c d = refl

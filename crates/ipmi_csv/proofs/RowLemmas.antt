@@ -6,11 +6,12 @@ use Rattle.std.proofs.lemmas.Result.{IfOk-weaker}
 use Rattle.json.specs.Json.{Json, null}
 use Rattle.ipmi_json.specs.Members.{BeginsItem, BeginsList, BeginsObject, EndsList, EndsObject, Tells, TellsSome, Top}
 use Rattle.ipmi_json.specs.Object.{Pair, array_in, json_of, members_in, object_in}
+use Rattle.ipmi_json.specs.declared.object.Label.{Label}
 use Rattle.ipmi_json.specs.declared.object.Value.{Value}
 use Rattle.ipmi_csv.specs.Cells.{csv_row}
 use Rattle.ipmi_csv.specs.Row.{Seen, Told, add, before, begin, cell_of, cells_in, deeper, end, key_in, nothing, pass, put, seen_in, tell, text_or, told}
 use Rattle.ipmi_csv.specs.Values.{IsRowOf, IsRowOfSome, area_members, both_keys, flat, members_of, text_of, value_at, value_or}
-use Rattle.ipmi_csv.specs.declared.cells.Separator.{Separator}
+use Rattle.ipmi_command_line.specs.declared.request.Separator.{Separator}
 use Rattle.ipmi_csv.specs.declared.row.Row.{Row}
 
 -- ---- members that were told
@@ -199,37 +200,37 @@ texts_told row keys ms is =
     ap (λ (seen : Seen). map (λ key. text_or [] key seen.cells) keys) (is ∙ tell_top [] ms) ∙ texts_at keys ms
 
 -- the row of a thing to which members were told
-pub row_told : {E : Type 0} {Are : List Pair → Type 0} {begun now : Row} (separator : Separator) (columns : List (List ℕ))
+pub row_told : {E : Type 0} {Are : List Pair → Type 0} {begun now : Row} (separator : Separator) (labels : List Label) (columns : List (List ℕ))
     (r : Result (Vec ℕ Global) E) → seen_in begun ≡ nothing → TellsSome told Are begun now
-    → ((ms : List Pair) → told now Top ms → IfOk r (λ line. IsRowOf separator columns ms line.items))
-    → IfOk r (λ line. IsRowOfSome separator columns Are line.items)
-row_told separator columns r begun t finished = IfOk-weaker r _ _
+    → ((ms : List Pair) → told now Top ms → IfOk r (λ line. IsRowOf separator labels columns ms line.items))
+    → IfOk r (λ line. IsRowOfSome separator labels columns Are line.items)
+row_told separator labels columns r begun t finished = IfOk-weaker r _ _
     (λ line h. record { ms = t.ms; are = t.are; is_row = h }) (finished t.ms (t.tells.more Top [] begun))
 
 -- no row is empty
-pub row_is_some : {E : Type 0} (separator : Separator) (columns : List (List ℕ)) (ms : List Pair) (r : Result (Vec ℕ Global) E)
-    → IfOk r (λ line. IsRowOf separator columns ms line.items) → IfOk r (λ line. 0 < length line.items)
-row_is_some separator columns ms r is = IfOk-weaker r _ _
-    (λ line h. rw h (row-some separator (map (λ key. text_of (value_at key ms)) columns))) is
+pub row_is_some : {E : Type 0} (separator : Separator) (labels : List Label) (columns : List (List ℕ)) (ms : List Pair) (r : Result (Vec ℕ Global) E)
+    → IfOk r (λ line. IsRowOf separator labels columns ms line.items) → IfOk r (λ line. 0 < length line.items)
+row_is_some separator labels columns ms r is = IfOk-weaker r _ _
+    (λ line h. rw h (row-some separator (map (λ key. text_of (value_at key ms)) columns ++ map (λ (label : Label). label.value.now) labels))) is
 
-pub told_is_some : {E : Type 0} {Are : List Pair → Type 0} {begun now : Row} (separator : Separator) (columns : List (List ℕ))
+pub told_is_some : {E : Type 0} {Are : List Pair → Type 0} {begun now : Row} (separator : Separator) (labels : List Label) (columns : List (List ℕ))
     (r : Result (Vec ℕ Global) E) → seen_in begun ≡ nothing → TellsSome told Are begun now
-    → ((ms : List Pair) → told now Top ms → IfOk r (λ line. IsRowOf separator columns ms line.items))
+    → ((ms : List Pair) → told now Top ms → IfOk r (λ line. IsRowOf separator labels columns ms line.items))
     → IfOk r (λ line. 0 < length line.items)
-told_is_some separator columns r begun t finished = row_is_some separator columns t.ms r (finished t.ms (t.tells.more Top [] begun))
+told_is_some separator labels columns r begun t finished = row_is_some separator labels columns t.ms r (finished t.ms (t.tells.more Top [] begun))
 
 -- the same of a record, whose row is not empty
-pub record_told : {E : Type 0} {Are : List Pair → Type 0} {begun now : Row} (separator : Separator) (columns : List (List ℕ))
+pub record_told : {E : Type 0} {Are : List Pair → Type 0} {begun now : Row} (separator : Separator) (labels : List Label) (columns : List (List ℕ))
     (r : Result (Vec ℕ Global) E) → seen_in begun ≡ nothing → TellsSome told Are begun now
-    → ((ms : List Pair) → told now Top ms → IfOk r (λ line. IsRowOf separator columns ms line.items))
-    → IfOk r (λ line. IsRowOfSome separator columns Are line.items × (0 < length line.items))
-record_told separator columns r begun t finished = IfOk-weaker r _ _
-    (λ line h. (record { ms = t.ms; are = t.are; is_row = h }, rw h (row-some separator (map (λ key. text_of (value_at key t.ms)) columns))))
+    → ((ms : List Pair) → told now Top ms → IfOk r (λ line. IsRowOf separator labels columns ms line.items))
+    → IfOk r (λ line. IsRowOfSome separator labels columns Are line.items × (0 < length line.items))
+record_told separator labels columns r begun t finished = IfOk-weaker r _ _
+    (λ line h. (record { ms = t.ms; are = t.are; is_row = h }, rw h (row-some separator (map (λ key. text_of (value_at key t.ms)) columns ++ map (λ (label : Label). label.value.now) labels))))
     (finished t.ms (t.tells.more Top [] begun))
 
 -- members that are the only ones have at most one row
-pub one_row : (separator : Separator) (columns : List (List ℕ)) (Are : List Pair → Type 0) (text other : List ℕ)
+pub one_row : (separator : Separator) (labels : List Label) (columns : List (List ℕ)) (Are : List Pair → Type 0) (text other : List ℕ)
     → ((ms more : List Pair) → Are ms → Are more → ms ≡ more)
-    → IsRowOfSome separator columns Are text → IsRowOfSome separator columns Are other → text ≡ other
-one_row separator columns Are text other one h k =
+    → IsRowOfSome separator labels columns Are text → IsRowOfSome separator labels columns Are other → text ≡ other
+one_row separator labels columns Are text other one h k =
     h.is_row ∙ rw (one h.ms k.ms h.are k.are) (sym k.is_row)

@@ -1,7 +1,7 @@
 -- The text of a row (RFC 4180). A cell has quotes only where it needs them, and a row ends in a line feed.
 use Rattle.std.specs.Prelude.{ℕ, Bool, ◌==◌, ◌||◌, if◌then◌else◌, List, [], ◌∷◌, ◌++◌, codes, flat_map}
 use Rattle.std.specs.List.{list_any}
-use Rattle.ipmi_csv.specs.declared.cells.Separator.{Separator}
+use Rattle.ipmi_command_line.specs.declared.request.Separator.{Separator}
 
 abbrev pub separator_byte : Separator → ℕ
 separator_byte Separator.Comma = 44

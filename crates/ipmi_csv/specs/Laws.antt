@@ -4,7 +4,7 @@ use Rattle.csv.specs.Machine.{next_record}
 use Rattle.csv.specs.Reading.{default_config}
 use Rattle.csv.specs.declared.parser.State.TheVariants.{StartRecord}
 use Rattle.ipmi_csv.specs.Cells.{csv_row}
-use Rattle.ipmi_csv.specs.declared.cells.Separator.{Separator}
+use Rattle.ipmi_command_line.specs.declared.request.Separator.{Separator}
 
 -- The reader of the crate `csv` gets the texts of a row with commas, and its next read begins after the row. Each table has more than one
 -- column: a row of one empty text would be an empty line, which readers pass over.

@@ -2,8 +2,9 @@
 use Rattle.std.specs.Prelude.{◌≡◌, ℕ, if◌then◌else◌, List, [], ◌∷◌, ◌++◌, bytes_eq, codes, map}
 use Rattle.json.specs.Json.{Json, Members, array, boolean, member, no_members, null, number, object, string}
 use Rattle.ipmi_json.specs.Object.{Pair}
+use Rattle.ipmi_json.specs.declared.object.Label.{Label}
 use Rattle.ipmi_csv.specs.Cells.{csv_row}
-use Rattle.ipmi_csv.specs.declared.cells.Separator.{Separator}
+use Rattle.ipmi_command_line.specs.declared.request.Separator.{Separator}
 
 -- the text of a value in a cell: as JSON has it, a text without its quotes; null, lists and objects have none
 abbrev pub text_of : Json → List ℕ
@@ -44,14 +45,14 @@ value_at key ms = value_or null key (flat ms)
 
 -- ---- rows
 
--- the row of a thing with these members
-abbrev pub IsRowOf : Separator → List (List ℕ) → List Pair → List ℕ → Type 0
-IsRowOf separator columns ms text =
-    text ≡ csv_row separator (map (λ key. text_of (value_at key ms)) columns)
+-- the row of a thing with these members; the values of the labels come last
+abbrev pub IsRowOf : Separator → List Label → List (List ℕ) → List Pair → List ℕ → Type 0
+IsRowOf separator labels columns ms text =
+    text ≡ csv_row separator (map (λ key. text_of (value_at key ms)) columns ++ map (λ label. label.value.now) labels)
 
 -- the row of a thing with members that satisfy `Are`
-pub record IsRowOfSome (separator : Separator) (columns : List (List ℕ)) (Are : List Pair → Type 0)
+pub record IsRowOfSome (separator : Separator) (labels : List Label) (columns : List (List ℕ)) (Are : List Pair → Type 0)
     (text : List ℕ) : Type 0 where
   pub ms : List Pair
   pub are : Are ms
-  pub is_row : IsRowOf separator columns ms text
+  pub is_row : IsRowOf separator labels columns ms text

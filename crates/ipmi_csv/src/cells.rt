@@ -3,19 +3,11 @@ ghost use Rattle.std.specs.Prelude.{◌≡◌, ◌∷◌, ◌++◌, [], IfOk, On
 ghost use Rattle.std.specs.List.{list_any};
 ghost use Rattle.ipmi_csv.specs.Cells.{csv_cell, csv_row, doubled, needs_quotes, next_cell, separator_byte};
 
+use ipmi_command_line::Separator;
 use std::alloc::{AllocError, Global};
 
 /// The capacity for most rows.
 const ROW_CAPACITY: usize = 512;
-
-/// What separates the cells of a row.
-#[derive(Clone, Copy, Debug, PartialEq, Eq)]
-pub enum Separator {
-    /// A comma.
-    Comma,
-    /// A semicolon.
-    Semicolon,
-}
 
 /// The byte of a separator.
 fn separator_byte(separator: Separator) -> u8

@@ -1,38 +1,53 @@
 //! CSV as a form of output.
-ghost use Rattle.std.specs.Prelude.{◌≡◌, IfOk};
-ghost use Rattle.ipmi_csv.specs.Cells.{csv_row};
-ghost use Rattle.ipmi_csv.specs.Columns.{columns_of};
+ghost use Rattle.std.specs.Prelude.{◌≡◌, ◌++◌, IfOk, map, OnOk};
+ghost use Rattle.ipmi_csv.specs.Format.{header};
 ghost use Rattle.ipmi_json.specs.Format.{info_object};
 
-use crate::cells::{Separator, csv_row};
+use crate::cells::csv_row;
 use crate::columns::{Table, columns_of};
 use crate::row::Row;
 use ipmi_bus::{Record, Shelf};
+use ipmi_command_line::Separator;
 use ipmi_commands::{Detail, Format};
 use ipmi_events::Sensors;
 use ipmi_fru::has_fault;
 use ipmi_image::LineBuffer;
 use ipmi_json::{
-    tell_device, tell_device_elsewhere, tell_entry, tell_faulty_record, tell_info, tell_raw_record,
-    tell_record,
+    Label, tell_device, tell_device_elsewhere, tell_entry, tell_faulty_record, tell_info,
+    tell_raw_record, tell_record,
 };
 use ipmi_records::{KnownReading, SdrFault, SdrView, SelView};
 use std::alloc::{AllocError, Global};
 
 /// CSV: a row for each record, entry, device and info, with the values of its JSON object. Events have the names of their
 /// sensors.
-#[derive(Clone, Copy)]
-pub struct Csv {
+#[derive(Clone, Copy, Debug)]
+pub struct Csv<'a> {
     /// What separates the cells of a row.
     pub separator: Separator,
+    /// The last cells of each row.
+    pub labels: &'a [Label<'a>],
 }
 
-impl Csv {
-    /// The header line of a table: the keys of its columns.
+/// Appends the keys of labels.
+fn push_keys<'a>(keys: &mut Vec<&'a str>, labels: &[Label<'a>]) -> Result<(), AllocError>
+    ensures { OnOk result (map (λ key. key.now) keys.new.items ≡
+        map (λ key. key.now) keys.old.items ++ map (λ label. label.key.now) labels.now) }
+{
+    'labels: for label in labels {
+        keys.push(label.key)?;
+    }
+    Ok(())
+}
+
+impl Csv<'_> {
+    /// The header line of a table: the keys of its columns, and of the labels.
     pub fn header(&self, alloc: Global, table: Table) -> Result<Vec<u8>, AllocError>
-        ensures { IfOk result (λ line. line.items ≡ csv_row self.now.separator (columns_of table)) }
+        ensures { IfOk result (λ line. line.items ≡ header self.now.separator self.now.labels.now table) }
     {
-        csv_row(alloc, self.separator, columns_of(table))
+        let mut keys = Vec::from_slice(alloc, columns_of(table))?;
+        push_keys(&mut keys, self.labels)?;
+        csv_row(alloc, self.separator, keys.as_slice())
     }
 }
 
@@ -46,10 +61,10 @@ fn info_object(shelf: Shelf) -> &'static str
     }
 }
 
-impl Format for Csv {
+impl Format for Csv<'_> {
     ghost use Rattle.ipmi_csv.specs.Format.{csv_texts};
 
-    ghost texts = { λ csv. csv_texts csv.separator };
+    ghost texts = { λ csv. csv_texts csv.separator csv.labels.now };
 
     fn has_names(&self, _detail: Detail) -> bool {
         true
@@ -65,7 +80,7 @@ impl Format for Csv {
     ) -> Result<Vec<u8>, AllocError> {
         let mut row = Row::new(alloc)?;
         tell_record(alloc, &mut row, id, view, reading)?;
-        row.line(self.separator, Table::Records)
+        row.line(self.separator, self.labels, Table::Records)
     }
 
     fn fault(
@@ -77,7 +92,7 @@ impl Format for Csv {
     ) -> Result<Vec<u8>, AllocError> {
         let mut row = Row::new(alloc)?;
         tell_faulty_record(alloc, &mut row, id, fault, bytes)?;
-        row.line(self.separator, Table::Records)
+        row.line(self.separator, self.labels, Table::Records)
     }
 
     fn hex(
@@ -88,7 +103,7 @@ impl Format for Csv {
     ) -> Result<Option<Vec<u8>>, AllocError> {
         let mut row = Row::new(alloc)?;
         tell_raw_record(alloc, &mut row, lent.id, lent.next, lent.bytes)?;
-        Ok(Some(row.line(self.separator, Table::RawRecords)?))
+        Ok(Some(row.line(self.separator, self.labels, Table::RawRecords)?))
     }
 
     fn entry(
@@ -101,13 +116,13 @@ impl Format for Csv {
     ) -> Result<Vec<u8>, AllocError> {
         let mut row = Row::new(alloc)?;
         tell_entry(alloc, &mut row, id, entry, sensors)?;
-        row.line(self.separator, Table::Entries)
+        row.line(self.separator, self.labels, Table::Entries)
     }
 
     fn info(&self, alloc: Global, shelf: Shelf, info: &[u8; 14]) -> Result<Vec<u8>, AllocError> {
         let mut row = Row::new(alloc)?;
         tell_info(alloc, &mut row, info_object(shelf), info)?;
-        row.line(self.separator, Table::Infos)
+        row.line(self.separator, self.labels, Table::Infos)
     }
 
     fn device(
@@ -120,7 +135,7 @@ impl Format for Csv {
     ) -> Result<Vec<u8>, AllocError> {
         let mut row = Row::new(alloc)?;
         tell_device(alloc, &mut row, id, name, inventory)?;
-        row.line(self.separator, Table::Devices)
+        row.line(self.separator, self.labels, Table::Devices)
     }
 
     fn names_fault(&self, _detail: Detail, inventory: &[u8]) -> bool {
@@ -130,7 +145,7 @@ impl Format for Csv {
     fn elsewhere(&self, alloc: Global, name: &str) -> Result<Vec<u8>, AllocError> {
         let mut row = Row::new(alloc)?;
         tell_device_elsewhere(alloc, &mut row, Some(name))?;
-        row.line(self.separator, Table::Devices)
+        row.line(self.separator, self.labels, Table::Devices)
     }
 
     fn one_text(&self) {

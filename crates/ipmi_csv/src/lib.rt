@@ -7,6 +7,5 @@ mod format;
 pub mod laws;
 mod row;
 
-pub use cells::Separator;
 pub use columns::Table;
 pub use format::Csv;

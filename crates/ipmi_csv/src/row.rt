@@ -1,14 +1,15 @@
 //! What is kept of a thing while its members are told, and its row.
-ghost use Rattle.std.specs.Prelude.{◌≡◌, if◌then◌else◌, [], IfOk, List, OnOk, bytes_eq, map, option_map, string_bytes};
+ghost use Rattle.std.specs.Prelude.{◌≡◌, ◌++◌, if◌then◌else◌, [], IfOk, List, OnOk, bytes_eq, map, option_map, string_bytes};
 ghost use Rattle.ipmi_json.specs.Members.{Top};
 ghost use Rattle.ipmi_json.specs.Object.{json_of, Pair};
 ghost use Rattle.ipmi_csv.specs.Columns.{columns_of};
 ghost use Rattle.ipmi_csv.specs.Row.{add, begin, deeper, end, key_in, name_of, nothing, pass, put, seen_in, text_or, told, told_cell};
 ghost use Rattle.ipmi_csv.specs.Values.{IsRowOf, text_of};
 
-use crate::cells::{Separator, csv_row};
+use crate::cells::csv_row;
 use crate::columns::{Table, columns_of};
-use ipmi_json::{Members, Value};
+use ipmi_command_line::Separator;
+use ipmi_json::{Label, Members, Value};
 use std::alloc::{AllocError, Global};
 
 /// The capacity for the cells of any thing.
@@ -113,6 +114,17 @@ fn texts_at<'a>(
     Ok(texts)
 }
 
+/// Appends the values of labels.
+fn push_values<'a>(texts: &mut Vec<&'a str>, labels: &[Label<'a>]) -> Result<(), AllocError>
+    ensures { OnOk result (map (λ text. text.now) texts.new.items ≡
+        map (λ text. text.now) texts.old.items ++ map (λ label. label.value.now) labels.now) }
+{
+    'labels: for label in labels {
+        texts.push(label.value)?;
+    }
+    Ok(())
+}
+
 impl Row {
     /// A row of a thing of which nothing was told.
     pub(crate) fn new(alloc: Global) -> Result<Row, AllocError>
@@ -199,12 +211,18 @@ impl Row {
         }
     }
 
-    /// The row of the thing.
-    pub(crate) fn line(&self, separator: Separator, table: Table) -> Result<Vec<u8>, AllocError>
+    /// The row of the thing, with these labels.
+    pub(crate) fn line(
+        &self,
+        separator: Separator,
+        labels: &[Label<'_>],
+        table: Table,
+    ) -> Result<Vec<u8>, AllocError>
         ensures { (ms : List Pair) → told self.now Top ms → IfOk result
-            (λ line. IsRowOf separator (columns_of table) ms line.items) }
+            (λ line. IsRowOf separator labels.now (columns_of table) ms line.items) }
     {
-        let texts = texts_at(self.alloc, self.cells.as_slice(), columns_of(table))?;
+        let mut texts = texts_at(self.alloc, self.cells.as_slice(), columns_of(table))?;
+        push_values(&mut texts, labels)?;
         csv_row(self.alloc, separator, texts.as_slice())
     }
 }

@@ -7,20 +7,23 @@ use crate::json::infos::{INFO, OTHER_INFO};
 use crate::json::inventories::{MIXED, PRODUCT};
 use crate::json::records::{COMPACT, DOOR, FAULTY, FULL, HOT, OTHER};
 use ipmi_bus::{Record, Shelf};
+use ipmi_command_line::Separator;
 use ipmi_commands::{Detail, Format};
-use ipmi_csv::{Csv, Separator, Table};
+use ipmi_csv::{Csv, Table};
 use ipmi_events::Sensors;
 use ipmi_image::LineBuffer;
 use ipmi_records::{SdrFault, SdrView, SelView};
 use std::alloc::{AllocError, Global};
 use std::process::Abort;
 
-const COMMA: Csv = Csv {
+const COMMA: Csv<'static> = Csv {
     separator: Separator::Comma,
+    labels: &[],
 };
 
-const SEMICOLON: Csv = Csv {
+const SEMICOLON: Csv<'static> = Csv {
     separator: Separator::Semicolon,
+    labels: &[],
 };
 
 const RECORDS: &str =

@@ -4,6 +4,7 @@
 mod answer;
 mod causes;
 mod input;
+mod labels;
 mod printing;
 mod with_lacks;
 mod wording;
@@ -11,6 +12,7 @@ mod wording;
 pub use answer::answer_buffered;
 pub use causes::cause_words;
 pub use input::{InputFault, MOST_BYTES, input_name, read_image, read_input, read_words, words_of};
+pub use labels::{labels_of, wrong_label};
 pub use printing::flush;
 pub use with_lacks::{WithLacks, nothing_lacks};
-pub use wording::Wording;
+pub use wording::{Wording, table_of};

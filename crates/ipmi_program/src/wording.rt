@@ -1,6 +1,11 @@
 //! The form of output that a user chose.
+ghost use Rattle.std.specs.Prelude.{◌≡◌};
+ghost use Rattle.ipmi_program.specs.Wording.{table_of};
+
 use ipmi_bus::{Record, Shelf};
+use ipmi_command_line::Task;
 use ipmi_commands::{Descriptive, Detail, Format, Plain};
+use ipmi_csv::{Csv, Table};
 use ipmi_events::Sensors;
 use ipmi_image::LineBuffer;
 use ipmi_json::{Json, Label};
@@ -16,6 +21,21 @@ pub enum Wording<'a> {
     Descriptive,
     /// Objects with these labels: [`Json`].
     Json(&'a [Label<'a>]),
+    /// Rows of values: [`Csv`].
+    Csv(Csv<'a>),
+}
+
+/// The table of what the task prints.
+pub fn table_of(task: &Task) -> Table
+    ensures { result ≡ table_of task.now }
+{
+    match task {
+        Task::Hex | Task::Rewrite => Table::RawRecords,
+        Task::List(_) | Task::Elist(_) | Task::Get(_) => Table::Records,
+        Task::Info(_) => Table::Infos,
+        Task::SelList(_) | Task::SelGet(_) => Table::Entries,
+        Task::Fru(_) => Table::Devices,
+    }
 }
 
 impl Format for Wording<'_> {
@@ -28,6 +48,7 @@ impl Format for Wording<'_> {
             Wording::Plain => Plain.has_names(detail),
             Wording::Descriptive => Descriptive.has_names(detail),
             Wording::Json(labels) => Json { labels }.has_names(detail),
+            Wording::Csv(csv) => csv.has_names(detail),
         }
     }
 
@@ -43,6 +64,7 @@ impl Format for Wording<'_> {
             Wording::Plain => Plain.record(alloc, detail, id, view, reading),
             Wording::Descriptive => Descriptive.record(alloc, detail, id, view, reading),
             Wording::Json(labels) => Json { labels }.record(alloc, detail, id, view, reading),
+            Wording::Csv(csv) => csv.record(alloc, detail, id, view, reading),
         }
     }
 
@@ -57,6 +79,7 @@ impl Format for Wording<'_> {
             Wording::Plain => Plain.fault(alloc, id, fault, bytes),
             Wording::Descriptive => Descriptive.fault(alloc, id, fault, bytes),
             Wording::Json(labels) => Json { labels }.fault(alloc, id, fault, bytes),
+            Wording::Csv(csv) => csv.fault(alloc, id, fault, bytes),
         }
     }
 
@@ -70,6 +93,7 @@ impl Format for Wording<'_> {
             Wording::Plain => Plain.hex(alloc, lent, line),
             Wording::Descriptive => Descriptive.hex(alloc, lent, line),
             Wording::Json(labels) => Json { labels }.hex(alloc, lent, line),
+            Wording::Csv(csv) => csv.hex(alloc, lent, line),
         }
     }
 
@@ -85,6 +109,7 @@ impl Format for Wording<'_> {
             Wording::Plain => Plain.entry(alloc, detail, id, entry, sensors),
             Wording::Descriptive => Descriptive.entry(alloc, detail, id, entry, sensors),
             Wording::Json(labels) => Json { labels }.entry(alloc, detail, id, entry, sensors),
+            Wording::Csv(csv) => csv.entry(alloc, detail, id, entry, sensors),
         }
     }
 
@@ -93,6 +118,7 @@ impl Format for Wording<'_> {
             Wording::Plain => Plain.info(alloc, shelf, info),
             Wording::Descriptive => Descriptive.info(alloc, shelf, info),
             Wording::Json(labels) => Json { labels }.info(alloc, shelf, info),
+            Wording::Csv(csv) => csv.info(alloc, shelf, info),
         }
     }
 
@@ -108,6 +134,7 @@ impl Format for Wording<'_> {
             Wording::Plain => Plain.device(alloc, detail, id, name, inventory),
             Wording::Descriptive => Descriptive.device(alloc, detail, id, name, inventory),
             Wording::Json(labels) => Json { labels }.device(alloc, detail, id, name, inventory),
+            Wording::Csv(csv) => csv.device(alloc, detail, id, name, inventory),
         }
     }
 
@@ -116,6 +143,7 @@ impl Format for Wording<'_> {
             Wording::Plain => Plain.names_fault(detail, inventory),
             Wording::Descriptive => Descriptive.names_fault(detail, inventory),
             Wording::Json(labels) => Json { labels }.names_fault(detail, inventory),
+            Wording::Csv(csv) => csv.names_fault(detail, inventory),
         }
     }
 
@@ -124,6 +152,7 @@ impl Format for Wording<'_> {
             Wording::Plain => Plain.elsewhere(alloc, name),
             Wording::Descriptive => Descriptive.elsewhere(alloc, name),
             Wording::Json(labels) => Json { labels }.elsewhere(alloc, name),
+            Wording::Csv(csv) => csv.elsewhere(alloc, name),
         }
     }
 
@@ -132,6 +161,7 @@ impl Format for Wording<'_> {
             Wording::Plain => Plain.one_text(),
             Wording::Descriptive => Descriptive.one_text(),
             Wording::Json(labels) => Json { labels }.one_text(),
+            Wording::Csv(csv) => csv.one_text(),
         }
     }
 }

@@ -4,5 +4,4 @@ pub mod EndingLemmas
 pub mod ImagesLemmas
 pub mod NamesLemmas
 pub mod RunErrorLemmas
-mod LabelLemmas
 mod LastWordsLemmas

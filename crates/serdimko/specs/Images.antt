@@ -1,5 +1,5 @@
 -- What is printed of each image.
-use Rattle.std.specs.Prelude.{◌≡◌, ◌⊎◌, ◌+◌, ◌==◌, ℕ, Bool, true, false, IsTrue, List, [], ◌∷◌, ◌++◌, bytes_eq, codes, length, map, Option, None, Some, Result, Ok, Err, Vec, if◌then◌else◌}
+use Rattle.std.specs.Prelude.{◌≡◌, ◌⊎◌, ◌+◌, ◌==◌, ℕ, Bool, true, false, IsTrue, List, [], ◌∷◌, ◌++◌, bytes_eq, codes, length, map, nat_lt, Option, None, Some, Result, Ok, Err, Vec, if◌then◌else◌}
 use Rattle.std.specs.Borrow.{Bor}
 use Rattle.std.specs.declared.alloc.Global.{Global}
 use Rattle.ipmi_bus.specs.Seen.{IsHonest}
@@ -18,12 +18,13 @@ use Rattle.ipmi_output.specs.Sink.{TakesPart}
 use Rattle.ipmi_output.specs.declared.failure.Failure.{Failure}
 use Rattle.ipmi_program.specs.Input.{input_name}
 use Rattle.ipmi_program.specs.declared.input.InputFault.{InputFault}
-use Rattle.serdimko.specs.Labels.{key_value, labels_of}
+use Rattle.ipmi_program.specs.Labels.{key_value, labels_of}
 use Rattle.serdimko.specs.declared.images.ImageQuery.{ImageQuery}
 use Rattle.serdimko.specs.declared.outcome.Outcome.{Outcome}
 use Rattle.serdimko.specs.declared.report.Report.{Report}
 use Rattle.serdimko.specs.declared.report.Settings.{Settings}
 use Rattle.serdimko.specs.declared.run_error.RunError.{RunError}
+use Rattle.serdimko.specs.Columns.{PrintsColumns, Then}
 use Rattle.serdimko.specs.Out.{Out, state}
 use Rattle.serdimko.specs.Printing.{Each, EndsIn, PrintsQuery, Reports, RunsThenEnds}
 use Rattle.serdimko.specs.RunError.{faults_of_error, no_image, output_error, Tells, unread}
@@ -143,7 +144,19 @@ PrintsOne settings query is_only_input image old new said said' result follows =
     PrintsImage settings query is_only_input (Some image) old new said said' result × (follows ≡ result.is_output_open)
 
 -- standard input if none is named
-abbrev pub PrintsImages : Settings → ImageQuery → List (List ℕ) → Out → Out → Received → Received → Outcome → Type 0
-PrintsImages settings query [] old new said said' result = PrintsImage settings query true None old new said said' result
-PrintsImages settings query (image ∷ images) old new said said' result =
+abbrev pub PrintsEach : Settings → ImageQuery → List (List ℕ) → Out → Out → Received → Received → Outcome → Type 0
+PrintsEach settings query [] old new said said' result = PrintsImage settings query true None old new said said' result
+PrintsEach settings query (image ∷ images) old new said said' result =
     Each (PrintsOne settings query (length (image ∷ images) == 1)) (image ∷ images) old new said said' result
+
+abbrev pub PrintsFirst : Settings → ImageQuery → Bool → Out → Out → Option RunError → Type 0
+PrintsFirst settings (ImageQuery.Print query) is_only_input old new last =
+    PrintsColumns settings.format query.now (image_label is_only_input []) old new last
+PrintsFirst settings ImageQuery.Rewrite is_only_input old new last = (new ≡ old) × (last ≡ None)
+
+-- the names of columns, if rows follow, and the images
+abbrev pub PrintsImages : Settings → ImageQuery → List (List ℕ) → Out → Out → Received → Received → Outcome → Type 0
+PrintsImages settings query images old new said said' result =
+    (now : Out) × (last : Option RunError) × PrintsFirst settings query (nat_lt (length images) 2) old now last
+    × Then last (PrintsEach settings query images now new said said' result)
+    (λ error. (new ≡ now) × Tells [] true (Some error) said said' result)

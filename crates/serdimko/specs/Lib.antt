@@ -1,6 +1,5 @@
 pub mod Captured
 pub mod Images
-pub mod Labels
 pub mod Live
 pub mod Out
 pub mod Printing
@@ -9,3 +8,4 @@ pub mod RunError
 pub mod Settings
 pub mod LastWords
 pub mod Closed
+pub mod Columns

@@ -7,8 +7,9 @@ use Rattle.ipmi_output.specs.Received.{Received}
 use Rattle.ipmi_output.specs.declared.failure.Failure.{Failure}
 use Rattle.ipmi_raw.specs.declared.tool.Tool.{Tool}
 use Rattle.serdimko.specs.Images.{IsReport}
-use Rattle.serdimko.specs.Out.{State}
-use Rattle.serdimko.specs.Printing.{PrintsQuery}
+use Rattle.serdimko.specs.Columns.{PrintsColumns, Then}
+use Rattle.serdimko.specs.Out.{Out, State}
+use Rattle.serdimko.specs.Printing.{PrintsQuery, Reports}
 use Rattle.serdimko.specs.RunError.{Tells}
 use Rattle.serdimko.specs.declared.driver.Query.{Query}
 use Rattle.serdimko.specs.declared.outcome.Outcome.{Outcome}
@@ -27,10 +28,12 @@ pipe_name folder stream lun = folder ++ (codes "/" ++ (stream ++ (codes "." ++ d
 abbrev pub name_of : Option (List ℕ) → List ℕ
 name_of host = unwrap_or host (codes "the controller")
 
--- memory for the labels ran out; or the query runs over the controller, whatever that holds, with tries for each part of an inventory
+-- memory for the labels ran out; or the names of columns are printed, if rows follow, and the query runs over the controller, whatever that holds, with tries for each part of an inventory
 abbrev pub PrintsLive : Settings → Option (List ℕ) → Query → State → State → Received → Received → Outcome → Type 0
 PrintsLive settings host query old new said said' result =
     ((new ≡ old) × Tells (name_of host) (is_none host) (Some (RunError.Failed Failure.OutOfMemory)) said said' result)
     ⊎ ((report : Report) × IsReport settings None (name_of host) (is_none host) report
     × ((limits : RequestLimits) × (limits.part ≡ settings.limits.part) × (limits.tries ≡ for_each_part settings.limits.tries.count)
-    × PrintsQuery limits query report old new said said' result))
+    × (now : Out) × (last : Option RunError) × PrintsColumns settings.format query None old.out now last
+    × Then last (PrintsQuery limits query report (record old { out = now }) new said said' result)
+    (λ error. (new ≡ record old { out = now }) × Reports report (Some error) said said' result)))

@@ -20,18 +20,21 @@ IsQuery (Query.Sensors names from) = IsFrom from
 -- texts of one of several images follow its name
 abbrev pub is_headed : Format → Bool → Bool
 is_headed (Format.Json texts) is_only_input = false
+is_headed (Format.Csv separator texts) is_only_input = false
 is_headed format is_only_input = not is_only_input
 
--- the labels of objects, as they were given
+-- the labels of objects and rows, as they were given
 abbrev pub texts_of : Format → List (List ℕ)
 texts_of (Format.Json texts) = texts
+texts_of (Format.Csv separator texts) = texts
 texts_of format = []
 
--- objects have these labels
+-- objects and rows have these labels
 abbrev pub wording_of : Format → Bor (List Label) → Wording
 wording_of Format.Plain labels = Wording.Plain
 wording_of Format.Descriptive labels = Wording.Descriptive
 wording_of (Format.Json texts) labels = Wording.Json labels
+wording_of (Format.Csv separator texts) labels = Wording.Csv (record { separator = separator; labels = labels })
 
 -- the texts of runs over an input
 abbrev pub texts_for : Report → Texts

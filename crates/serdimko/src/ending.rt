@@ -6,7 +6,7 @@ ghost use Rattle.ipmi_output.specs.Failure.{write_faults};
 ghost use Rattle.ipmi_output.specs.Sink.{TakesPart};
 ghost use Rattle.ipmi_output.specs.Writer.{flush_faults};
 ghost use Rattle.serdimko.specs.Out.{out_of};
-ghost use Rattle.serdimko.specs.Printing.{EndsIn, EndsRun, is_faulty, IsEndLine, message_of, PrintsEnd, shown};
+ghost use Rattle.serdimko.specs.Printing.{EndsIn, EndsRun, is_faulty, IsEndLine, message_of, PrintsEnd, shown, WritesEnd};
 ghost use Rattle.serdimko.specs.RunError.{error_text, faults_of_error, is_output_open};
 
 use crate::closable::{Output, is_closed};
@@ -89,6 +89,23 @@ pub(crate) fn write_flushed<W: Write + Drop>(
     out.flush()
 }
 
+/// Writes a line of the program's own for a run with this error, or without one, and flushes it. Returns the error, or that of this
+/// line.
+pub(crate) fn write_line<'a, W: Write + Drop>(
+    line: &[u8],
+    error: Option<RunError<'a>>,
+    out: &mut Output<W>,
+) -> Option<RunError<'a>>
+    ensures faults { (out_of out.new).faults + faults_of_error error.entry ≡
+        (out_of out.old).faults + faults_of_error result }
+    ensures writes { WritesEnd line.now (out_of out.old) (out_of out.new) error.entry result }
+{
+    match write_flushed(out, line) {
+        Ok(()) => error,
+        Err(fault) => RunError::of(Err(Failure::from(fault)), false, is_closed(out)),
+    }
+}
+
 /// Prints the line at the end of this many objects of a run with this error, or without one, unless the output accepts no more.
 /// Returns the error, or that of this line.
 fn print_end<'a, W: Write + Drop>(
@@ -110,10 +127,7 @@ fn print_end<'a, W: Write + Drop>(
     let Ok(line) = line_at_end(alloc, labels, count, &error, report) else {
         return Some(RunError::Failed(Failure::OutOfMemory));
     };
-    match write_flushed(out, line.as_slice()) {
-        Ok(()) => error,
-        Err(fault) => RunError::of(Err(Failure::from(fault)), false, is_closed(out)),
-    }
+    write_line(line.as_slice(), error, out)
 }
 
 /// Ends a run with this error, or without one, that printed so many pieces: prints the line at the end of objects. Returns the
@@ -131,7 +145,7 @@ pub(crate) fn end_with<'a, W: Write + Drop>(
 {
     match report.format.format {
         Wording::Json(labels) => print_end(alloc, labels, pieces, error, report, out),
-        Wording::Plain | Wording::Descriptive => error,
+        Wording::Plain | Wording::Descriptive | Wording::Csv(_) => error,
     }
 }
 

@@ -37,7 +37,10 @@ Options, anywhere, also after the command:
   --id HEX        the ID of sel get in hex, as sel list prints it
   --strict        status 1 if a fault or a missing device was printed
   --json          an object in a line for each thing, and one at the end
-  --label KEY=VALUE  with --json, a text in each object; may come several times
+  --csv           a line with the names of columns, and one for each thing
+  --separator comma|semicolon  with --csv, what stands between two values
+  --label KEY=VALUE  with --json or --csv, a text in each object or line; may
+                  come several times
   --output FILE   capture writes to this file (-o)
   --partial       capture replaces a whole image also by one that is not whole
   --quiet         capture shows no progress

@@ -3,13 +3,13 @@ ghost use Rattle.std.specs.Prelude.{◌≡◌, ◌+◌, ◌++◌, ◌==◌, [], 
 ghost use Rattle.ipmi_output.specs.Sink.{TakesPart};
 ghost use Rattle.ipmi_output.specs.Writer.{flush_faults};
 ghost use Rattle.ipmi_program.specs.Input.{input_name};
-ghost use Rattle.serdimko.specs.Images.{Fails, file_of, header, image_label, IsErrorOf, IsImageOf, IsImageQuery, PrintsFile, PrintsImage, PrintsImages, PrintsInput, PrintsNamed, PrintsStore, Rewrites};
+ghost use Rattle.serdimko.specs.Images.{Fails, file_of, header, image_label, IsErrorOf, IsImageOf, IsImageQuery, PrintsEach, PrintsFile, PrintsFirst, PrintsImage, PrintsImages, PrintsInput, PrintsNamed, PrintsStore, Rewrites};
 ghost use Rattle.serdimko.specs.Out.{out_of};
 
 use crate::closable::{Output, is_closed};
+use crate::columns::print_columns;
 use crate::driver::{Query, print_query};
 use crate::ending::{end_run, end_with};
-use crate::labels::labels_of;
 use crate::outcome::Outcome;
 use crate::report::{Report, Settings};
 use crate::run_error::RunError;
@@ -18,7 +18,7 @@ use ipmi_commands::{RequestLimits, Summary, write_snapshot};
 use ipmi_image::{ImageFault, Snapshot, SnapshotController, fault_cause};
 use ipmi_output::Part::{Escaped, Text};
 use ipmi_output::{Failure, MessageSink, SinkFault, write_message};
-use ipmi_program::{InputFault, input_name, read_input};
+use ipmi_program::{InputFault, input_name, labels_of, read_input};
 use std::alloc::{AllocError, Global};
 use std::io::Write;
 
@@ -234,7 +234,7 @@ fn print_image<W: Write + Drop, E: MessageSink>(
 }
 
 /// Prints what the query asks for from each image, or from standard input if none is named; after a write fault nothing more.
-pub(crate) fn print_images<W: Write + Drop, E: MessageSink>(
+fn print_each_image<W: Write + Drop, E: MessageSink>(
     rt: &HostRuntime,
     settings: &Settings,
     query: ImageQuery<'_>,
@@ -243,7 +243,7 @@ pub(crate) fn print_images<W: Write + Drop, E: MessageSink>(
     err: &mut E,
 ) -> Outcome
     requires { IsImageQuery query }
-    ensures { PrintsImages settings.now query.entry images.now (out_of out.old) (out_of out.new)
+    ensures { PrintsEach settings.now query.entry images.now (out_of out.old) (out_of out.new)
         (E.received err.old) (E.received err.new) result }
 {
     if images.is_empty() {
@@ -259,4 +259,43 @@ pub(crate) fn print_images<W: Write + Drop, E: MessageSink>(
         }
     }
     outcome
+}
+
+/// Prints the names of columns, if rows follow. Returns why it did not.
+fn print_first<'a, W: Write + Drop>(
+    alloc: Global,
+    settings: &Settings,
+    query: ImageQuery<'_>,
+    is_only_input: bool,
+    out: &mut Output<W>,
+) -> Option<RunError<'a>>
+    ensures { PrintsFirst settings.now query.entry is_only_input (out_of out.old) (out_of out.new) result }
+{
+    match query {
+        ImageQuery::Print(query) => {
+            print_columns(alloc, settings, query, image_label(is_only_input, ""), out)
+        }
+        ImageQuery::Rewrite => None,
+    }
+}
+
+/// Prints what the query asks for from each image, or from standard input if none is named; first the names of columns, if rows
+/// follow.
+pub(crate) fn print_images<W: Write + Drop, E: MessageSink>(
+    rt: &HostRuntime,
+    settings: &Settings,
+    query: ImageQuery<'_>,
+    images: &[Word],
+    out: &mut Output<W>,
+    err: &mut E,
+) -> Outcome
+    requires { IsImageQuery query }
+    ensures { PrintsImages settings.now query.entry images.now (out_of out.old) (out_of out.new)
+        (E.received err.old) (E.received err.new) result }
+{
+    let error = print_first(rt.alloc(), settings, query, images.len() < 2, out);
+    if error.is_some() {
+        return settings.report(&[], "", true).tell(&error, err);
+    }
+    print_each_image(rt, settings, query, images, out, err)
 }

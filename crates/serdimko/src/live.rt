@@ -11,8 +11,8 @@ ghost use Rattle.serdimko.specs.Out.{out_of, state};
 ghost use Rattle.serdimko.specs.Settings.{IsQuery};
 
 use crate::closable::Output;
+use crate::columns::print_columns;
 use crate::driver::{Connection, Query, print_query};
-use crate::labels::labels_of;
 use crate::outcome::Outcome;
 use crate::report::Settings;
 use crate::run_error::RunError;
@@ -20,6 +20,7 @@ use ipmi_bus::Controller;
 use ipmi_command_line::{LiveTool, Word};
 use ipmi_image::WithRecords;
 use ipmi_output::{Failure, MessageSink};
+use ipmi_program::labels_of;
 use ipmi_raw::{Open, Piped, RawController, Tool};
 use std::alloc::{AllocError, Global};
 use std::fs::{self, File, Files, OpenOptions};
@@ -227,6 +228,11 @@ pub(crate) fn print_live<'a, C: Connection, W: Write + Drop, E: MessageSink>(
     };
     let report = settings.report(labels.as_slice(), name, is_unknown);
     let limits = settings.limits.retrying_parts();
+    let error = print_columns(alloc, settings, query, None, out);
+    if error.is_some() {
+        machine.asks_only();
+        return report.tell(&error, err);
+    }
     let outcome = print_query(alloc, machine, limits, query, &report, out, err);
     machine.asks_only();
     outcome

@@ -9,6 +9,7 @@ use crate::outcome::Outcome;
 use crate::run_error::RunError;
 use ipmi_command_line::{Format, Word};
 use ipmi_commands::RequestLimits;
+use ipmi_csv::Csv;
 use ipmi_image::Lack;
 use ipmi_json::Label;
 use ipmi_output::{MessageSink, write_message};
@@ -31,22 +32,22 @@ impl Settings {
         ensures { result ≡ is_headed self.now.format is_only_input }
     {
         match &self.format {
-            Format::Json(_) => false,
+            Format::Json(_) | Format::Csv(..) => false,
             Format::Plain | Format::Descriptive => !is_only_input,
         }
     }
 
-    /// The labels of objects, each `KEY=VALUE`.
+    /// The labels of objects or rows, each `KEY=VALUE`.
     pub(crate) fn labels(&self) -> &[Word]
         ensures { result.now ≡ texts_of self.now.format }
     {
         match &self.format {
-            Format::Json(labels) => labels.as_slice(),
+            Format::Json(labels) | Format::Csv(_, labels) => labels.as_slice(),
             Format::Plain | Format::Descriptive => &[],
         }
     }
 
-    /// How runs over this input are printed and reported; objects have these labels.
+    /// How runs over this input are printed and reported; objects and rows have these labels.
     pub(crate) fn report<'a>(
         &self,
         labels: &'a [Label<'a>],
@@ -63,6 +64,10 @@ impl Settings {
             Format::Plain => Wording::Plain,
             Format::Descriptive => Wording::Descriptive,
             Format::Json(_) => Wording::Json(labels),
+            Format::Csv(separator, _) => Wording::Csv(Csv {
+                separator: *separator,
+                labels,
+            }),
         };
         Report {
             format: WithLacks {

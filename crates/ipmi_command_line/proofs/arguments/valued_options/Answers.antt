@@ -9,5 +9,6 @@ returns c =
     let live = c.in_ok-arg-2.ensures.shape c.option_rule.ensures.local ∙ ap₂ with_rule label c.option_rule.ensures.rule in
     let records = c.in_ok-arg-3.ensures.shape c.option_rule-2.ensures.local ∙ ap₂ with_rule live c.option_rule-2.ensures.rule in
     let id = c.in_ok-arg-4.ensures.shape c.option_rule-3.ensures.local ∙ ap₂ with_rule records c.option_rule-3.ensures.rule in
-    IfOk-weaker c.arg-5.result _ _ (λ r h. h.shape c.output_rule.ensures.local
-    ∙ ap₂ with_rule id c.output_rule.ensures.rule) c.arg-5.ensures
+    let separator = c.in_ok-arg-5.ensures.shape c.option_rule-4.ensures.local ∙ ap₂ with_rule id c.option_rule-4.ensures.rule in
+    IfOk-weaker c.arg-6.result _ _ (λ r h. h.shape c.output_rule.ensures.local
+    ∙ ap₂ with_rule separator c.output_rule.ensures.rule) c.arg-6.ensures

@@ -9,5 +9,5 @@ use Rattle.ipmi_csv.proofs.format.CsvFormat.elsewhere.Goals as goal
 pub returns : goal.returns
 returns c = record {
   text = c.line.ensures (elsewhere_members (Some c.args.name.now)) (c.in_ok-tell_device_elsewhere.ensures.more Top [] c.in_ok-row.ensures);
-  some = row_is_some c.args.self.now.separator (columns_of Table.Devices) (elsewhere_members (Some c.args.name.now)) c.line.result (c.line.ensures (elsewhere_members (Some c.args.name.now)) (c.in_ok-tell_device_elsewhere.ensures.more Top [] c.in_ok-row.ensures));
+  some = row_is_some c.args.self.now.separator c.args.self.now.labels.now (columns_of Table.Devices) (elsewhere_members (Some c.args.name.now)) c.line.result (c.line.ensures (elsewhere_members (Some c.args.name.now)) (c.in_ok-tell_device_elsewhere.ensures.more Top [] c.in_ok-row.ensures));
 }

@@ -5,6 +5,6 @@ use Rattle.ipmi_csv.proofs.format.CsvFormat.entry.Goals as goal
 
 pub returns : goal.returns
 returns c = record {
-  text = row_told c.args.self.now.separator (columns_of Table.Entries) c.line.result c.in_ok-row.ensures c.in_ok-tell_entry.ensures c.line.ensures;
-  some = told_is_some c.args.self.now.separator (columns_of Table.Entries) c.line.result c.in_ok-row.ensures c.in_ok-tell_entry.ensures c.line.ensures;
+  text = row_told c.args.self.now.separator c.args.self.now.labels.now (columns_of Table.Entries) c.line.result c.in_ok-row.ensures c.in_ok-tell_entry.ensures c.line.ensures;
+  some = told_is_some c.args.self.now.separator c.args.self.now.labels.now (columns_of Table.Entries) c.line.result c.in_ok-row.ensures c.in_ok-tell_entry.ensures c.line.ensures;
 }

@@ -9,5 +9,5 @@ use Rattle.ipmi_csv.proofs.format.CsvFormat.fault.Goals as goal
 pub returns : goal.returns
 returns c = record {
   text = c.line.ensures (fault_members c.args.id c.args.fault c.args.bytes.now) (c.in_ok-tell_faulty_record.ensures.more Top [] c.in_ok-row.ensures);
-  some = row_is_some c.args.self.now.separator (columns_of Table.Records) (fault_members c.args.id c.args.fault c.args.bytes.now) c.line.result (c.line.ensures (fault_members c.args.id c.args.fault c.args.bytes.now) (c.in_ok-tell_faulty_record.ensures.more Top [] c.in_ok-row.ensures));
+  some = row_is_some c.args.self.now.separator c.args.self.now.labels.now (columns_of Table.Records) (fault_members c.args.id c.args.fault c.args.bytes.now) c.line.result (c.line.ensures (fault_members c.args.id c.args.fault c.args.bytes.now) (c.in_ok-tell_faulty_record.ensures.more Top [] c.in_ok-row.ensures));
 }

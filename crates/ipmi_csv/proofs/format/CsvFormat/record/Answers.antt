@@ -5,4 +5,4 @@ use Rattle.ipmi_csv.proofs.format.CsvFormat.record.Goals as goal
 
 pub returns : goal.returns
 returns c =
-    record_told c.args.self.now.separator (columns_of Table.Records) c.line.result c.in_ok-row.ensures c.in_ok-tell_record.ensures c.line.ensures
+    record_told c.args.self.now.separator c.args.self.now.labels.now (columns_of Table.Records) c.line.result c.in_ok-row.ensures c.in_ok-tell_record.ensures c.line.ensures

@@ -1,7 +1,7 @@
 -- So far the labels before this one were added.
 use Rattle.std.proofs.Common.{◌≡◌, fold, map, option_map, take}
-use Rattle.serdimko.specs.Labels.{first_labels, key_value, label_of, with_label}
-use Rattle.serdimko.proofs.labels.labels_of.Given as goal
+use Rattle.ipmi_program.specs.Labels.{first_labels, key_value, label_of, with_label}
+use Rattle.ipmi_program.proofs.labels.labels_of.Given as goal
 
 abbrev pub invariant-loop-text : goal.invariant-loop-text
 invariant-loop-text l =

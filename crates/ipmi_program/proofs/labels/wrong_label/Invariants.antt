@@ -1,7 +1,7 @@
 -- So far no label was wrong.
 use Rattle.std.proofs.Common.{◌≡◌, drop, map, []}
-use Rattle.serdimko.specs.Labels.{key_value, wrong_label}
-use Rattle.serdimko.proofs.labels.wrong_label.Given as goal
+use Rattle.ipmi_program.specs.Labels.{key_value, wrong_label}
+use Rattle.ipmi_program.proofs.labels.wrong_label.Given as goal
 
 abbrev pub invariant-loop-text : goal.invariant-loop-text
 invariant-loop-text l =

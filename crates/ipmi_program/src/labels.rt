@@ -1,13 +1,12 @@
-//! The labels that `--label` adds to the objects of `--json`.
+//! The labels that `--label` adds to the objects of `--json` and the rows of `--csv`.
 ghost use Rattle.std.specs.List.{list_any};
 ghost use Rattle.std.specs.Prelude.{◌≡◌, [], bytes_eq, IfOk, map, OnOk, option_map};
 ghost use Rattle.ipmi_output.specs.Failure.{joined_parts};
-ghost use Rattle.serdimko.specs.Labels.{fault_of_label, key_value, label_of, labels_of, with_label, wrong_label};
+ghost use Rattle.ipmi_program.specs.Labels.{fault_of_label, key_value, label_of, labels_of, with_label, wrong_label};
 
-use crate::mistake::{Line, line};
 use ipmi_command_line::Word;
 use ipmi_json::{Label, is_object_key};
-use ipmi_output::Part::{Escaped, Text};
+use ipmi_output::Part::{self, Escaped, Text};
 use std::alloc::{AllocError, Global};
 
 /// The key of the image's name, if there are several images.
@@ -59,8 +58,8 @@ fn add<'a>(labels: &mut Vec<Label<'a>>, label: Option<Label<'a>>) -> Result<(), 
     Ok(())
 }
 
-/// The labels of all objects: the image's name if it is one of several, and those of `--label`.
-pub(crate) fn labels_of<'a>(
+/// The labels of all objects or rows: the image's name if it is one of several, and those of `--label`.
+pub fn labels_of<'a>(
     alloc: Global,
     texts: &'a [Word],
     image: Option<&'a str>,
@@ -77,10 +76,10 @@ pub(crate) fn labels_of<'a>(
 }
 
 /// What is wrong with the first wrong value of `--label`.
-pub(crate) fn wrong_label<'a>(
+pub fn wrong_label<'a>(
     alloc: Global,
     texts: &'a [Word],
-) -> Result<Option<Line<'a>>, AllocError>
+) -> Result<Option<Vec<Part<'a>>>, AllocError>
     ensures { IfOk result (λ found. option_map (λ line. joined_parts line.items) found ≡ wrong_label [] texts.now) }
 {
     let mut labels = Vec::new(alloc);
@@ -88,7 +87,8 @@ pub(crate) fn wrong_label<'a>(
         let text = text.as_str();
         let label = label_of(text);
         if let Some(fault) = fault_of(label, labels.as_slice()) {
-            return line(alloc, &[Text("--label '"), Escaped(text), Text(fault)]).map(Some);
+            let parts = [Text("--label '"), Escaped(text), Text(fault)];
+            return Ok(Some(parts.to_vec(alloc)?));
         }
         add(&mut labels, label)?;
     }

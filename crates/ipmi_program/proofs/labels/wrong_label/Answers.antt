@@ -1,6 +1,6 @@
 use Rattle.std.proofs.Common.{arith}
 use Rattle.std.proofs.lemmas.Grind.{common_steps}
-use Rattle.serdimko.proofs.labels.wrong_label.Goals as goal
+use Rattle.ipmi_program.proofs.labels.wrong_label.Goals as goal
 
 pub loop-text-preserved : goal.loop-text-preserved
 loop-text-preserved c = grind (arith, common_steps)

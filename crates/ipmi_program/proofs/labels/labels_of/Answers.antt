@@ -1,5 +1,5 @@
 use Rattle.std.proofs.Common.{rules}
-use Rattle.serdimko.proofs.labels.labels_of.Goals as goal
+use Rattle.ipmi_program.proofs.labels.labels_of.Goals as goal
 
 pub loop-text-init : goal.loop-text-init
 loop-text-init c = search rules

@@ -3,7 +3,7 @@ use Rattle.serdimko.specs.Images.{PrintsOne}
 use Rattle.serdimko.specs.Out.{out_of}
 use Rattle.serdimko.proofs.EachLemmas.{not_is_false, not_is_true, printed_all, printed_last, printed_none, printed_one}
 use Rattle.serdimko.proofs.ImagesLemmas.{each_image, only_input}
-use Rattle.serdimko.proofs.images.print_images.Goals as goal
+use Rattle.serdimko.proofs.images.print_each_image.Goals as goal
 
 pub returns-then-is_empty : goal.returns-then-is_empty
 returns-then-is_empty g c =

@@ -2,7 +2,7 @@
 use Rattle.serdimko.specs.Images.{PrintsOne}
 use Rattle.serdimko.specs.Out.{out_of}
 use Rattle.serdimko.proofs.EachLemmas.{PrintedTo}
-use Rattle.serdimko.proofs.images.print_images.Given as goal
+use Rattle.serdimko.proofs.images.print_each_image.Given as goal
 
 abbrev pub invariant-loop-image : goal.invariant-loop-image
 invariant-loop-image g l =
