@@ -3,7 +3,7 @@
 # It calls no function of the package bash-completion, so that a shell may also read it by itself.
 
 _serdimko() {
-  local options='--image --live --records --from --part --tries --id --strict --json --label --output --partial --quiet --help --version -h -V'
+  local options='--image --live --records --from --part --tries --id --strict --json --csv --separator --label --output --partial --quiet --help --version -h -V'
   local cur=${COMP_WORDS[COMP_CWORD]} word value= plain= line= next=
 
   # What comes before the word: the option whose value it is, whether -- came, and the words without options.
@@ -17,7 +17,7 @@ _serdimko() {
       # An option comes at most once, but --image and --label.
       options=" $options "
       [[ $word == --image* || $word == --label* ]] || options=${options/ "${word%%=*}" / }
-      case $word in --image | --live | --records | --output | --from | --part | --tries | --id | --label) value=$word ;; esac
+      case $word in --image | --live | --records | --output | --from | --part | --tries | --id | --separator | --label) value=$word ;; esac
     else
       line+="${line:+ }$word"
     fi

@@ -1,8 +1,10 @@
-"""Compares `serdimko --json` with the text form, value by value, over the images that are given and 1,000 generated ones.
+"""Compares `serdimko --json` with the text form and with `--csv`, value by value, over the images that are given and 1,000 generated ones.
 
 All objects of a kind must have the same keys. tests/json.sh compares these with docs/json.md. If jq is installed, it must read each
-object as Python does.
+object as Python does. If SQLite is installed, it must import each row of CSV as Python reads it.
 """
+import csv
+import io
 import json
 import multiprocessing
 import os
@@ -402,15 +404,92 @@ COMMANDS = (
 )
 
 
+# ---- CSV
+
+# Members without a column: the name of the object, lists, and areas, whose members have columns.
+NO_COLUMN = {"object", "state_words", "chassis", "board", "product", "records"}
+
+
+def flat(line):
+    """The members of an object as texts, those of areas by both keys; null is empty."""
+    found = {}
+    for key, value in line.items():
+        for more, inner in value.items() if isinstance(value, dict) else [(None, value)]:
+            name = key if more is None else f"{key}.{more}"
+            if isinstance(inner, bool):
+                inner = str(inner).lower()
+            found[name] = inner if isinstance(inner, list) else str("" if inner is None else inner)
+    return found
+
+
+def rows_of(text, separator=","):
+    return list(csv.reader(io.StringIO(text, newline=""), delimiter=separator))
+
+
+def rows_differ(out, text):
+    """Whether the rows of CSV have other values than the objects."""
+    lines = [json.loads(line, parse_float=str) for line in out.splitlines()][:-1]
+    if not text.endswith("\n"):
+        return True
+    columns, *rows = rows_of(text)
+    if len(rows) != len(lines) or len(set(columns)) != len(columns):
+        return True
+    for line, row in zip(lines, rows):
+        wanted = flat(line)
+        if row != [wanted.get(column, "") for column in columns]:
+            return True
+        if any(not isinstance(value, list) for key, value in wanted.items() if key not in columns and key not in NO_COLUMN):
+            return True
+    return False
+
+
+def compare_tables(names, tables):
+    """The differences between the rows of all images at once and those of each, and what SQLite imports of them."""
+    told = []
+    for words in sorted(set().union(*tables)):
+        command = next(command for command, _ in COMMANDS if command[:2] == words)
+        what = " ".join(command)
+        images = [word for name in names for word in ("--image", name)]
+        done = subprocess.run([PROGRAM, *images, "--csv", *command], capture_output=True, stdin=subprocess.DEVNULL)
+        columns, *rows = rows_of(done.stdout.decode())
+        wanted = [(row + [name]) for name, table in zip(names, tables) for row in rows_of(table[words])[1:]]
+        if columns[-1] != "image" or rows != wanted or any(rows_of(table[words])[0] != columns[:-1] for table in tables):
+            told.append(f"{what}: the rows of all images are not those of each")
+        semicolons = subprocess.run(
+            [PROGRAM, *images, "--separator=semicolon", "--csv", *command], capture_output=True, stdin=subprocess.DEVNULL
+        )
+        if rows_of(semicolons.stdout.decode(), ";") != [columns, *rows]:
+            told.append(f"{what}: other rows with semicolons")
+        told += read_by_sqlite(what, done.stdout, columns, rows)
+    return told
+
+
+def read_by_sqlite(what, text, columns, rows):
+    if not shutil.which("sqlite3"):
+        return []
+    with tempfile.NamedTemporaryFile(suffix=".csv") as file:
+        file.write(text)
+        file.flush()
+        done = subprocess.run(["sqlite3", "-json", ":memory:", f".import --csv {file.name} t", "select * from t"], capture_output=True)
+    read = json.loads(done.stdout) if done.stdout else []
+    if done.stderr or [list(row.items()) for row in read] != [list(zip(columns, row)) for row in rows]:
+        return [f"{what}: SQLite reads other rows: {done.stderr.decode()[:200]}"]
+    return []
+
+
 def compare(name):
     """Compares the two forms of one image. Gives the differences, the kinds of objects with their keys, and the objects."""
-    told, kinds, outs = [], set(), {}
+    told, kinds, outs, tables = [], set(), {}, {}
     commands = list(COMMANDS)
     while commands:
         words, differ = commands.pop(0)
         status, text, message = run(name, *words)
         json_status, out, json_message = run(name, "--json", *words)
         outs[words[:2]] = out
+        csv_status, table, csv_message = run(name, "--csv", *words)
+        tables.setdefault(words[:2], table)
+        if (csv_status, csv_message) != (json_status, json_message) or rows_differ(out, table):
+            told.append(f"{name}: --csv {' '.join(words)}:\n{table}\n{csv_message}\n{out}")
         lines = objects(out)
         kinds |= {(line["object"], line.get("kind"), tuple(line)) for line in lines}
         end = lines.pop() if lines else {}
@@ -425,7 +504,8 @@ def compare(name):
             # one sensor by its name, if there is one
             names = [line["name"] for line in lines if line["kind"] == "full" and line["name"]]
             commands += [(("sensor", "get", name), blocks_differ) for name in names[:1]]
-    return told, kinds, outs
+    tables.pop(("sensor", "get"), None)
+    return told, kinds, outs, tables
 
 
 def read_by_jq(outs):
@@ -451,9 +531,10 @@ def main():
                 file.write(image(rng))
         with multiprocessing.Pool(4) as pool:
             found = pool.map(compare, names, chunksize=20)
-    told = [text for texts, _, _ in found for text in texts] + read_by_jq([outs for _, _, outs in found])
+        told = compare_tables(names, [tables for *_, tables in found])
+    told += [text for texts, *_ in found for text in texts] + read_by_jq([outs for _, _, outs, _ in found])
     orders = {}
-    for object_, kind, keys in sorted(set().union(*(kinds for _, kinds, _ in found)), key=str):
+    for object_, kind, keys in sorted(set().union(*(kinds for _, kinds, *_ in found)), key=str):
         if orders.setdefault((object_, kind), keys) != keys:
             told.append(f"keys of {object_} {kind}: {keys} and {orders[object_, kind]}")
     for text in told[:MOST_TOLD]:

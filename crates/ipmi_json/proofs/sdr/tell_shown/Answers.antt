@@ -9,5 +9,5 @@ returns g c =
     let states = rw (c.integer_or_null-2.ensures, c.states_shown.ensures, shown) at c.in_ok-put-2.ensures in
     let words = rw shown at c.in_ok-tell_state_words.ensures in
     on_ok_weaker c.put-4.result
-    (λ last. joined (joined (joined (joined raw states) words) c.in_ok-put-3.ensures) (rw c.status_in_words-words.ensures at last))
+    (λ last. joined (joined (joined (joined raw states) words) c.in_ok-put-3.ensures) (rw c.status_words-words.ensures at last))
     c.put-4.ensures
