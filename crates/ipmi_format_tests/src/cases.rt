@@ -1,4 +1,5 @@
 //! Splitting a case, reading bytes in hex, and comparing a text or a line with the expected one.
+use ipmi_records::KnownReading;
 use std::alloc::{AllocError, Global};
 use std::process::Abort;
 
@@ -22,6 +23,14 @@ pub(crate) fn byte_of(rt: &impl Abort, digits: &str) -> u8 {
 /// The bytes of hex digits.
 pub(crate) fn bytes_of(rt: &impl Abort, alloc: Global, digits: &str) -> Vec<u8> {
     hex::decode(alloc, digits).expect(rt, digits)
+}
+
+/// What is known of a reading: the digits of its four bytes, `none`, or `lacking` if it was not captured.
+pub(crate) fn known_of(rt: &impl Abort, text: &str) -> KnownReading {
+    if text == "lacking" {
+        return KnownReading::NotCaptured;
+    }
+    KnownReading::from(ipmi_fixtures::answer_of(text).expect(rt, text))
 }
 
 /// Asserts that a call returned this text.

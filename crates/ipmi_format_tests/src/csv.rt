@@ -12,7 +12,7 @@ use ipmi_commands::{Detail, Format};
 use ipmi_csv::{Csv, Table};
 use ipmi_events::Sensors;
 use ipmi_image::LineBuffer;
-use ipmi_records::{SdrFault, SdrView, SelView};
+use ipmi_records::{KnownReading, SdrFault, SdrView, SelView};
 use std::alloc::{AllocError, Global};
 use std::process::Abort;
 
@@ -114,7 +114,7 @@ fn record_row(
 ) -> Result<Vec<u8>, AllocError> {
     let bytes = bytes_of(rt, alloc, digits);
     let view = SdrView::read(&bytes).expect(rt, digits);
-    COMMA.record(alloc, Detail::Line, id, &view, None)
+    COMMA.record(alloc, Detail::Line, id, &view, KnownReading::Absent)
 }
 
 /// The row of an entry without names.
@@ -155,11 +155,11 @@ fn sensors(rt: HostRuntime) {
     let alloc = rt.alloc();
     let bytes = bytes_of(&rt, alloc, FULL);
     let view = SdrView::read(&bytes).expect(&rt, "a record");
-    let row = COMMA.record(alloc, Detail::Block, 1, &view, Some(HOT));
+    let row = COMMA.record(alloc, Detail::Block, 1, &view, KnownReading::Present(HOT));
     assert_line(&rt, row, READ);
     let bytes = bytes_of(&rt, alloc, COMPACT);
     let view = SdrView::read(&bytes).expect(&rt, "a record");
-    let row = COMMA.record(alloc, Detail::Line, 163, &view, Some(DOOR));
+    let row = COMMA.record(alloc, Detail::Line, 163, &view, KnownReading::Present(DOOR));
     assert_line(&rt, row, DISCRETE);
 }
 
@@ -255,7 +255,7 @@ fn other_separator(rt: HostRuntime) {
     let alloc = rt.alloc();
     let bytes = bytes_of(&rt, alloc, "080051c003570100");
     let view = SdrView::read(&bytes).expect(&rt, "a record");
-    let row = SEMICOLON.record(alloc, Detail::Line, 7, &view, None);
+    let row = SEMICOLON.record(alloc, Detail::Line, 7, &view, KnownReading::Absent);
     assert_line(
         &rt,
         row,

@@ -1,10 +1,9 @@
 //! Lines and blocks of sensors in words. The texts were put together by hand, from the tables of the standard and the
 //! layout of each line.
-use crate::cases::{assert_text, assert_text_or_refused, byte_of, parts};
+use crate::cases::{assert_text, assert_text_or_refused, byte_of, known_of, parts};
 use ipmi_events::{EntityWords, sensor_block, sensor_line};
 use ipmi_fixtures::{CPU_TEMP, PSU1, PSU1_BLOCK};
-use ipmi_records::SdrView;
-use ipmi_text::Reading;
+use ipmi_records::{KnownReading, SdrView};
 use std::alloc::{AllocError, Global};
 use std::process::Abort;
 
@@ -12,6 +11,8 @@ use std::process::Abort;
 const FULL_LINES: &str =
     "|2dc00000|01h | processor 1 | 45 degrees C      | ok  | - | - | - | 85 | 90 | 95
 |none|01h | processor 1 | no reading        | ns  | - | - | - | 85 | 90 | 95
+|lacking|01h | processor 1 | not captured      | ns  | - | - | - | 85 | 90 | 95
+6=22|lacking|01h | processor 1 | other owner       | na  | - | - | - | 85 | 90 | 95
 |2d203f00|01h | processor 1 | no reading        | ns  | - | - | - | 85 | 90 | 95
 6=22|2dc03f00|01h | processor 1 | other owner       | na  | - | - | - | 85 | 90 | 95
 |2dc0c000|01h | processor 1 | 45 degrees C      | ok  | - | - | - | 85 | 90 | 95
@@ -60,7 +61,8 @@ const EVT1: &str = "05005103102000302281126f00000000c445565431";
 /// `reading of the sensor of DOOR|line`.
 const COMPACT_LINES: &str =
     "00400200|Door             | 05h | system board 1 | State Asserted    | ok  | - | - | - | - | - | -
-none|Door             | 05h | system board 1 | no reading        | ns  | - | - | - | - | - | -";
+none|Door             | 05h | system board 1 | no reading        | ns  | - | - | - | - | - | -
+lacking|Door             | 05h | system board 1 | not captured      | ns  | - | - | - | - | - | -";
 
 /// The block of `CPU_TEMP` with a reading.
 const CPU_TEMP_BLOCK: &str = "Record: 0001h
@@ -156,11 +158,6 @@ const ENTITIES: &str = "00 unspecified
 90 entity 0x90
 ff entity 0xff";
 
-/// A reading: the digits of its four bytes, or `none`.
-fn answer_of(rt: &impl Abort, text: &str) -> Option<Reading> {
-    ipmi_fixtures::answer_of(text).expect(rt, text)
-}
-
 /// `CPU_TEMP` with changes such as `14=6f`, separated by commas.
 fn changed(rt: &impl Abort, changes: &str) -> [u8; 56] {
     ipmi_fixtures::changed(changes).expect(rt, changes)
@@ -169,7 +166,7 @@ fn changed(rt: &impl Abort, changes: &str) -> [u8; 56] {
 /// Asserts the line of a record.
 fn assert_line(rt: &impl Abort, alloc: Global, bytes: &[u8], answer: &str, wanted: &str) {
     let view = SdrView::read(bytes).expect(rt, wanted);
-    let line = sensor_line(alloc, &view, answer_of(rt, answer));
+    let line = sensor_line(alloc, &view, known_of(rt, answer));
     let wanted_line = format!(in alloc; "{wanted}\n").expect(rt, wanted);
     assert_text(rt, line, wanted_line.as_str(), wanted);
 }
@@ -215,7 +212,7 @@ fn any_other_record_has_the_line_of_sdr_list(rt: HostRuntime) {
 /// Asserts the block of a record with this id.
 fn assert_block(rt: &impl Abort, alloc: Global, id: u16, bytes: &[u8], answer: &str, wanted: &str) {
     let view = SdrView::read(bytes).expect(rt, wanted);
-    let block = sensor_block(alloc, id, &view, answer_of(rt, answer));
+    let block = sensor_block(alloc, id, &view, known_of(rt, answer));
     assert_text(rt, block, wanted, wanted);
 }
 
@@ -279,7 +276,7 @@ const CPU_TEMP_LINE: &str =
 type Made = Result<String, AllocError>;
 
 /// The calls that make a text of a sensor, each with the expected text.
-fn calls(alloc: Global, view: &SdrView<'_>, answer: Option<Reading>) -> [(Made, &'static str); 2] {
+fn calls(alloc: Global, view: &SdrView<'_>, answer: KnownReading) -> [(Made, &'static str); 2] {
     [
         (sensor_line(alloc, view, answer), CPU_TEMP_LINE),
         (sensor_block(alloc, 0x0001, view, answer), CPU_TEMP_BLOCK),
@@ -290,7 +287,7 @@ fn calls(alloc: Global, view: &SdrView<'_>, answer: Option<Reading>) -> [(Made, 
 #[test]
 fn not_always_out_of_memory(rt: HostRuntime) {
     let view = SdrView::read(&CPU_TEMP).expect(&rt, "a record");
-    for (text, wanted) in calls(rt.alloc(), &view, answer_of(&rt, "5ac01800")) {
+    for (text, wanted) in calls(rt.alloc(), &view, known_of(&rt, "5ac01800")) {
         assert_text(&rt, text, wanted, wanted);
     }
 }
@@ -299,7 +296,7 @@ fn not_always_out_of_memory(rt: HostRuntime) {
 #[test]
 fn memory_may_be_refused(rt: HostRuntime) {
     let view = SdrView::read(&CPU_TEMP).expect(&rt, "a record");
-    for (text, wanted) in calls(rt.alloc(), &view, answer_of(&rt, "5ac01800")) {
+    for (text, wanted) in calls(rt.alloc(), &view, known_of(&rt, "5ac01800")) {
         assert_text_or_refused(&rt, text, wanted);
     }
 }

@@ -3,7 +3,7 @@ use super::records::sensors;
 use crate::cases::{assert_text, byte_of, parts};
 use hex::FromHex;
 use ipmi_events::{Sensors, push_sensor_name, record_for, status_in_words};
-use ipmi_records::{SdrView, SelView};
+use ipmi_records::{KnownReading, SdrView, SelView};
 use ipmi_text::Reading;
 use std::alloc::{AllocError, Global};
 use std::process::Abort;
@@ -183,7 +183,7 @@ fn an_event_has_the_record_of_its_sensor(rt: HostRuntime) {
 }
 
 /// The status in words of the first temperature sensor.
-fn status(rt: &impl Abort, sensors: &Sensors, reading: Option<Reading>) -> &'static str {
+fn status(rt: &impl Abort, sensors: &Sensors, reading: KnownReading) -> &'static str {
     let view = sensors.find(0x20, 0, 1).expect(rt, "a record");
     let sensor = view.sensor().expect(rt, "a sensor");
     status_in_words(&sensor, reading)
@@ -198,7 +198,8 @@ fn a_sensor_has_its_status_in_words(rt: HostRuntime) {
         status: 0x18,
         more: 0,
     };
-    assert_eq!(&rt; status(&rt, &sensors, Some(hot)), "ucr");
-    assert_eq!(&rt; status(&rt, &sensors, None), "ns");
+    assert_eq!(&rt; status(&rt, &sensors, KnownReading::Present(hot)), "ucr");
+    assert_eq!(&rt; status(&rt, &sensors, KnownReading::Absent), "ns");
+    assert_eq!(&rt; status(&rt, &sensors, KnownReading::NotCaptured), "ns");
     drop(sensors);
 }

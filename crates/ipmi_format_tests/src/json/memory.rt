@@ -9,7 +9,7 @@ use ipmi_json::{
     end_line, fru_elsewhere_line, fru_line, sdr_fault_line, sdr_info_line, sdr_raw_line,
     sdr_record_line, sel_entry_line, sel_info_line,
 };
-use ipmi_records::{SdrFault, SdrView, SelView};
+use ipmi_records::{KnownReading, SdrFault, SdrView, SelView};
 use std::alloc::{AllocError, Global};
 
 /// The result of a call, and the expected line.
@@ -31,7 +31,7 @@ fn entry_line(alloc: Global) -> Result<Vec<u8>, AllocError> {
 fn record_line(alloc: Global) -> Result<Vec<u8>, AllocError> {
     let bytes = decoded(alloc, FULL)?;
     match SdrView::read(&bytes) {
-        Ok(view) => sdr_record_line(alloc, 1, &view, Some(HOT), &[]),
+        Ok(view) => sdr_record_line(alloc, 1, &view, KnownReading::Present(HOT), &[]),
         Err(_) => Err(AllocError),
     }
 }

@@ -1,7 +1,7 @@
 //! Sensor data records.
 use crate::cases::{assert_line, bytes_of};
 use ipmi_json::{sdr_fault_line, sdr_raw_line, sdr_record_line};
-use ipmi_records::{SdrFault, SdrView};
+use ipmi_records::{KnownReading, SdrFault, SdrView};
 use ipmi_text::Reading;
 
 /// A full record of a temperature in tenths of a degree. Its upper thresholds, 9.5, 9 and 8.5, are readable.
@@ -13,6 +13,9 @@ pub(crate) const READ_LINE: &str =
 
 const UNREAD_LINE: &str =
     r#"{"object":"sdr_record","record_id":1,"record_type":1,"kind":"full","name":"CPU Temp","owner_id":32,"owner_lun":0,"sensor_number":1,"entity_id":3,"entity_name":"processor","entity_instance":1,"sensor_type":1,"sensor_type_name":"Temperature","event_type":1,"reading":null,"unit":"degrees C","reading_raw":null,"states":null,"state_words":null,"status":"ns","status_words":"ns","upper_non_recoverable":9.5,"upper_critical":9,"upper_non_critical":8.5,"lower_non_recoverable":null,"lower_critical":null,"lower_non_critical":null,"raw":"010051013320000103017f680101000000003838000100000100000000f00000000000005f5a550000000202000000c84350552054656d70"}"#;
+
+const NOT_CAPTURED_LINE: &str =
+    r#"{"object":"sdr_record","record_id":1,"record_type":1,"kind":"full","name":"CPU Temp","owner_id":32,"owner_lun":0,"sensor_number":1,"entity_id":3,"entity_name":"processor","entity_instance":1,"sensor_type":1,"sensor_type_name":"Temperature","event_type":1,"reading":null,"unit":"degrees C","reading_raw":null,"states":null,"state_words":null,"status":"ns","status_words":"not captured","upper_non_recoverable":9.5,"upper_critical":9,"upper_non_critical":8.5,"lower_non_recoverable":null,"lower_critical":null,"lower_non_critical":null,"raw":"010051013320000103017f680101000000003838000100000100000000f00000000000005f5a550000000202000000c84350552054656d70"}"#;
 
 /// A reading of the full record's sensor, above the upper critical threshold. Bits 7:6 of the status, and the byte after it,
 /// mean nothing for a sensor with thresholds.
@@ -74,19 +77,24 @@ fn sensors(rt: HostRuntime) {
     let view = SdrView::read(&bytes).expect(&rt, "a record");
     assert_line(
         &rt,
-        sdr_record_line(alloc, 1, &view, Some(HOT), &[]),
+        sdr_record_line(alloc, 1, &view, KnownReading::Present(HOT), &[]),
         READ_LINE,
     );
     assert_line(
         &rt,
-        sdr_record_line(alloc, 1, &view, None, &[]),
+        sdr_record_line(alloc, 1, &view, KnownReading::Absent, &[]),
         UNREAD_LINE,
+    );
+    assert_line(
+        &rt,
+        sdr_record_line(alloc, 1, &view, KnownReading::NotCaptured, &[]),
+        NOT_CAPTURED_LINE,
     );
     let bytes = bytes_of(&rt, alloc, COMPACT);
     let view = SdrView::read(&bytes).expect(&rt, "a record");
     assert_line(
         &rt,
-        sdr_record_line(alloc, 163, &view, Some(DOOR), &[]),
+        sdr_record_line(alloc, 163, &view, KnownReading::Present(DOOR), &[]),
         COMPACT_LINE,
     );
 }
@@ -102,7 +110,7 @@ fn records_without_a_reading(rt: HostRuntime) {
         let wanted = wanted.expect(&rt, "memory");
         assert_line(
             &rt,
-            sdr_record_line(alloc, 7, &view, None, &[]),
+            sdr_record_line(alloc, 7, &view, KnownReading::Absent, &[]),
             wanted.as_str(),
         );
     }

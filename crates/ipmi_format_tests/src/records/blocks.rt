@@ -2,7 +2,7 @@
 use super::examples::{answer_of, record_of};
 use crate::cases::{assert_text, assert_text_with_end, id_of, three_parts};
 use ipmi_fixtures::{CPU_TEMP, CPU_TEMP_BLOCK, reading_of};
-use ipmi_records::{SdrView, sdr_block};
+use ipmi_records::{KnownReading, SdrView, sdr_block, sdr_block_with};
 use std::alloc::Global;
 use std::process::Abort;
 
@@ -266,6 +266,29 @@ fn each_record_has_its_block(rt: HostRuntime) {
     for case in BLOCKS.split("\n\n") {
         assert_block(&rt, rt.alloc(), case);
     }
+}
+
+/// The block of a compact sensor whose reading was not captured.
+const LACKING_BLOCK: &str = "Record: 0003h
+Type: compact
+Name: \n\
+Owner: 20h LUN 0
+Sensor: 05h
+Entity: 7.1
+Kind: Physical Security
+Event type: 6Fh
+Reading: not captured
+Status: ns
+
+";
+
+#[test]
+fn a_reading_that_was_not_captured_has_its_block(rt: HostRuntime) {
+    let digits = "030051021b20000507010000056f000000000000000000000000000000000000";
+    let bytes = record_of(&rt, rt.alloc(), digits);
+    let view = SdrView::read(&bytes).expect(&rt, digits);
+    let block = sdr_block_with(rt.alloc(), 3, &view, KnownReading::NotCaptured);
+    assert_text(&rt, block, LACKING_BLOCK, digits);
 }
 
 #[test]

@@ -1,7 +1,11 @@
 //! Lines and extended lines of records of every kind, and the lines of faults.
 use super::examples::{answer_of, record_of};
-use crate::cases::{assert_text_with_end, line_of, parts};
-use ipmi_records::{SdrFault, SdrView, sdr_eline, sdr_fault_line, sdr_line};
+use crate::cases::{assert_text, assert_text_with_end, line_of, parts};
+use ipmi_fixtures::CPU_TEMP;
+use ipmi_records::{
+    KnownReading, SdrFault, SdrView, sdr_eline, sdr_eline_with, sdr_fault_line, sdr_line,
+    sdr_line_with,
+};
 use ipmi_text::Reading;
 use std::alloc::Global;
 use std::process::Abort;
@@ -186,6 +190,18 @@ fn each_record_has_its_extended_line(rt: HostRuntime) {
     for lines in LINES.split("\n\n") {
         assert_extended_line(&rt, rt.alloc(), lines);
     }
+}
+
+#[test]
+fn a_reading_that_was_not_captured_has_its_lines(rt: HostRuntime) {
+    let view = SdrView::read(&CPU_TEMP).expect(&rt, "a record");
+    let lacking = KnownReading::NotCaptured;
+    let line = sdr_line_with(rt.alloc(), &view, lacking);
+    let wanted = "CPU Temp         | not captured      | ns\n";
+    assert_text(&rt, line, wanted, "line");
+    let line = sdr_eline_with(rt.alloc(), &view, lacking);
+    let wanted = "CPU Temp         | 01h | ns  | 3.1   | not captured\n";
+    assert_text(&rt, line, wanted, "extended line");
 }
 
 #[test]

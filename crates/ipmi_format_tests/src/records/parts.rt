@@ -1,7 +1,7 @@
 //! Parts of a record's texts that other texts use: values with and without units, names, thresholds, and the state of a
 //! sensor.
 use super::examples::{answer_of, changed, event_of, full_of, with_byte};
-use crate::cases::{assert_text, byte_of, parts, three_parts};
+use crate::cases::{assert_text, byte_of, known_of, parts, three_parts};
 use ipmi_fixtures::{CPU_TEMP, EVENT, PSU1};
 use ipmi_records::{
     EventEntry, FullSensor, SdrView, direction_text, has_thresholds, pad, push_name, push_raw,
@@ -81,7 +81,7 @@ fn columns_text(
     rt: &impl Abort,
 ) -> Result<String, AllocError> {
     let view = SdrView::read(bytes).expect(rt, digits);
-    let answer = answer_of(rt, digits);
+    let answer = known_of(rt, digits);
     let mut text = String::from_str(alloc, "|")?;
     push_name(alloc, &mut text, &view)?;
     pad(&mut text, 1, 10)?;
@@ -95,12 +95,16 @@ fn columns_text(
 fn a_record_has_its_name_reading_and_status(rt: HostRuntime) {
     let text = columns_text(rt.alloc(), &CPU_TEMP, "5ac01800", &rt);
     assert_text(&rt, text, "|CPU Temp  90 degrees C|cr", "CPU Temp");
+    let text = columns_text(rt.alloc(), &CPU_TEMP, "lacking", &rt);
+    assert_text(&rt, text, "|CPU Temp  not captured|ns", "not captured");
     let text = columns_text(rt.alloc(), &PSU1, "none", &rt);
     assert_text(&rt, text, "|PSU1      FRU 1|na", "PSU1");
 }
 
 /// `changes of CPU_TEMP|reading|expected state`.
 const SHOWN: &str = "|none|NoReading
+|lacking|NotCaptured
+6=21|lacking|OtherOwner
 |2d200000|NoReading
 |2d400000|Value(Reading { raw: 45, flags: 64, status: 0, more: 0 })
 6=21|2d400000|OtherOwner";
@@ -110,7 +114,7 @@ fn assert_shown(rt: &impl Abort, alloc: Global, case: &str) {
     let (changes, digits, wanted) = three_parts(rt, case);
     let bytes = changed(rt, changes);
     let sensor = full_of(rt, &bytes).sensor();
-    let shown = shown_of(&sensor, answer_of(rt, digits));
+    let shown = shown_of(&sensor, known_of(rt, digits));
     assert_text(rt, format!(in alloc; "{shown:?}"), wanted, case);
 }
 
