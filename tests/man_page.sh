@@ -169,7 +169,7 @@ expect '' --part ''
 expect '' sel get --id ''
 expect '' --label ''
 expect '--label' --json --label a=b --la
-expect '--help --id --image --json --label --live --output --partial --quiet --records --tries --version' --strict --from=0001 --part 4 --image = x --
+expect '--csv --help --id --image --json --label --live --output --partial --quiet --records --separator --tries --version' --strict --from=0001 --part 4 --image = x --
 expect 'list' --strict -h sdr li
 expect '' -- --
 expect 'sdr sel sensor' -- s

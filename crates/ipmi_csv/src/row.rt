@@ -98,31 +98,25 @@ fn text_at<'a>(cells: &'a [Cell], key: &str) -> &'a str
     text
 }
 
-/// The texts of the last cells with these keys.
+/// The texts of the last cells with these keys, and the values of labels.
 fn texts_at<'a>(
     alloc: Global,
     cells: &'a [Cell],
     keys: &[&'static str],
+    labels: &[Label<'a>],
 ) -> Result<Vec<&'a str>, AllocError>
     ensures { IfOk result (λ texts. map (λ text. text.now) texts.items ≡
-        map (λ key. text_or [] key (map told_cell cells.now)) (map (λ key. key.now) keys.now)) }
+        map (λ key. text_or [] key (map told_cell cells.now)) (map (λ key. key.now) keys.now)
+        ++ map (λ label. label.value.now) labels.now) }
 {
     let mut texts = Vec::with_capacity(alloc, keys.len())?;
     for key in keys {
         texts.push(text_at(cells, key))?;
     }
-    Ok(texts)
-}
-
-/// Appends the values of labels.
-fn push_values<'a>(texts: &mut Vec<&'a str>, labels: &[Label<'a>]) -> Result<(), AllocError>
-    ensures { OnOk result (map (λ text. text.now) texts.new.items ≡
-        map (λ text. text.now) texts.old.items ++ map (λ label. label.value.now) labels.now) }
-{
     'labels: for label in labels {
         texts.push(label.value)?;
     }
-    Ok(())
+    Ok(texts)
 }
 
 impl Row {
@@ -221,8 +215,8 @@ impl Row {
         ensures { (ms : List Pair) → told self.now Top ms → IfOk result
             (λ line. IsRowOf separator labels.now (columns_of table) ms line.items) }
     {
-        let mut texts = texts_at(self.alloc, self.cells.as_slice(), columns_of(table))?;
-        push_values(&mut texts, labels)?;
+        let cells = self.cells.as_slice();
+        let texts = texts_at(self.alloc, cells, columns_of(table), labels)?;
         csv_row(self.alloc, separator, texts.as_slice())
     }
 }

@@ -12,6 +12,7 @@ use ipmi_commands::{Detail, Format};
 use ipmi_csv::{Csv, Table};
 use ipmi_events::Sensors;
 use ipmi_image::LineBuffer;
+use ipmi_json::Label;
 use ipmi_records::{KnownReading, SdrFault, SdrView, SelView};
 use std::alloc::{AllocError, Global};
 use std::process::Abort;
@@ -261,6 +262,24 @@ fn other_separator(rt: HostRuntime) {
         row,
         "7;192;other;;;;;;;;;;;;;;;;;;;;;;;;;;;;;080051c003570100",
     );
+}
+
+const LABELLED: Csv<'static> = Csv {
+    separator: Separator::Semicolon,
+    labels: &[Label {
+        key: "host",
+        value: "a;b",
+    }],
+};
+
+#[test]
+fn labels(rt: HostRuntime) {
+    let alloc = rt.alloc();
+    let header = LABELLED.header(alloc, Table::RawRecords);
+    assert_line(&rt, header, "record_id;next_record_id;raw;host");
+    let row = LABELLED.info(alloc, Shelf::Sel, &INFO);
+    let wanted = "81;12;15000;2020-09-13T12:26:40Z;1600000000;;0;true;130;\"a;b\"";
+    assert_line(&rt, row, wanted);
 }
 
 /// A row, or nothing when out of memory.

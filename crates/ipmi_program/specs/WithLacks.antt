@@ -9,13 +9,16 @@ use Rattle.ipmi_records.specs.declared.column.KnownReading.{KnownReading}
 use Rattle.ipmi_records.specs.declared.sdr.SdrView.{SdrView}
 
 -- the reading of the sensor with this LUN and number
-abbrev pub is_reading : ℕ × ℕ → Item → Bool
-is_reading key (Item.Reading lun number) = (lun == key.0) && (number == key.1)
-is_reading key item = false
+abbrev pub item_is_reading : ℕ × ℕ → Item → Bool
+item_is_reading key (Item.Reading lun number) = (lun == key.0) && (number == key.1)
+item_is_reading key item = false
+
+abbrev pub is_reading : ℕ × ℕ → Lack → Bool
+is_reading key lack = item_is_reading key lack.item
 
 abbrev pub lacks_reading : List Lack → Option (ℕ × ℕ) → Bool
 lacks_reading lacks None = false
-lacks_reading lacks (Some key) = list_any (λ lack. is_reading key lack.item) lacks
+lacks_reading lacks (Some key) = list_any (is_reading key) lacks
 
 -- a reading that the image has not, and that is among these, was not captured
 abbrev pub captured : List Lack → SdrView → KnownReading → KnownReading

@@ -1,5 +1,6 @@
 //! A form of output over an image that lacks readings.
 ghost use Rattle.std.specs.Prelude.{◌≡◌, []};
+ghost use Rattle.std.specs.List.{list_any};
 ghost use Rattle.ipmi_records.specs.declared.column.KnownReading.{KnownReading};
 ghost use Rattle.ipmi_records.specs.declared.sdr.SdrView.{SdrView};
 ghost use Rattle.ipmi_program.specs.WithLacks.{captured, is_reading, lacks_reading};
@@ -23,7 +24,7 @@ pub struct WithLacks<'a, F: Format> {
 
 /// Whether the item is the reading of the sensor with this LUN and number.
 fn is_reading(key: (u8, u8), lack: &Lack) -> bool
-    ensures { result ≡ is_reading key lack.now.item }
+    ensures { result ≡ is_reading key lack.now }
 {
     match lack.item {
         Item::Reading { lun, number } => lun == key.0 && number == key.1,
@@ -31,12 +32,19 @@ fn is_reading(key: (u8, u8), lack: &Lack) -> bool
     }
 }
 
-/// Whether the reading of this sensor is lacking.
+/// Whether the reading of the sensor with this LUN and number is among these.
+fn has_reading(lacks: &[Lack], key: (u8, u8)) -> bool
+    ensures { result ≡ list_any (is_reading key) lacks.now }
+{
+    lacks.iter().any(|lack| is_reading(key, lack))
+}
+
+/// Whether the reading of a sensor is lacking, if there is one.
 fn lacks_reading(lacks: &[Lack], key: Option<(u8, u8)>) -> bool
     ensures { result ≡ lacks_reading lacks.now key }
 {
     match key {
-        Some(key) => lacks.iter().any(|lack| is_reading(key, lack)),
+        Some(key) => has_reading(lacks, key),
         None => false,
     }
 }

@@ -89,6 +89,10 @@ fn format_text(rt: &impl Abort, alloc: Global, form: &Format) -> String {
             let labels = spaced(rt, alloc, labels.as_slice());
             format!(in alloc; "json{labels}").expect(rt, "memory")
         }
+        Format::Csv(separator, labels) => {
+            let labels = spaced(rt, alloc, labels.as_slice());
+            format!(in alloc; "csv {separator:?}{labels}").expect(rt, "memory")
+        }
     }
 }
 
@@ -151,6 +155,8 @@ sel,get,--id,0016|SelGet(22) None; images; None 5; plain; false
 fru,print,254|Fru(Some(254)) None; images; None 5; plain; false
 fru,list,--strict,--strict|Fru(None) None; images; None 5; words; true
 --json,--label,a=1,--label,b=2,fru|Fru(None) None; images; None 5; json a=1 b=2; false
+--csv,sensor|List(Sensors) None; images; None 5; csv Comma; false
+sel,list,--csv,--separator,semicolon,--label,a=1|SelList(All) None; images; None 5; csv Semicolon a=1; false
 sdr,info,--live,ipmitool:/tmp/x|Info(Sdr) None; Ipmitool /tmp/x ; None 5; plain; false
 --live,freeipmi:x,capture,-o,file,--quiet|capture file true false; FreeIpmi x ; None 5; plain; false
 --live,freeipmi:x,capture,--partial|capture - false true; FreeIpmi x ; None 5; plain; false
@@ -196,7 +202,11 @@ sdr,info,--from,0001|--from does not go with 'sdr info'
 --live,ipmitool:x,--image,a|--image does not go with a live controller
 capture|'capture' needs a live controller: see serdimko-live --help
 --image,a,--image,b,image,rewrite|'image rewrite' takes one image
---label,a=1|--label goes only with --json
+--label,a=1|--label goes only with --json or --csv
+--csv,--json|--json does not go with --csv
+--separator,comma|--separator goes only with --csv
+--csv,--separator,x|--separator 'x' is not comma or semicolon
+--csv,capture|--csv does not go with 'capture'
 --records,a,sdr|--records goes only with a live controller
 --live,ipmitool:x,--records,a,capture|--records does not go with 'capture'
 --imge,a|unexpected argument '--imge' found; a similar argument exists: '--image'

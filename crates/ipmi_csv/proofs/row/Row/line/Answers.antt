@@ -8,9 +8,9 @@ use Rattle.ipmi_csv.proofs.row.Row.line.Goals as goal
 
 pub returns : goal.returns
 returns c = λ ms is.
-    let texts = rw (c.as_slice.ensures.value, c.columns_of.ensures) at c.in_ok-texts.ensures in
-    let same = texts ∙ texts_told c.args.self.now (columns_of c.args.table) ms is in
+    let texts = rw (c.as_slice-cells.ensures.value, c.columns_of.ensures) at c.in_ok-texts.ensures in
+    let same = texts ∙ ap (λ (texts : List (List ℕ)). texts ++ map (λ (label : Label). label.value.now) c.args.labels.now)
+    (texts_told c.args.self.now (columns_of c.args.table) ms is) in
     IfOk-weaker c.csv_row.result _ _
-    (λ line h. h ∙ rw c.as_slice-2.ensures.value (ap (csv_row c.args.separator) (c.in_ok-push_values.ensures
-    ∙ ap (λ (texts : List (List ℕ)). texts ++ map (λ (label : Label). label.value.now) c.args.labels.now) same)))
+    (λ line h. h ∙ rw c.as_slice.ensures.value (ap (csv_row c.args.separator) same))
     c.csv_row.ensures
