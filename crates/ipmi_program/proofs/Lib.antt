@@ -1,1 +1,2 @@
 mod LabelLemmas
+pub mod LackLemmas

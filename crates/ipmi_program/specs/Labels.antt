@@ -1,5 +1,5 @@
--- The labels of objects: the name of an image that is one of several, and those of `--label`.
-use Rattle.std.specs.Prelude.{ℕ, ◌==◌, ◌||◌, Bool, ◌∷◌, [], ◌++◌, List, Option, Some, None, codes, fold, length, nat_lt, if◌then◌else◌, bytes_eq}
+-- The labels of objects and rows: the name of an image that is one of several, and those of `--label`.
+use Rattle.std.specs.Prelude.{ℕ, ◌==◌, ◌||◌, ◌&&◌, Bool, ◌∷◌, [], ◌++◌, List, Option, Some, None, codes, fold, length, nat_lt, if◌then◌else◌, bytes_eq}
 use Rattle.std.specs.List.{after_first, before_first, list_any, position_or_len}
 use Rattle.ipmi_json.specs.Keys.{is_object_key}
 use Rattle.ipmi_json.specs.declared.object.Label.{Label}
@@ -41,21 +41,26 @@ labels_of image texts = fold (λ labels text. with_label labels (label_of text))
 abbrev pub is_taken : List ℕ → Bool
 is_taken key = bytes_eq key (codes "image") || is_object_key key
 
--- a key that is taken, or that of an earlier label
-abbrev pub key_fault : List ℕ → List KeyValue → Option (List ℕ)
-key_fault key before =
-    if is_taken key then Some (codes "': --json has a key of its own with this name")
-    else (if list_any (λ label. bytes_eq label.key key) before then Some (codes "': an earlier label has this key")
-    else None)
+-- a column of an area has a point in its name
+abbrev pub has_point : List ℕ → Bool
+has_point key = list_any (λ byte. byte == 46) key
 
-abbrev pub fault_of_label : Option KeyValue → List KeyValue → Option (List ℕ)
-fault_of_label None before = Some (codes "' is not KEY=VALUE")
-fault_of_label (Some label) before = key_fault label.key before
+-- a key that is taken, or in a row one that a column may have, or that of an earlier label
+abbrev pub key_fault : Bool → List ℕ → List KeyValue → Option (List ℕ)
+key_fault is_row key before =
+    if is_taken key then Some (codes "': the output has a key of its own with this name")
+    else (if is_row && has_point key then Some (codes "': with --csv a key has no point")
+    else (if list_any (λ label. bytes_eq label.key key) before then Some (codes "': an earlier label has this key")
+    else None))
+
+abbrev pub fault_of_label : Bool → Option KeyValue → List KeyValue → Option (List ℕ)
+fault_of_label is_row None before = Some (codes "' is not KEY=VALUE")
+fault_of_label is_row (Some label) before = key_fault is_row label.key before
 
 -- the message about the first that has a fault
-abbrev pub wrong_label : List KeyValue → List (List ℕ) → Option (List ℕ)
-wrong_label before [] = None
-wrong_label before (text ∷ texts) = elim (fault_of_label (label_of text) before) [
+abbrev pub wrong_label : Bool → List KeyValue → List (List ℕ) → Option (List ℕ)
+wrong_label is_row before [] = None
+wrong_label is_row before (text ∷ texts) = elim (fault_of_label is_row (label_of text) before) [
   | Some fault ↦ Some (codes "--label '" ++ (escaped_name text ++ fault))
-  | None ↦ wrong_label (with_label before (label_of text)) texts
+  | None ↦ wrong_label is_row (with_label before (label_of text)) texts
 ]

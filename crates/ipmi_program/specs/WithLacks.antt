@@ -1,5 +1,5 @@
 -- The texts of a form of output over an image that lacks readings.
-use Rattle.std.specs.Prelude.{ℕ, Bool, false, ◌==◌, ◌&&◌, if◌then◌else◌, List, Option, Some, None}
+use Rattle.std.specs.Prelude.{◌≡◌, ℕ, Bool, false, ◌==◌, ◌&&◌, if◌then◌else◌, List, Option, Some, None}
 use Rattle.std.specs.List.{list_any}
 use Rattle.ipmi_commands.specs.Format.{Texts}
 use Rattle.ipmi_image.specs.declared.lack.Item.{Item}
@@ -31,3 +31,8 @@ abbrev pub with_lacks : List Lack → Texts → Texts
 with_lacks lacks x = record x {
   IsRecord = λ detail id view reading text. x.IsRecord detail id view (captured lacks view reading) text;
 }
+
+-- a reading that is not among these is printed as it is
+abbrev pub OthersStay : Type 0
+OthersStay = (lacks : List Lack) (view : SdrView) (reading : KnownReading)
+    → lacks_reading lacks (reading_of view) ≡ false → captured lacks view reading ≡ reading

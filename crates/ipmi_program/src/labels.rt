@@ -2,7 +2,7 @@
 ghost use Rattle.std.specs.List.{list_any};
 ghost use Rattle.std.specs.Prelude.{◌≡◌, [], bytes_eq, IfOk, map, OnOk, option_map};
 ghost use Rattle.ipmi_output.specs.Failure.{joined_parts};
-ghost use Rattle.ipmi_program.specs.Labels.{fault_of_label, key_value, label_of, labels_of, with_label, wrong_label};
+ghost use Rattle.ipmi_program.specs.Labels.{fault_of_label, has_point, key_value, label_of, labels_of, with_label, wrong_label};
 
 use ipmi_command_line::Word;
 use ipmi_json::{Label, is_object_key};
@@ -30,16 +30,27 @@ fn has_key(labels: &[Label<'_>], key: &str) -> bool
     labels.iter().any(|label| label.key == key)
 }
 
+/// Whether the key has a point, as the names of the columns of areas have.
+fn has_point(key: &str) -> bool
+    ensures { result ≡ has_point key.now }
+{
+    key.as_bytes().iter().any(|byte| *byte == b'.')
+}
+
 /// What is wrong with the value of `--label`, given the labels before it.
 #[tactic(auto, using(crate::proofs::LabelLemmas::any_has_key))]
-fn fault_of(label: Option<Label<'_>>, before: &[Label<'_>]) -> Option<&'static str>
-    ensures { option_map (λ fault. fault.now) result ≡ fault_of_label (option_map key_value label.entry) (map key_value before.now) }
+fn fault_of(is_row: bool, label: Option<Label<'_>>, before: &[Label<'_>]) -> Option<&'static str>
+    ensures { option_map (λ fault. fault.now) result ≡
+        fault_of_label is_row (option_map key_value label.entry) (map key_value before.now) }
 {
     let Some(label) = label else {
         return Some("' is not KEY=VALUE");
     };
     if label.key == IMAGE || is_object_key(label.key) {
-        return Some("': --json has a key of its own with this name");
+        return Some("': the output has a key of its own with this name");
+    }
+    if is_row && has_point(label.key) {
+        return Some("': with --csv a key has no point");
     }
     if has_key(before, label.key) {
         return Some("': an earlier label has this key");
@@ -75,18 +86,19 @@ pub fn labels_of<'a>(
     Ok(labels)
 }
 
-/// What is wrong with the first wrong value of `--label`.
+/// What is wrong with the first wrong value of `--label`, of rows or of objects.
 pub fn wrong_label<'a>(
     alloc: Global,
+    is_row: bool,
     texts: &'a [Word],
 ) -> Result<Option<Vec<Part<'a>>>, AllocError>
-    ensures { IfOk result (λ found. option_map (λ line. joined_parts line.items) found ≡ wrong_label [] texts.now) }
+    ensures { IfOk result (λ found. option_map (λ line. joined_parts line.items) found ≡ wrong_label is_row [] texts.now) }
 {
     let mut labels = Vec::new(alloc);
     for text in texts {
         let text = text.as_str();
         let label = label_of(text);
-        if let Some(fault) = fault_of(label, labels.as_slice()) {
+        if let Some(fault) = fault_of(is_row, label, labels.as_slice()) {
             let parts = [Text("--label '"), Escaped(text), Text(fault)];
             return Ok(Some(parts.to_vec(alloc)?));
         }

@@ -1,9 +1,7 @@
 //! A form of output over an image that lacks readings.
-ghost use Rattle.std.specs.Prelude.{◌≡◌, []};
+ghost use Rattle.std.specs.Prelude.{◌≡◌};
 ghost use Rattle.std.specs.List.{list_any};
-ghost use Rattle.ipmi_records.specs.declared.column.KnownReading.{KnownReading};
-ghost use Rattle.ipmi_records.specs.declared.sdr.SdrView.{SdrView};
-ghost use Rattle.ipmi_program.specs.WithLacks.{captured, is_reading, lacks_reading};
+ghost use Rattle.ipmi_program.specs.WithLacks.{captured, is_reading, lacks_reading, OthersStay};
 
 use ipmi_bus::{Record, Shelf};
 use ipmi_commands::{Detail, Format};
@@ -59,9 +57,10 @@ fn captured(lacks: &[Lack], view: &SdrView<'_>, reading: KnownReading) -> KnownR
     reading
 }
 
-/// A law: where nothing is lacking, each reading is printed as it is. Does nothing.
-pub fn nothing_lacks()
-    ensures { (view : SdrView) (reading : KnownReading) → captured [] view reading ≡ reading }
+/// A law: a reading that is not lacking is printed as it is. Does nothing.
+#[tactic(auto, using(crate::proofs::LackLemmas::as_it_is))]
+pub fn others_stay()
+    ensures { OthersStay }
 {}
 
 impl<F: Format> Format for WithLacks<'_, F> {

@@ -1,5 +1,5 @@
 -- The names of columns, which come before the rows of all inputs.
-use Rattle.std.specs.Prelude.{◌≡◌, ◌⊎◌, ℕ, List, map, Option, None, Some}
+use Rattle.std.specs.Prelude.{◌≡◌, ◌⊎◌, ◌+◌, ℕ, List, map, Option, None, Some}
 use Rattle.ipmi_command_line.specs.declared.request.Format.{Format}
 use Rattle.ipmi_command_line.specs.declared.request.Separator.{Separator}
 use Rattle.ipmi_csv.specs.Format.{header}
@@ -11,7 +11,8 @@ use Rattle.ipmi_program.specs.Wording.{table_of}
 use Rattle.serdimko.specs.declared.driver.Query.{Query}
 use Rattle.serdimko.specs.declared.run_error.RunError.{RunError}
 use Rattle.serdimko.specs.Out.{Out}
-use Rattle.serdimko.specs.Printing.{WritesEnd}
+use Rattle.serdimko.specs.Printing.{WritesLine}
+use Rattle.serdimko.specs.RunError.{faults_of_error}
 
 abbrev pub table_of_query : Query → Table
 table_of_query (Query.Print task from) = table_of task
@@ -27,7 +28,8 @@ pub record IsHeader (separator : Separator) (texts : List (List ℕ)) (image : O
 abbrev pub PrintsColumns : Format → Query → Option (List ℕ) → Out → Out → Option RunError → Type 0
 PrintsColumns (Format.Csv separator texts) query image old new last =
     ((new ≡ old) × (last ≡ Some (RunError.Failed Failure.OutOfMemory)))
-    ⊎ ((line : List ℕ) × IsHeader separator texts image (table_of_query query) line × WritesEnd line old new None last)
+    ⊎ ((line : List ℕ) × IsHeader separator texts image (table_of_query query) line × WritesLine line old new None last
+    × (new.faults ≡ old.faults + faults_of_error last))
 PrintsColumns format query image old new last = (new ≡ old) × (last ≡ None)
 
 -- what follows the columns, or their failure

@@ -96,7 +96,7 @@ pub record IsReport (settings : Settings) (image : Option (List ℕ)) (name : Li
   pub labels : Bor (List Label)
   pub labels_are : map key_value labels.now ≡ labels_of image (texts_of settings.format)
   pub wording : report.format.format ≡ wording_of settings.format labels
-  pub whole : report.format.lacks.now ≡ []
+  pub nothing_lacks : report.format.lacks.now ≡ []
   pub strict : report.strict ≡ settings.strict
   pub name_is : report.name.now ≡ name
   pub input : report.is_only_input ≡ is_only_input
@@ -154,7 +154,7 @@ PrintsFirst settings (ImageQuery.Print query) is_only_input old new last =
     PrintsColumns settings.format query.now (image_label is_only_input []) old new last
 PrintsFirst settings ImageQuery.Rewrite is_only_input old new last = (new ≡ old) × (last ≡ None)
 
--- the names of columns, if rows follow, and the images
+-- the names of columns, if the output is CSV, and the images
 abbrev pub PrintsImages : Settings → ImageQuery → List (List ℕ) → Out → Out → Received → Received → Outcome → Type 0
 PrintsImages settings query images old new said said' result =
     (now : Out) × (last : Option RunError) × PrintsFirst settings query (nat_lt (length images) 2) old now last

@@ -28,7 +28,7 @@ pipe_name folder stream lun = folder ++ (codes "/" ++ (stream ++ (codes "." ++ d
 abbrev pub name_of : Option (List ℕ) → List ℕ
 name_of host = unwrap_or host (codes "the controller")
 
--- memory for the labels ran out; or the names of columns are printed, if rows follow, and the query runs over the controller, whatever that holds, with tries for each part of an inventory
+-- memory for the labels ran out; or the names of columns are printed, if the output is CSV, and the query runs over the controller, whatever that holds, with tries for each part of an inventory
 abbrev pub PrintsLive : Settings → Option (List ℕ) → Query → State → State → Received → Received → Outcome → Type 0
 PrintsLive settings host query old new said said' result =
     ((new ≡ old) × Tells (name_of host) (is_none host) (Some (RunError.Failed Failure.OutOfMemory)) said said' result)

@@ -41,8 +41,8 @@ IsEndLine labels count report error line =
     IsLineOf (end_members (status_of_error error) (reason_of error) (message_of report error) count) labels line
 
 -- the whole line was written, or only a part
-abbrev pub WritesEnd : List ℕ → Out → Out → Option RunError → Option RunError → Type 0
-WritesEnd line old new error last =
+abbrev pub WritesLine : List ℕ → Out → Out → Option RunError → Option RunError → Type 0
+WritesLine line old new error last =
     ((new.taken ≡ old.taken ++ line) × (new.held ≡ []) × (last ≡ error))
     ⊎ (TakesPart old.taken new.taken line × (last ≡ Some (output_error new.closed)))
 
@@ -52,7 +52,7 @@ abbrev pub PrintsEnd : Bool → (List ℕ → Type 0) → Out → Out → Option
 PrintsEnd false IsEnd old new error last = (new ≡ old) × (last ≡ error)
 PrintsEnd true IsEnd old new error last =
     ((new ≡ old) × (last ≡ Some (RunError.Failed Failure.OutOfMemory)))
-    ⊎ ((line : List ℕ) × IsEnd line × WritesEnd line old new error last)
+    ⊎ ((line : List ℕ) × IsEnd line × WritesLine line old new error last)
 
 -- only objects are followed by such a line
 abbrev pub EndsInWording : Wording → Report → ℕ → Out → Out → Option RunError → Option RunError → Type 0

@@ -1,12 +1,13 @@
 //! The names of columns, which come before the rows of all inputs.
-ghost use Rattle.std.specs.Prelude.{◌≡◌, ◌+◌, IfOk, option_map};
+ghost use Rattle.std.specs.Prelude.{◌≡◌, ◌+◌, IfOk, None, option_map};
 ghost use Rattle.serdimko.specs.Columns.{IsHeader, PrintsColumns, table_of_query};
 ghost use Rattle.serdimko.specs.Out.{out_of};
+ghost use Rattle.serdimko.specs.Printing.{WritesLine};
 ghost use Rattle.serdimko.specs.RunError.{faults_of_error};
 
-use crate::closable::Output;
+use crate::closable::{Output, is_closed};
 use crate::driver::Query;
-use crate::ending::write_line;
+use crate::ending::write_flushed;
 use crate::report::Settings;
 use crate::run_error::RunError;
 use ipmi_command_line::{Format, Separator, Word};
@@ -41,8 +42,19 @@ fn header_of(
     Csv { separator, labels }.header(alloc, table)
 }
 
-/// Prints the names of columns, if rows follow; they have the label of the image's name if it is one of several. Returns why it did
-/// not.
+/// Writes a line, and flushes it. Returns the error, if that failed.
+fn write_line<'a, W: Write + Drop>(line: &[u8], out: &mut Output<W>) -> Option<RunError<'a>>
+    ensures writes { WritesLine line.now (out_of out.old) (out_of out.new) None result }
+    ensures faults { (out_of out.new).faults ≡ (out_of out.old).faults + faults_of_error result }
+{
+    match write_flushed(out, line) {
+        Ok(()) => None,
+        Err(fault) => RunError::of(Err(Failure::from(fault)), false, is_closed(out)),
+    }
+}
+
+/// Prints the names of columns, if the output is CSV; one has the image's name if that is one of several. Returns the error, if that
+/// failed.
 pub(crate) fn print_columns<'a, W: Write + Drop>(
     alloc: Global,
     settings: &Settings,
@@ -50,8 +62,7 @@ pub(crate) fn print_columns<'a, W: Write + Drop>(
     image: Option<&str>,
     out: &mut Output<W>,
 ) -> Option<RunError<'a>>
-    ensures faults { (out_of out.new).faults ≡ (out_of out.old).faults + faults_of_error result }
-    ensures prints { PrintsColumns settings.now.format query.now (option_map (λ name. name.now) image.entry)
+    ensures { PrintsColumns settings.now.format query.now (option_map (λ name. name.now) image.entry)
         (out_of out.old) (out_of out.new) result }
 {
     let Format::Csv(separator, texts) = &settings.format else {
@@ -64,7 +75,7 @@ pub(crate) fn print_columns<'a, W: Write + Drop>(
         image,
         table_of_query(query),
     ) {
-        Ok(line) => write_line(line.as_slice(), None, out),
+        Ok(line) => write_line(line.as_slice(), out),
         Err(AllocError) => Some(RunError::Failed(Failure::OutOfMemory)),
     }
 }

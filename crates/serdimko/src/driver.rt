@@ -91,7 +91,7 @@ fn run_task<'a, C: Connection, W: Write + Drop>(
     limits: RequestLimits,
     task: &'a Task,
     from: Option<u16>,
-    report: &Report<'a>,
+    report: &Report<'a, '_>,
     out: &mut Output<W>,
 ) -> Option<RunError<'a>>
     requires task { IsTask task.now }
@@ -112,7 +112,7 @@ fn run_name<'a, W: Write + Drop>(
     alloc: Global,
     found: &FoundSensors,
     name: &'a str,
-    report: &Report<'_>,
+    report: &Report<'_, '_>,
     out: &mut Output<W>,
 ) -> Option<RunError<'a>>
     ensures { RunsThenEnds report.now (PrintsName report.now found.now name.entry.now) (Ok None)
@@ -131,7 +131,7 @@ fn print_each_name<W: Write + Drop, E: MessageSink>(
     alloc: Global,
     found: &FoundSensors,
     names: &[Word],
-    report: &Report<'_>,
+    report: &Report<'_, '_>,
     out: &mut Output<W>,
     err: &mut E,
 ) -> Outcome
@@ -154,7 +154,7 @@ fn print_names<'a, W: Write + Drop>(
     alloc: Global,
     found: &FoundSensors,
     names: &[Word],
-    report: &Report<'_>,
+    report: &Report<'_, '_>,
     out: &mut Output<W>,
     summary: &mut Summary,
 ) -> Result<(), Failure<'a>>
@@ -178,7 +178,7 @@ fn run_broken<'a, W: Write + Drop>(
     names: &[Word],
     failure: Failure<'a>,
     said: Result<Option<String>, AllocError>,
-    report: &Report<'_>,
+    report: &Report<'_, '_>,
     out: &mut Output<W>,
 ) -> Option<RunError<'a>>
     requires { write_faults (Err failure) ≡ 0 }
@@ -200,7 +200,7 @@ fn print_by_name<C: Connection, W: Write + Drop, E: MessageSink>(
     limits: RequestLimits,
     names: &[Word],
     from: Option<u16>,
-    report: &Report<'_>,
+    report: &Report<'_, '_>,
     out: &mut Output<W>,
     err: &mut E,
 ) -> Outcome
@@ -227,7 +227,7 @@ pub(crate) fn print_query<C: Connection, W: Write + Drop, E: MessageSink>(
     ctl: &mut C,
     limits: RequestLimits,
     query: &Query,
-    report: &Report<'_>,
+    report: &Report<'_, '_>,
     out: &mut Output<W>,
     err: &mut E,
 ) -> Outcome

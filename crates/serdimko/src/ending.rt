@@ -6,7 +6,7 @@ ghost use Rattle.ipmi_output.specs.Failure.{write_faults};
 ghost use Rattle.ipmi_output.specs.Sink.{TakesPart};
 ghost use Rattle.ipmi_output.specs.Writer.{flush_faults};
 ghost use Rattle.serdimko.specs.Out.{out_of};
-ghost use Rattle.serdimko.specs.Printing.{EndsIn, EndsRun, is_faulty, IsEndLine, message_of, PrintsEnd, shown, WritesEnd};
+ghost use Rattle.serdimko.specs.Printing.{EndsIn, EndsRun, is_faulty, IsEndLine, message_of, PrintsEnd, shown};
 ghost use Rattle.serdimko.specs.RunError.{error_text, faults_of_error, is_output_open};
 
 use crate::closable::{Output, is_closed};
@@ -30,7 +30,11 @@ fn without_line_feed(line: &[u8]) -> &[u8]
 }
 
 /// The text of an error, as in its message.
-fn text_of(alloc: Global, error: &RunError<'_>, report: &Report<'_>) -> Result<String, AllocError>
+fn text_of(
+    alloc: Global,
+    error: &RunError<'_>,
+    report: &Report<'_, '_>,
+) -> Result<String, AllocError>
     ensures { IfOk result (λ text. string_bytes text ≡
         utf8_lossy (error_text report.now.name.now report.now.is_only_input error.now)) }
 {
@@ -44,7 +48,7 @@ fn text_of(alloc: Global, error: &RunError<'_>, report: &Report<'_>) -> Result<S
 fn message_of(
     alloc: Global,
     error: &Option<RunError<'_>>,
-    report: &Report<'_>,
+    report: &Report<'_, '_>,
 ) -> Result<Option<String>, AllocError>
     ensures { IfOk result (λ message.
         option_map (λ text. string_bytes text) message ≡ message_of report.now error.now) }
@@ -61,7 +65,7 @@ fn line_at_end(
     labels: &[Label<'_>],
     count: u64,
     error: &Option<RunError<'_>>,
-    report: &Report<'_>,
+    report: &Report<'_, '_>,
 ) -> Result<Vec<u8>, AllocError>
     ensures { IfOk result (λ line. IsEndLine labels.now count report.now error.now line.items) }
 {
@@ -89,23 +93,6 @@ pub(crate) fn write_flushed<W: Write + Drop>(
     out.flush()
 }
 
-/// Writes a line of the program's own for a run with this error, or without one, and flushes it. Returns the error, or that of this
-/// line.
-pub(crate) fn write_line<'a, W: Write + Drop>(
-    line: &[u8],
-    error: Option<RunError<'a>>,
-    out: &mut Output<W>,
-) -> Option<RunError<'a>>
-    ensures faults { (out_of out.new).faults + faults_of_error error.entry ≡
-        (out_of out.old).faults + faults_of_error result }
-    ensures writes { WritesEnd line.now (out_of out.old) (out_of out.new) error.entry result }
-{
-    match write_flushed(out, line) {
-        Ok(()) => error,
-        Err(fault) => RunError::of(Err(Failure::from(fault)), false, is_closed(out)),
-    }
-}
-
 /// Prints the line at the end of this many objects of a run with this error, or without one, unless the output accepts no more.
 /// Returns the error, or that of this line.
 fn print_end<'a, W: Write + Drop>(
@@ -113,7 +100,7 @@ fn print_end<'a, W: Write + Drop>(
     labels: &[Label<'_>],
     count: u64,
     error: Option<RunError<'a>>,
-    report: &Report<'_>,
+    report: &Report<'_, '_>,
     out: &mut Output<W>,
 ) -> Option<RunError<'a>>
     ensures faults { (out_of out.new).faults + faults_of_error error.entry ≡
@@ -127,14 +114,17 @@ fn print_end<'a, W: Write + Drop>(
     let Ok(line) = line_at_end(alloc, labels, count, &error, report) else {
         return Some(RunError::Failed(Failure::OutOfMemory));
     };
-    write_line(line.as_slice(), error, out)
+    match write_flushed(out, line.as_slice()) {
+        Ok(()) => error,
+        Err(fault) => RunError::of(Err(Failure::from(fault)), false, is_closed(out)),
+    }
 }
 
 /// Ends a run with this error, or without one, that printed so many pieces: prints the line at the end of objects. Returns the
 /// error, or that of this line.
 pub(crate) fn end_with<'a, W: Write + Drop>(
     alloc: Global,
-    report: &Report<'_>,
+    report: &Report<'_, '_>,
     pieces: u64,
     error: Option<RunError<'a>>,
     out: &mut Output<W>,
@@ -150,7 +140,7 @@ pub(crate) fn end_with<'a, W: Write + Drop>(
 }
 
 /// Whether an item that was printed makes the run fail.
-fn is_faulty(report: &Report<'_>, summary: &Summary) -> bool
+fn is_faulty(report: &Report<'_, '_>, summary: &Summary) -> bool
     ensures { result ≡ is_faulty report.now (faults_of summary.now) }
 {
     report.strict && summary.faults() != 0
@@ -161,7 +151,7 @@ fn is_faulty(report: &Report<'_>, summary: &Summary) -> bool
 /// did not.
 pub(crate) fn end_run<'a, W: Write + Drop>(
     alloc: Global,
-    report: &Report<'_>,
+    report: &Report<'_, '_>,
     ending: Result<(), Failure<'a>>,
     said: Result<Option<String>, AllocError>,
     summary: &Summary,

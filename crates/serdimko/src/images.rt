@@ -41,7 +41,7 @@ pub(crate) fn file_of(image: Option<&Word>) -> Option<&Word>
 /// Reports why nothing was printed, after the line at the end of objects.
 pub(crate) fn fail<W: Write + Drop, E: MessageSink>(
     alloc: Global,
-    report: &Report<'_>,
+    report: &Report<'_, '_>,
     error: RunError<'_>,
     out: &mut Output<W>,
     err: &mut E,
@@ -56,7 +56,7 @@ pub(crate) fn fail<W: Write + Drop, E: MessageSink>(
 fn rewrite<W: Write + Drop, E: MessageSink>(
     alloc: Global,
     image: &Snapshot,
-    report: &Report<'_>,
+    report: &Report<'_, '_>,
     out: &mut Output<W>,
     err: &mut E,
 ) -> Outcome
@@ -73,7 +73,7 @@ fn print_store<W: Write + Drop, E: MessageSink>(
     alloc: Global,
     limits: RequestLimits,
     query: ImageQuery<'_>,
-    report: &Report<'_>,
+    report: &Report<'_, '_>,
     image: Snapshot,
     out: &mut Output<W>,
     err: &mut E,
@@ -129,7 +129,7 @@ fn print_input<W: Write + Drop, E: MessageSink>(
     alloc: Global,
     limits: RequestLimits,
     query: ImageQuery<'_>,
-    report: &Report<'_>,
+    report: &Report<'_, '_>,
     input: &Result<Vec<u8>, InputFault>,
     out: &mut Output<W>,
     err: &mut E,
@@ -261,7 +261,7 @@ fn print_each_image<W: Write + Drop, E: MessageSink>(
     outcome
 }
 
-/// Prints the names of columns, if rows follow. Returns why it did not.
+/// Prints the names of columns, if the output is CSV. Returns the error, if that failed.
 fn print_first<'a, W: Write + Drop>(
     alloc: Global,
     settings: &Settings,
@@ -279,8 +279,8 @@ fn print_first<'a, W: Write + Drop>(
     }
 }
 
-/// Prints what the query asks for from each image, or from standard input if none is named; first the names of columns, if rows
-/// follow.
+/// Prints what the query asks for from each image, or from standard input if none is named; first the names of columns, if the
+/// output is CSV.
 pub(crate) fn print_images<W: Write + Drop, E: MessageSink>(
     rt: &HostRuntime,
     settings: &Settings,
@@ -293,9 +293,8 @@ pub(crate) fn print_images<W: Write + Drop, E: MessageSink>(
     ensures { PrintsImages settings.now query.entry images.now (out_of out.old) (out_of out.new)
         (E.received err.old) (E.received err.new) result }
 {
-    let error = print_first(rt.alloc(), settings, query, images.len() < 2, out);
-    if error.is_some() {
-        return settings.report(&[], "", true).tell(&error, err);
+    match print_first(rt.alloc(), settings, query, images.len() < 2, out) {
+        None => print_each_image(rt, settings, query, images, out, err),
+        Some(error) => settings.report(&[], "", true).tell(&Some(error), err),
     }
-    print_each_image(rt, settings, query, images, out, err)
 }

@@ -1,5 +1,5 @@
 //! Prints what a command asks for from a live controller. A stock tool holds a session with it, and pipes in a folder lead to the tool.
-ghost use Rattle.std.specs.Prelude.{◌≡◌, ◌*◌, None, IfOk, is_none, map, option_map, string_bytes, take};
+ghost use Rattle.std.specs.Prelude.{◌≡◌, ◌*◌, None, Some, IfOk, is_none, map, option_map, string_bytes, take};
 ghost use Rattle.std.specs.Duration.{as_nanos};
 ghost use Rattle.ipmi_image.specs.WithRecords.{machine_of};
 ghost use Rattle.ipmi_raw.specs.Controller.{last_words};
@@ -8,16 +8,19 @@ ghost use Rattle.ipmi_raw.specs.Piped.{no_units};
 ghost use Rattle.serdimko.specs.LastWords.{lost_text, on_a_line, said_lines};
 ghost use Rattle.serdimko.specs.Live.{name_of, pipe_name, PrintsLive, tool_of};
 ghost use Rattle.serdimko.specs.Out.{out_of, state};
+ghost use Rattle.serdimko.specs.Columns.{Then};
+ghost use Rattle.serdimko.specs.Printing.{PrintsQuery, Reports};
 ghost use Rattle.serdimko.specs.Settings.{IsQuery};
 
 use crate::closable::Output;
 use crate::columns::print_columns;
 use crate::driver::{Connection, Query, print_query};
 use crate::outcome::Outcome;
-use crate::report::Settings;
+use crate::report::{Report, Settings};
 use crate::run_error::RunError;
 use ipmi_bus::Controller;
 use ipmi_command_line::{LiveTool, Word};
+use ipmi_commands::RequestLimits;
 use ipmi_image::WithRecords;
 use ipmi_output::{Failure, MessageSink};
 use ipmi_program::labels_of;
@@ -203,6 +206,29 @@ pub(crate) fn controller_of<'a, R: Files + Clock + AllocGlobal>(
     RawController::new(Piped::new(tool, Pipes { rt, folder }), rt, pause, tries)
 }
 
+/// Prints what the query asks for, unless there is an error: then reports that.
+fn print_unless<C: Connection, W: Write + Drop, E: MessageSink>(
+    error: Option<RunError<'_>>,
+    alloc: Global,
+    machine: &mut C,
+    limits: RequestLimits,
+    query: &Query,
+    report: &Report<'_, '_>,
+    out: &mut Output<W>,
+    err: &mut E,
+) -> Outcome
+    requires { IsQuery query.now }
+    ensures { let old = state (⟦<C as Controller>⟧.seen machine.old) (⟦<C as Connection>⟧.lost machine.old) (out_of out.old) in
+        let new = state (⟦<C as Controller>⟧.seen machine.new) (⟦<C as Connection>⟧.lost machine.new) (out_of out.new) in
+        Then error.entry (PrintsQuery limits query.now report.now old new (E.received err.old) (E.received err.new) result)
+        (λ error. (new ≡ old) × Reports report.now (Some error) (E.received err.old) (E.received err.new) result) }
+{
+    match error {
+        None => print_query(alloc, machine, limits, query, report, out, err),
+        Some(error) => report.tell(&Some(error), err),
+    }
+}
+
 /// Prints what the query asks for from the machine of this host. Its tools are handed only requests that read or take a reservation.
 pub(crate) fn print_live<'a, C: Connection, W: Write + Drop, E: MessageSink>(
     alloc: Global,
@@ -229,11 +255,7 @@ pub(crate) fn print_live<'a, C: Connection, W: Write + Drop, E: MessageSink>(
     let report = settings.report(labels.as_slice(), name, is_unknown);
     let limits = settings.limits.retrying_parts();
     let error = print_columns(alloc, settings, query, None, out);
-    if error.is_some() {
-        machine.asks_only();
-        return report.tell(&error, err);
-    }
-    let outcome = print_query(alloc, machine, limits, query, &report, out, err);
+    let outcome = print_unless(error, alloc, machine, limits, query, &report, out, err);
     machine.asks_only();
     outcome
 }

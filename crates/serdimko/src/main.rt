@@ -185,7 +185,7 @@ fn run_query<E: MessageSink>(
 ) -> Result<u8, AllocError>
     requires { IsQuery query.now }
 {
-    if let Some(line) = wrong_label(rt.alloc(), settings.labels())? {
+    if let Some(line) = wrong_label(rt.alloc(), settings.is_csv(), settings.labels())? {
         return Ok(refuse(&line, err));
     }
     let outcome = match source {

@@ -37,6 +37,11 @@ impl Settings {
         }
     }
 
+    /// Whether rows are printed.
+    pub(crate) fn is_csv(&self) -> bool {
+        matches!(self.format, Format::Csv(..))
+    }
+
     /// The labels of objects or rows, each `KEY=VALUE`.
     pub(crate) fn labels(&self) -> &[Word]
         ensures { result.now ≡ texts_of self.now.format }
@@ -53,12 +58,12 @@ impl Settings {
         labels: &'a [Label<'a>],
         name: &'a str,
         is_only_input: bool,
-    ) -> Report<'a>
+    ) -> Report<'a, 'a>
         ensures wording { result.format.format ≡ wording_of self.now.format labels.entry }
         ensures strict { result.strict ≡ self.now.strict }
         ensures name { result.name.now ≡ name.entry.now }
         ensures input { result.is_only_input ≡ is_only_input }
-        ensures whole { result.format.lacks.now ≡ [] }
+        ensures nothing_lacks { result.format.lacks.now ≡ [] }
     {
         let wording = match &self.format {
             Format::Plain => Wording::Plain,
@@ -83,9 +88,9 @@ impl Settings {
 
 /// How runs over one input are printed and reported.
 #[derive(Clone, Copy)]
-pub(crate) struct Report<'a> {
-    /// The form of the output. It lacks what the input lacks, if that is an image.
-    pub(crate) format: WithLacks<'a, Wording<'a>>,
+pub(crate) struct Report<'a, 'l> {
+    /// The form of the output, with what an image lacks.
+    pub(crate) format: WithLacks<'l, Wording<'a>>,
     /// Whether a printed fault, or a missing device, is an error.
     pub(crate) strict: bool,
     /// The name of the input in messages.
@@ -94,9 +99,9 @@ pub(crate) struct Report<'a> {
     pub(crate) is_only_input: bool,
 }
 
-impl<'a> Report<'a> {
+impl<'a> Report<'a, '_> {
     /// The same of an image that lacks these.
-    pub(crate) fn lacking(&self, lacks: &'a [Lack]) -> Report<'a>
+    pub(crate) fn lacking<'l>(&self, lacks: &'l [Lack]) -> Report<'a, 'l>
         ensures { result ≡ lacking lacks.entry self.now }
     {
         Report {
@@ -104,7 +109,9 @@ impl<'a> Report<'a> {
                 format: self.format.format,
                 lacks,
             },
-            ..*self
+            strict: self.strict,
+            name: self.name,
+            is_only_input: self.is_only_input,
         }
     }
 

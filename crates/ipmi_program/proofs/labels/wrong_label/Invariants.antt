@@ -5,4 +5,4 @@ use Rattle.ipmi_program.proofs.labels.wrong_label.Given as goal
 
 abbrev pub invariant-loop-text : goal.invariant-loop-text
 invariant-loop-text l =
-    wrong_label [] l.texts ≡ wrong_label (map key_value l.labels.items) (drop l.text-index l.texts)
+    wrong_label l.is_row [] l.texts ≡ wrong_label l.is_row (map key_value l.labels.items) (drop l.text-index l.texts)
