@@ -174,12 +174,13 @@ fn outcome_in_pages<C: Controller + Drop>(
     let mut err = Vec::new(alloc);
     let mut summary = Summary::new();
     let limits = RequestLimits::of(command);
-    let job = Job::of(&Wording::Json(&[]), command.task(), command.from()).unwrap();
+    let format = Wording::Json(&[]);
+    let job = Job::of(&format, command.task(), command.from()).unwrap();
     let ending = execute_pages(
         alloc,
         &mut ctl,
         limits,
-        &Wording::Json(&[]),
+        &format,
         job,
         &mut out,
         &mut summary,
