@@ -84,7 +84,8 @@ const SENSOR: &str = "Prints sensors in words.
 The thresholds are lnr, lcr, lnc, unc, ucr, unr: lower (l) or upper (u), and
 non-recoverable (nr), critical (cr) or non-critical (nc); - where there is none.
 The status is the worst that is passed, as unc; ok: none is, or there is none;
-ns: no reading; na: not a sensor of this controller. sdr list has no l and u.
+ns: none, or not captured; na: not a sensor of this controller. sdr list has no
+l and u.
 --from HEX4 starts at this record id, in the order of the next ids.
 ";
 
