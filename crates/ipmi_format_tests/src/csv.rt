@@ -290,6 +290,16 @@ fn mixed_row(alloc: Global) -> Result<Vec<u8>, AllocError> {
     }
 }
 
+/// With ample memory each call returns its row.
+#[test]
+fn not_always_out_of_memory(rt: HostRuntime) {
+    let alloc = rt.alloc();
+    assert_line(&rt, mixed_row(alloc), MIXED_ROW);
+    assert_line(&rt, entry_row(alloc, 2, &TIMED), TIMED_ROW);
+    assert_line(&rt, COMMA.info(alloc, Shelf::Sel, &INFO), SEL_INFO);
+    assert_line(&rt, COMMA.header(alloc, Table::Infos), INFOS);
+}
+
 /// With memory refused a call returns its row, or fails when out of memory.
 #[test]
 fn memory_may_be_refused(rt: HostRuntime) {
