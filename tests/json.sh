@@ -2,7 +2,8 @@
 # Each line that `serdimko --json` prints over the examples is one JSON value, by Python and, if it is installed, by jq. Each has
 # exactly the keys that docs/json.md lists for its kind, in one order. There are as many objects as the text form has lines, with
 # the same readings and statuses, and the last one counts them. Labels and the names of images come last, and a label may have none
-# of the keys of docs/json.md. The examples of docs/json.md, one of each object, are printed as they stand there.
+# of the keys of docs/json.md. The examples of docs/json.md, one of each object, are printed as they stand there. The rows of `--csv`
+# have the same values.
 # `tests/json.sh PROGRAM` tries that program; without a word the one of this repository is built first.
 set -uo pipefail
 [ $# -eq 0 ] || program=$(realpath "$1")

@@ -21,7 +21,7 @@ const STATE_BITS: u8 = 0x7F;
 /// What is known of the reading of a sensor.
 #[derive(Clone, Copy, Debug, PartialEq, Eq)]
 pub enum KnownReading {
-    /// The controller was not asked: a capture left the reading out.
+    /// A capture left the reading out.
     NotCaptured,
     /// The controller has none.
     Absent,
