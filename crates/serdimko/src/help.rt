@@ -38,7 +38,7 @@ Options, anywhere, also after the command:
   --strict        status 1 if a fault or a missing device was printed
   --json          an object in a line for each thing, and one at the end
   --csv           a line with the names of columns, and one for each thing
-  --separator comma|semicolon  with --csv, what stands between two values
+  --separator comma|semicolon  with --csv, the separator of values
   --label KEY=VALUE  with --json or --csv, a text in each object or line; may
                   come several times
   --output FILE   capture writes to this file (-o)
