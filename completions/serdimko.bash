@@ -3,7 +3,7 @@
 # It calls no function of the package bash-completion, so that a shell may also read it by itself.
 
 _serdimko() {
-  local options='--image --live --records --from --part --tries --id --strict --json --csv --separator --label --output --partial --quiet --help --version -h -V'
+  local options='--image --live --records --from --part --tries --id --type --entity --exclude --since --until --strict --json --csv --separator --label --output --partial --quiet --help --version -h -V'
   local cur=${COMP_WORDS[COMP_CWORD]} word value= plain= line= next=
 
   # What comes before the word: the option whose value it is, whether -- came, and the words without options.
@@ -14,10 +14,10 @@ _serdimko() {
     elif [[ ! $plain && $word == -- ]]; then
       plain=yes
     elif [[ ! $plain && $word == -?* ]]; then
-      # An option comes at most once, but --image and --label.
+      # An option comes at most once, but --image, --label and --exclude.
       options=" $options "
-      [[ $word == --image* || $word == --label* ]] || options=${options/ "${word%%=*}" / }
-      case $word in --image | --live | --records | --output | --from | --part | --tries | --id | --separator | --label) value=$word ;; esac
+      [[ $word == --image* || $word == --label* || $word == --exclude* ]] || options=${options/ "${word%%=*}" / }
+      case $word in --image | --live | --records | --output | --from | --part | --tries | --id | --type | --entity | --exclude | --since | --until | --separator | --label) value=$word ;; esac
     else
       line+="${line:+ }$word"
     fi
@@ -39,7 +39,7 @@ _serdimko() {
   case $line in
     '') next='fru sdr sensor sel capture image help' ;;
     'fru') next='print list' ;;
-    'sdr') next='list elist get info hex' ;;
+    'sdr') next='list elist type entity get info hex' ;;
     'sdr list') next='all full compact event generic mclocator fru' ;;
     'sdr elist') next='all full compact event generic mclocator fru' ;;
     'sensor') next='list get' ;;

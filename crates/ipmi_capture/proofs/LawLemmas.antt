@@ -10,7 +10,8 @@ use Rattle.ipmi_capture.specs.Laws.{AreOfCapture, CapturesPrintTheSame, Captures
 use Rattle.ipmi_capture.specs.Left.{EndIsNoted, LacksInfo, LacksInventory, LacksReading, LacksRecords, SameOrLeft}
 use Rattle.ipmi_capture.specs.declared.left.Left.{Left}
 use Rattle.ipmi_records.specs.Prelude.{known}
-use Rattle.ipmi_commands.specs.Prelude.{after_names, after_points, AtInventory, AtRecord, bytes_of_rows, devices_job, events_job, named_entries, has_last, IfChosen, info_plan, inventories_plan, inventory_plan, is_name, IsBlockOfName, IsDevicePiece, IsLocatorPiece, IsRecordText, IsRowText, IsTextOfRecord, Texts, Item, last_plan, last_rows, listing, listing_plan, OfInventory, OnEntries, OnTail, OnTailFrom, OnTried, OnWalk, OnWhole, Plan, points_of_walk, reading_by, reading_for, row_is_of_kind, row_items, ReadPoint, tail_from, walk_call_bound, points_before, view_has_name, with_first_points}
+use Rattle.ipmi_commands.specs.Prelude.{SelectedEntries, of_kind, after_names, after_points, AtInventory, AtRecord, bytes_of_rows, devices_job, events_job, named_entries, has_last, IfChosen, info_plan, inventories_plan, inventory_plan, is_name, IsBlockOfName, IsDevicePiece, IsLocatorPiece, IsRecordText, IsRowText, IsTextOfRecord, Texts, Item, last_plan, last_rows, listing, listing_plan, OfInventory, OnEntries, OnTail, OnTailFrom, OnTried, OnWalk, OnWhole, Plan, points_of_walk, reading_by, reading_for, row_is_of_kind, row_items, ReadPoint, tail_from, walk_call_bound, points_before, view_has_name, with_first_points}
+use Rattle.ipmi_commands.specs.Selection.{in_detail}
 use Rattle.ipmi_commands.specs.declared.format.Detail.{Detail}
 use Rattle.ipmi_commands.specs.declared.job.EntryText.{EntryText}
 use Rattle.ipmi_commands.specs.declared.job.Form.{Form}
@@ -352,7 +353,7 @@ module _ (x : Texts) (exists : WalkExists) (unique : WalkIsUnique) (found : Foun
   -- the text of a record of the kind
   record_same : (detail : Detail) (kind : Kind) → All (SameReading image store) (sensors_of (filter (row_is_of_kind kind) image.sdr))
       → (row : Row) → Among image.sdr row
-      → Same (λ text. IsRowText x image (Form.Record detail kind) row text) (λ text. IsRowText x store (Form.Record detail kind) row text)
+      → Same (λ text. IsRowText x image (Form.Record detail (of_kind kind)) row text) (λ text. IsRowText x store (Form.Record detail (of_kind kind)) row text)
   record_same detail kind readings row among =
       chosen _ _ (row_is_of_kind kind row) (λ passes. record_text x image store detail row (sdr_view_of row.bytes)
       (row_reads (row_is_of_kind kind) readings row among passes))
@@ -446,7 +447,7 @@ module _ (x : Texts) (exists : WalkExists) (unique : WalkIsUnique) (found : Foun
       (ap (tail_from n) start) (tail_same entries n walks tries tries' (tail_from n (info_of Sel image)) known)
 
   -- events with the names of their sensors: the sensor data records are walked first
-  events_same : (detail : Detail) (count : Count) (from : Option ℕ) → SameWalk Sdr image store → SameWalk Sel image store
+  events_same : (detail : SelectedEntries) (count : Count) (from : Option ℕ) → SameWalk Sdr image store → SameWalk Sel image store
       → SameStart count → AreOfCapture image count from → (tries tries' : Tries)
       → OnWalk Sdr First store (λ sensors end. OnEntries (named_entries detail (bytes_of_rows sensors)) count from tries store (λ plan calls.
       OnWalk Sdr First image (λ sensors' end'. OnEntries (named_entries detail (bytes_of_rows sensors')) count from tries' image (λ plan' calls'.
@@ -525,10 +526,10 @@ module _ (x : Texts) (exists : WalkExists) (unique : WalkIsUnique) (found : Foun
   entries_same : (has : Bool) (detail : Detail) (count : Count) (from : Option ℕ) → (has ≡ true → SameWalk Sdr image store)
       → SameWalk Sel image store → SameStart count → AreOfCapture image count from
       → SamePlan x (Some (events_job has detail count from)) image store
-  entries_same true detail Count.All from records entries start known = events_same detail Count.All from (records refl) entries start known
-  entries_same true detail (Count.First n) from records entries start known = events_same detail (Count.First n) from (records refl) entries start known
-  entries_same true detail (Count.Last n) from records entries start known = events_same detail (Count.Last n) from (records refl) entries start known
-  entries_same true detail (Count.Tail n) from records entries start known = events_same detail (Count.Tail n) from (records refl) entries start known
+  entries_same true detail Count.All from records entries start known = events_same (in_detail detail) Count.All from (records refl) entries start known
+  entries_same true detail (Count.First n) from records entries start known = events_same (in_detail detail) (Count.First n) from (records refl) entries start known
+  entries_same true detail (Count.Last n) from records entries start known = events_same (in_detail detail) (Count.Last n) from (records refl) entries start known
+  entries_same true detail (Count.Tail n) from records entries start known = events_same (in_detail detail) (Count.Tail n) from (records refl) entries start known
   entries_same false detail Count.All from records entries start known = lines_same _ Count.All from entries start known
   entries_same false detail (Count.First n) from records entries start known = lines_same _ (Count.First n) from entries start known
   entries_same false detail (Count.Last n) from records entries start known = lines_same _ (Count.Last n) from entries start known

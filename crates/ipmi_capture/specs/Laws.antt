@@ -13,7 +13,8 @@ use Rattle.ipmi_commands.specs.declared.limits.Tries.{Tries}
 use Rattle.ipmi_commands.specs.Plan.{Item, view_has_name}
 use Rattle.ipmi_commands.specs.Run.{FollowsPlan}
 use Rattle.ipmi_commands.specs.Tail.{tail_from}
-use Rattle.ipmi_commands.specs.Texts.{IsTextOver, row_is_of_kind}
+use Rattle.ipmi_commands.specs.Selection.{row_is_of_kind}
+use Rattle.ipmi_commands.specs.Texts.{IsTextOver}
 use Rattle.ipmi_command_line.specs.declared.task.Count.{Count}
 use Rattle.ipmi_command_line.specs.declared.task.Task.{Task}
 

@@ -1,9 +1,9 @@
 -- The table of commands: words as `starts_with` compares them, and rows as `find` finds them.
-use Rattle.std.proofs.Common.{◌≡◌, ◌≤◌, ◌<◌, ◌∙◌, ap, arith, refl, List, [], ◌∷◌, Bool, Bor, bytes_eq, ◌&&◌, ◌||◌, codes, get_or, if◌then◌else◌, length, map, Option, None, Some, option_map, unwrap_or}
+use Rattle.std.proofs.Common.{◌≡◌, ◌≤◌, ◌<◌, ◌∙◌, ap, arith, refl, List, [], ◌∷◌, Bool, true, false, Bor, bytes_eq, ◌&&◌, ◌||◌, codes, get_or, if◌then◌else◌, length, map, Option, None, Some, option_map, unwrap_or}
 use Rattle.std.specs.List.{find, list_any, starts_with}
 use Rattle.clap.proofs.WalkLemmas.{find-map}
 use Rattle.clap.specs.Words.{Text}
-use Rattle.ipmi_command_line.specs.Request.{events_of, has_option, help_of, tail_of, topic_named, topic_of}
+use Rattle.ipmi_command_line.specs.Request.{asks_for_types, events_of, has_option, help_of, tail_of, topic_named, topic_of}
 use Rattle.ipmi_command_line.specs.Number.{number_of, within}
 use Rattle.ipmi_command_line.specs.Table.{entries_of, oldest, task_of_four}
 use Rattle.ipmi_command_line.specs.declared.request.Topic.{Topic}
@@ -114,3 +114,25 @@ word_of_help (a ∷ b ∷ words) e h = refl
 word_of_help _ e h = absurd (omega arith)
 
 pub ruleset helps = (no_word_of_help, word_of_help)
+
+-- ---- the words of `sdr type`
+
+pub asks_none : (words : List (Bor Text)) → length words < 2 → false ≡ asks_for_types (texts words)
+asks_none [] h = refl
+asks_none (a ∷ []) h = refl
+asks_none _ h = absurd (omega arith)
+
+pub asks_two : (words : List (Bor Text)) → 2 ≤ length words → length words < 3 → true ≡ asks_for_types (texts words)
+asks_two (a ∷ b ∷ []) h l = refl
+asks_two _ h l = absurd (omega arith)
+
+pub asks_three : (words : List (Bor Text)) (e : Bor Text) → 3 ≤ length words → length words < 4
+    → bytes_eq (get_or words 2 e).now (codes "list") ≡ asks_for_types (texts words)
+asks_three (a ∷ b ∷ c ∷ []) e h l = refl
+asks_three _ e h l = absurd (omega arith)
+
+pub asks_more : (words : List (Bor Text)) → 4 ≤ length words → false ≡ asks_for_types (texts words)
+asks_more (a ∷ b ∷ c ∷ d ∷ words) h = refl
+asks_more _ h = absurd (omega arith)
+
+pub ruleset asks = (asks_none, asks_two, asks_three, asks_more)

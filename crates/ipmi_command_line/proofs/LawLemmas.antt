@@ -1,4 +1,5 @@
 -- Each line that the reference program takes is the same request: the words name a row of the table, and no other option is given.
+use Rattle.std.specs.Bool.{⊤}
 use Rattle.std.specs.List.{find}
 use Rattle.std.specs.Option.{option_and_then}
 use Rattle.std.proofs.lemmas.Bool.{false≢true, true≢false}
@@ -10,9 +11,11 @@ use Rattle.std.proofs.lemmas.Option.{none-some}
 use Rattle.std.proofs.lemmas.Slice.Eq.{bytes_eq-Decides}
 use Rattle.clap.specs.Words.{Row, Text, first_of}
 use Rattle.ipmi_command_line.specs.Arguments.{free_words, has_other_flag, has_other_value, has_value, is_given, is_reference, is_taken, rows_of_words, values_of}
+use Rattle.ipmi_command_line.specs.Filters.{filters_of, no_filters}
 use Rattle.ipmi_command_line.specs.Laws.{CommandsAreRequests, action_of_task, images_of, same_request}
 use Rattle.ipmi_command_line.specs.Task.{takes_from}
 use Rattle.ipmi_command_line.specs.declared.command.UsageFault.{UsageFault}
+use Rattle.ipmi_command_line.specs.declared.filters.Filters.{Filters}
 use Rattle.ipmi_command_line.specs.declared.request.Action.{Action}
 use Rattle.ipmi_command_line.specs.declared.request.Format.{Format}
 use Rattle.ipmi_command_line.specs.declared.request.Limits.{Limits}
@@ -21,7 +24,7 @@ use Rattle.ipmi_command_line.specs.declared.request.Source.{Source}
 use Rattle.ipmi_command_line.specs.Command.{CommandState, command_of_task, meaning_of, number_or, start_of_text, with_options}
 use Rattle.ipmi_command_line.specs.Commands.{RowState, commands, row_of}
 use Rattle.ipmi_command_line.specs.Number.{digits_of, number_of, within}
-use Rattle.ipmi_command_line.specs.Request.{entry_of, format_of, has_option, limits_of, misplaced, part_of_text, printed_of, records_of, request_of, request_of_found, request_of_words, rewrite_of, source_of, text_format, with_parts}
+use Rattle.ipmi_command_line.specs.Request.{counts_entries, entry_of, fitting, format_of, has_option, limits_of, misplaced, part_of_text, printed_of, records_named, records_of, request_of, request_of_found, request_of_words, rewrite_of, source_of, text_format, with_parts}
 use Rattle.ipmi_command_line.specs.Table.{are, entries_of, newest, oldest, task_of, task_of_four, task_of_one, task_of_three, task_of_two}
 use Rattle.ipmi_command_line.specs.declared.commands.Verb.{Verb}
 use Rattle.ipmi_command_line.specs.declared.task.Task.{Task}
@@ -34,6 +37,7 @@ is_rewrite task = false
 abbrev pub Reads : Verb → List Text → Task → Type 0
 Reads Verb.Task words task = is_rewrite task ≡ false
 Reads Verb.GetEntry words task = is_rewrite task ≡ false
+Reads Verb.GetRecords words task = (a : Text) × (b : Text) × (name : Text) × (words ≡ a ∷ b ∷ name ∷ []) × (task ≡ Task.Get name)
 Reads Verb.Rewrite words task = (length words ≡ 2) × (task ≡ Task.Rewrite)
 Reads verb words task = ⊥
 
@@ -106,7 +110,7 @@ found_three a b c task is =
     branch _ _ _ task is (λ eq at. same_words a b (codes "fru") (codes "print") P eq (plain _ task at (mapped _ (λ id. Task.Fru (Some id)) (λ x. refl)), refl))
     (λ more0. branch _ _ _ task more0 (λ eq at. same_words a b (codes "sdr") (codes "list") P eq (plain _ task at (mapped _ (λ kind. Task.List kind) (λ x. refl)), refl))
     (λ more1. branch _ _ _ task more1 (λ eq at. same_words a b (codes "sdr") (codes "elist") P eq (plain _ task at (mapped _ (λ kind. Task.Elist kind) (λ x. refl)), refl))
-    (λ more2. branch _ _ _ task more2 (λ eq at. same_words a b (codes "sdr") (codes "get") P eq (plain _ task at refl, refl))
+    (λ more2. branch _ _ _ task more2 (λ eq at. same_words a b (codes "sdr") (codes "get") P eq ((codes "sdr", codes "get", c, refl, sym (ap (λ o. unwrap_or o Task.Hex) at)), refl))
     (λ more3. branch _ _ _ task more3 (λ eq at. same_words a b (codes "sel") (codes "list") P eq (plain _ task at (mapped _ (λ n. Task.SelList (oldest n)) (λ x. refl)), refl))
     (λ more4. branch _ _ _ task more4 (λ eq at. same_words a b (codes "sel") (codes "get") P eq (plain _ task at (mapped _ (λ id. Task.SelGet id) (λ x. refl)), refl))
     (λ more5. absurd (none-some task more5)))))))
@@ -148,6 +152,11 @@ record Alone (rows : List Row) : Type 0 where
   records : has_value (codes "records") rows ≡ false
   id : has_value (codes "id") rows ≡ false
   separator : has_value (codes "separator") rows ≡ false
+  type : has_value (codes "type") rows ≡ false
+  entity : has_value (codes "entity") rows ≡ false
+  exclude : has_value (codes "exclude") rows ≡ false
+  since : has_value (codes "since") rows ≡ false
+  until : has_value (codes "until") rows ≡ false
   output : has_value (codes "output") rows ≡ false
   strict : is_given (codes "strict") rows ≡ false
   json : is_given (codes "json") rows ≡ false
@@ -167,7 +176,12 @@ alone rows is =
     let live = none_or (has_value (codes "live") rows) _ label.1 in
     let records = none_or (has_value (codes "records") rows) _ live.1 in
     let id = none_or (has_value (codes "id") rows) _ records.1 in
-    let separator = none_or (has_value (codes "separator") rows) (has_value (codes "output") rows) id.1 in
+    let separator = none_or (has_value (codes "separator") rows) _ id.1 in
+    let type = none_or (has_value (codes "type") rows) _ separator.1 in
+    let entity = none_or (has_value (codes "entity") rows) _ type.1 in
+    let exclude = none_or (has_value (codes "exclude") rows) _ entity.1 in
+    let since = none_or (has_value (codes "since") rows) _ exclude.1 in
+    let until = none_or (has_value (codes "until") rows) (has_value (codes "output") rows) since.1 in
     let strict = none_or (is_given (codes "strict") rows) _ (not_true _ rest.0) in
     let json = none_or (is_given (codes "json") rows) _ strict.1 in
     let csv = none_or (is_given (codes "csv") rows) _ json.1 in
@@ -180,7 +194,12 @@ alone rows is =
       records = records.0;
       id = id.0;
       separator = separator.0;
-      output = separator.1;
+      type = type.0;
+      entity = entity.0;
+      exclude = exclude.0;
+      since = since.0;
+      until = until.0;
+      output = until.1;
       strict = strict.0;
       json = json.0;
       csv = csv.0;
@@ -199,7 +218,7 @@ no_value (Some text) is = absurd (true≢false is)
 all_placed : (options : List Text) (rows : List Row) → Alone rows → has_option options (codes "image") ≡ true
     → misplaced options rows ≡ None
 unfolding misplaced
-all_placed options rows h takes = grind (arith, takes, h.label, h.live, h.records, h.id, h.separator, h.output, h.strict, h.json, h.csv, h.quiet, h.partial)
+all_placed options rows h takes = grind (arith, takes, h.label, h.live, h.records, h.id, h.separator, h.type, h.entity, h.exclude, h.since, h.until, h.output, h.strict, h.json, h.csv, h.quiet, h.partial)
 
 -- ---- the images
 
@@ -229,6 +248,52 @@ sources rows h =
     ∙ source_is (values_of (codes "image") rows) h.images
     ∙ ap (λ images. Some (Source.Images images)) (sym (one_image (values_of (codes "image") rows) h.images)
     ∙ ap images_of (sym (first_is (codes "image") rows)))
+
+-- ---- the filters
+
+none_among : (texts : List Text) → slice_get texts 0 ≡ None → texts ≡ []
+none_among [] is = refl
+none_among (text ∷ texts) is = absurd (none-some text (sym is))
+
+no_excluded : (rows : List Row) → Alone rows → values_of (codes "exclude") rows ≡ []
+no_excluded rows h = none_among (values_of (codes "exclude") rows)
+    (sym (first_is (codes "exclude") rows) ∙ no_value (first_of (codes "exclude") rows) h.exclude)
+
+-- the row's command has no filter as a word
+abbrev pub AsksAll : Verb → Type 0
+AsksAll Verb.ListOfType = ⊥
+AsksAll Verb.ListOfEntity = ⊥
+AsksAll verb = ⊤
+
+all_pass : (verb : Verb) (words : List Text) (rows : List Row) → AsksAll verb → Alone rows → filters_of verb words rows ≡ Some no_filters
+all_pass Verb.ListOfType words rows asks h = absurd asks
+all_pass Verb.ListOfEntity words rows asks h = absurd asks
+all_pass Verb.GetEntry words rows asks h =
+    rw (
+      no_value (first_of (codes "type") rows) h.type,
+      no_value (first_of (codes "entity") rows) h.entity,
+      no_excluded rows h,
+      no_value (first_of (codes "since") rows) h.since,
+      no_value (first_of (codes "until") rows) h.until,
+    ) refl
+all_pass verb words rows asks h =
+    rw (
+      no_value (first_of (codes "type") rows) h.type,
+      no_value (first_of (codes "entity") rows) h.entity,
+      no_value (first_of (codes "id") rows) h.id,
+      no_excluded rows h,
+      no_value (first_of (codes "since") rows) h.since,
+      no_value (first_of (codes "until") rows) h.until,
+    ) refl
+
+-- no filters fit each command
+fits : (action : Option Action) (filters : Option Filters) → filters ≡ Some no_filters → fitting action filters ≡ Some no_filters
+fits None filters is = is
+fits (Some action) filters is = rw is (by (counts_entries action))
+  where
+    by : (b : Bool) → (if b && false then None else Some no_filters) ≡ Some no_filters
+    by true = refl
+    by false = refl
 
 no_records : (rows : List Row) → Alone rows → records_of rows ≡ Some None
 no_records rows h = rw (h.records, no_value (first_of (codes "records") rows) h.records) refl
@@ -280,11 +345,11 @@ parts_of image task start part tries command is = absurd (err-ok is)
 
 -- ---- the request
 
-assembled : (m : Option Text) (A : Option Action) (S : Option Source) (R : Option (Option Text)) (L : Option Limits) (F : Option Format) (b : Bool)
-    (a : Action) (s : Source) (l : Limits) → m ≡ None → A ≡ Some a → S ≡ Some s → R ≡ Some None → L ≡ Some l → F ≡ Some Format.Plain
-    → b ≡ false → (if is_some m then None else with_parts A S R L F b)
-    ≡ Some (record { action = a; source = s; records = None; limits = l; format = Format.Plain; strict = false })
-assembled m A S R L F b a s l m_is A_is S_is R_is L_is F_is b_is = rw (m_is, A_is, S_is, R_is, L_is, F_is, b_is) refl
+assembled : (m : Option Text) (A : Option Action) (P : Option Filters) (S : Option Source) (R : Option (Option Text)) (L : Option Limits) (F : Option Format) (b : Bool)
+    (a : Action) (s : Source) (l : Limits) → m ≡ None → A ≡ Some a → P ≡ Some no_filters → S ≡ Some s → R ≡ Some None → L ≡ Some l → F ≡ Some Format.Plain
+    → b ≡ false → (if is_some m then None else with_parts A P S R L F b)
+    ≡ Some (record { action = a; filters = no_filters; source = s; records = None; limits = l; format = Format.Plain; strict = false })
+assembled m A P S R L F b a s l m_is A_is P_is S_is R_is L_is F_is b_is = rw (m_is, A_is, P_is, S_is, R_is, L_is, F_is, b_is) refl
 
 printed : (start : Option (Option ℕ)) (o : Option Task) (task : Task) (from : Option ℕ) → start ≡ Some from → o ≡ Some task
     → (is_some from && not (takes_from task)) ≡ false → printed_of start o ≡ Some (Action.Print task from)
@@ -310,6 +375,10 @@ abbrev IsSame : RowState → List Text → List Row → CommandState → Type 0
 IsSame row words rows command = (part : Option ℕ) × (unwrap_or part 32 ≡ command.part)
     × (request_of_found (Some row) words rows ≡ Some (same_request part command))
 
+getting : (words : List Text) (rows : List Row) (task : Task) (from : Option ℕ) → Reads Verb.GetRecords words task
+    → start_of_text (first_of (codes "from") rows) ≡ Some from → records_named words rows ≡ Some (action_of_task task from)
+getting words rows task from reads start = rw (reads.3, reads.4, start) refl
+
 rewriting : (words : List Text) (rows : List Row) (task : Task) (from : Option ℕ) → Alone rows → length words ≡ 2 → task ≡ Task.Rewrite
     → start_of_text (first_of (codes "from") rows) ≡ Some from → (is_some from && not (takes_from task)) ≡ false
     → rewrite_of (length words == 2) rows ≡ Some (action_of_task task from)
@@ -326,7 +395,7 @@ same w Verb.Task o words rows task command h reads takes is parts =
     let action = printed _ _ task parts.from parts.start_is is parts.taken ∙ ap (λ a. Some a) (plain_action task parts.from reads) in (
       part.0,
       part.2 ∙ ap (λ c. c.part) parts.command_is,
-      assembled _ _ _ _ _ _ _ _ _ _ (all_placed o rows h takes) action (sources rows h) (no_records rows h) (limits_are rows part.0 parts.t part.1 parts.tries_is)
+      assembled _ _ _ _ _ _ _ _ _ _ _ (all_placed o rows h takes) action (fits _ _ (all_pass Verb.Task words rows tt h)) (sources rows h) (no_records rows h) (limits_are rows part.0 parts.t part.1 parts.tries_is)
           (plain_format rows Verb.Task h refl) h.strict ∙ ap (λ c. Some (same_request part.0 c)) parts.command_is,
     )
 same w Verb.GetEntry o words rows task command h reads takes is parts =
@@ -335,15 +404,23 @@ same w Verb.GetEntry o words rows task command h reads takes is parts =
     let action = printed _ _ task parts.from parts.start_is entry parts.taken ∙ ap (λ a. Some a) (plain_action task parts.from reads) in (
       part.0,
       part.2 ∙ ap (λ c. c.part) parts.command_is,
-      assembled _ _ _ _ _ _ _ _ _ _ (all_placed o rows h takes) action (sources rows h) (no_records rows h) (limits_are rows part.0 parts.t part.1 parts.tries_is)
+      assembled _ _ _ _ _ _ _ _ _ _ _ (all_placed o rows h takes) action (fits _ _ (all_pass Verb.GetEntry words rows tt h)) (sources rows h) (no_records rows h) (limits_are rows part.0 parts.t part.1 parts.tries_is)
           (plain_format rows Verb.GetEntry h refl) h.strict ∙ ap (λ c. Some (same_request part.0 c)) parts.command_is,
+    )
+same w Verb.GetRecords o words rows task command h reads takes is parts =
+    let part = part_is (first_of (codes "part") rows) parts.n parts.part_is in (
+      part.0,
+      part.2 ∙ ap (λ c. c.part) parts.command_is,
+      assembled _ _ _ _ _ _ _ _ _ _ _ (all_placed o rows h takes) (getting words rows task parts.from reads parts.start_is)
+          (fits _ _ (all_pass Verb.GetRecords words rows tt h)) (sources rows h) (no_records rows h) (limits_are rows part.0 parts.t part.1 parts.tries_is)
+          (plain_format rows Verb.GetRecords h refl) h.strict ∙ ap (λ c. Some (same_request part.0 c)) parts.command_is,
     )
 same w Verb.Rewrite o words rows task command h reads takes is parts =
     let part = part_is (first_of (codes "part") rows) parts.n parts.part_is in (
       part.0,
       part.2 ∙ ap (λ c. c.part) parts.command_is,
-      assembled _ _ _ _ _ _ _ _ _ _ (all_placed o rows h takes)
-          (rewriting words rows task parts.from h reads.0 reads.1 parts.start_is parts.taken) (sources rows h) (no_records rows h)
+      assembled _ _ _ _ _ _ _ _ _ _ _ (all_placed o rows h takes)
+          (rewriting words rows task parts.from h reads.0 reads.1 parts.start_is parts.taken) (fits _ _ (all_pass Verb.Rewrite words rows tt h)) (sources rows h) (no_records rows h)
           (limits_are rows part.0 parts.t part.1 parts.tries_is)
           (plain_format rows Verb.Rewrite h refl) h.strict ∙ ap (λ c. Some (same_request part.0 c)) parts.command_is,
     )

@@ -1,4 +1,5 @@
 pub mod ArgumentLemmas
 pub mod CommandLemmas
+pub mod FilterLemmas
 pub mod LawLemmas
 pub mod TableLemmas

@@ -1,4 +1,4 @@
--- How `clap` parses a command line: fifteen options at any place, and a list of words.
+-- How `clap` parses a command line: options at any place, and a list of words.
 use Rattle.std.specs.Prelude.{◌&&◌, ◌||◌, nat_lt, nat_le, length, not, is_some, List, [], Some, Bool, true, codes, unwrap_or}
 use Rattle.clap.specs.Simple.{on_top}
 use Rattle.clap.specs.Walk.{is_empty}
@@ -44,9 +44,10 @@ four_options = with_rule (with_rule (with_rule (with_rule base (list_rule (codes
 
 -- and the other options with a value
 abbrev pub valued_options : App
-valued_options = with_rule (with_rule (with_rule (with_rule (with_rule (with_rule four_options (list_rule (codes "label")))
-    (option_rule (codes "live"))) (option_rule (codes "records"))) (option_rule (codes "id")))
-    (option_rule (codes "separator"))) output_rule
+valued_options = with_rule (with_rule (with_rule (with_rule (with_rule (with_rule (with_rule (with_rule (with_rule (with_rule (with_rule four_options
+    (list_rule (codes "label"))) (option_rule (codes "live"))) (option_rule (codes "records"))) (option_rule (codes "id")))
+    (option_rule (codes "separator"))) (option_rule (codes "type"))) (option_rule (codes "entity")))
+    (list_rule (codes "exclude"))) (option_rule (codes "since"))) (option_rule (codes "until"))) output_rule
 
 -- and those without one, and the words
 abbrev pub command_line : App
@@ -82,7 +83,8 @@ has_value name rows = is_some (first_of name rows)
 unfoldable pub has_other_value : List Row → Bool
 has_other_value rows = has_value (codes "label") rows || (has_value (codes "live") rows
     || (has_value (codes "records") rows || (has_value (codes "id") rows || (has_value (codes "separator") rows
-    || has_value (codes "output") rows))))
+    || (has_value (codes "type") rows || (has_value (codes "entity") rows || (has_value (codes "exclude") rows
+    || (has_value (codes "since") rows || (has_value (codes "until") rows || has_value (codes "output") rows)))))))))
 
 -- and one without a value
 unfoldable pub has_other_flag : List Row → Bool

@@ -2,6 +2,7 @@
 use Rattle.std.specs.Prelude.{◌≡◌, ℕ, false, List, [], ◌∷◌, Option, Some, None, Ok, unwrap_or}
 use Rattle.clap.specs.Words.{Text}
 use Rattle.ipmi_command_line.specs.Command.{CommandState, meaning_of}
+use Rattle.ipmi_command_line.specs.Filters.{no_filters}
 use Rattle.ipmi_command_line.specs.Request.{request_of}
 use Rattle.ipmi_command_line.specs.declared.request.Action.{Action}
 use Rattle.ipmi_command_line.specs.declared.request.Format.{Format}
@@ -21,6 +22,7 @@ images_of (Some image) = image ∷ []
 abbrev pub same_request : Option ℕ → CommandState → Request
 same_request part command = record {
   action = action_of_task command.task command.from;
+  filters = no_filters;
   source = Source.Images (images_of command.image);
   records = None;
   limits = record { part = part; tries = command.tries };

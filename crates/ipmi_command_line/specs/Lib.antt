@@ -1,6 +1,7 @@
 pub mod Arguments
 pub mod Command
 pub mod Commands
+pub mod Filters
 pub mod Hints
 pub mod Laws
 pub mod Number

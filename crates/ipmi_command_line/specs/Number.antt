@@ -25,3 +25,7 @@ number_of text = if bytes_eq (take 2 text) (codes "0x") then hex_of (drop 2 text
 abbrev pub within : ℕ → ℕ → Option ℕ → Option ℕ
 within low high None = None
 within low high (Some n) = if nat_le low n && nat_le n high then Some n else None
+
+-- the id of a record, not below this one, in hex digits with or without `0x`
+abbrev pub hex_id_of : ℕ → List ℕ → Option ℕ
+hex_id_of low text = within low 65534 (hex_of (if bytes_eq (take 2 text) (codes "0x") then drop 2 text else text))

@@ -1,15 +1,18 @@
 -- What a command line asks for: a function of the options and words that `clap` found, and of the table of commands. None if
 -- the line is refused.
-use Rattle.std.specs.Prelude.{ℕ, ◌≤◌, ◌==◌, ◌&&◌, Bool, false, not, is_some, List, [], ◌∷◌, Option, Some, None, ⊤, option_map, unwrap_or, codes, bytes_eq, count_by, drop, length, map, nat_le, nat_lt, take, IfSome, IsTrue, OnSome, if◌then◌else◌}
-use Rattle.std.specs.List.{after_first, before_first, find, list_any, position_or_len}
+use Rattle.std.specs.Prelude.{ℕ, ◌≤◌, ◌==◌, ◌&&◌, Bool, true, false, not, is_some, List, [], ◌∷◌, Option, Some, None, ⊤, option_map, unwrap_or, codes, bytes_eq, count_by, drop, length, map, nat_le, nat_lt, take, IfSome, IsTrue, OnSome, if◌then◌else◌}
+use Rattle.std.specs.List.{find, list_any}
+use Rattle.std.specs.Option.{option_or}
 use Rattle.clap.specs.Words.{Row, Text, first_of}
 use Rattle.ipmi_command_line.specs.Arguments.{free_words, has_value, is_given, is_taken, rows_of_words, values_of}
 use Rattle.ipmi_command_line.specs.Command.{IsTask, number_or, start_of_text}
 use Rattle.ipmi_command_line.specs.Commands.{RowState, row_of}
-use Rattle.ipmi_command_line.specs.Number.{decimal_of, hex_of, number_of, within}
+use Rattle.ipmi_command_line.specs.Filters.{after_byte, before_byte, choose_entries, filters_of, has_byte, no_filters, optional}
+use Rattle.ipmi_command_line.specs.Number.{decimal_of, hex_id_of, number_of, within}
 use Rattle.ipmi_command_line.specs.Table.{entries_of, oldest, task_of, task_of_four}
 use Rattle.ipmi_command_line.specs.Task.{takes_from}
 use Rattle.ipmi_command_line.specs.declared.commands.Verb.{Verb}
+use Rattle.ipmi_command_line.specs.declared.filters.Filters.{Filters}
 use Rattle.ipmi_command_line.specs.declared.request.Action.{Action}
 use Rattle.ipmi_command_line.specs.declared.request.Format.{Format}
 use Rattle.ipmi_command_line.specs.declared.request.Separator.{Separator}
@@ -18,7 +21,7 @@ use Rattle.ipmi_command_line.specs.declared.request.LiveTool.{LiveTool}
 use Rattle.ipmi_command_line.specs.declared.request.Request.{Request}
 use Rattle.ipmi_command_line.specs.declared.request.Source.{Source}
 use Rattle.ipmi_command_line.specs.declared.request.Topic.{Topic}
-use Rattle.ipmi_command_line.specs.declared.request.TheConstants.{FLAGS, VALUED}
+use Rattle.ipmi_command_line.specs.declared.request.TheConstants.{BESIDE_TYPES, FLAGS, VALUED}
 use Rattle.ipmi_command_line.specs.declared.task.Count.{Count}
 use Rattle.ipmi_command_line.specs.declared.task.Kind.{Kind}
 use Rattle.ipmi_command_line.specs.declared.task.Task.{Task}
@@ -40,16 +43,11 @@ pub record IsRequest (request : Request) : Type 0 where
 
 -- ---- values
 
--- hex digits with or without `0x`
-abbrev pub hex_id_of : Text → Option ℕ
-hex_id_of text = within 1 65534 (hex_of (if bytes_eq (take 2 text) (codes "0x") then drop 2 text else text))
-
 abbrev pub start_of : List Row → Option (Option ℕ)
 start_of rows = start_of_text (first_of (codes "from") rows)
 
 abbrev pub part_of_text : Option Text → Option (Option ℕ)
-part_of_text None = Some None
-part_of_text (Some text) = option_map (λ part. Some part) (within 1 254 (decimal_of text))
+part_of_text text = optional (λ text. within 1 254 (decimal_of text)) text
 
 abbrev pub with_limits : Option (Option ℕ) → Option ℕ → Option Limits
 with_limits (Some part) (Some tries) = Some (record { part = part; tries = tries })
@@ -66,26 +64,17 @@ tool_of name =
     if bytes_eq name (codes "ipmitool") then Some LiveTool.Ipmitool
     else (if bytes_eq name (codes "freeipmi") then Some LiveTool.FreeIpmi else None)
 
-abbrev pub has_colon : Text → Bool
-has_colon text = nat_lt (position_or_len (λ byte. byte == 58) text) (length text)
-
-abbrev pub before_colon : Text → Text
-before_colon text = before_first (λ byte. byte == 58) text
-
-abbrev pub after_colon : Text → Text
-after_colon text = after_first (λ byte. byte == 58) text
-
 -- FOLDER, or FOLDER:HOST
 abbrev pub live_at : LiveTool → Text → Source
 live_at tool place =
-    if has_colon place then Source.Live tool (before_colon place) (Some (after_colon place)) else Source.Live tool place None
+    if has_byte 58 place then Source.Live tool (before_byte 58 place) (Some (after_byte 58 place)) else Source.Live tool place None
 
 -- the tool's name, a colon, and where it is
 abbrev pub live_of : Text → Option Source
 live_of text =
-    if has_colon text
-    then (if length (after_colon text) == 0 then None
-    else option_map (λ tool. live_at tool (after_colon text)) (tool_of (before_colon text)))
+    if has_byte 58 text
+    then (if length (after_byte 58 text) == 0 then None
+    else option_map (λ tool. live_at tool (after_byte 58 text)) (tool_of (before_byte 58 text)))
     else None
 
 abbrev pub standard_inputs : List Text → ℕ
@@ -134,7 +123,7 @@ topic_of (word ∷ second ∷ words) =
 abbrev pub entry_of : List Text → Option Text → Option Task
 entry_of words None = task_of words
 entry_of words (Some id) =
-    if length words == 2 then option_map (λ id. Task.SelGet id) (hex_id_of id) else None
+    if length words == 2 then option_map (λ id. Task.SelGet id) (hex_id_of 1 id) else None
 
 -- `sel elist` takes what `sel list` takes
 abbrev pub events_of : List Text → Option Task
@@ -154,6 +143,8 @@ task_of_verb Verb.Task whole words id = task_of words
 task_of_verb Verb.GetEntry whole words id = entry_of words id
 task_of_verb Verb.DescribeEvents whole words id = events_of words
 task_of_verb Verb.TailEvents whole words id = tail_of words
+task_of_verb Verb.ListOfType whole words id = if length words == 3 then Some (Task.Elist Kind.All) else None
+task_of_verb Verb.ListOfEntity whole words id = if length words == 3 then Some (Task.Elist Kind.All) else None
 task_of_verb Verb.DescribeSensors whole words id = if whole then Some (Task.List Kind.Sensors) else None
 task_of_verb Verb.ListDevices whole words id = if whole then Some (Task.Fru None) else None
 task_of_verb _ whole words id = None
@@ -172,6 +163,11 @@ abbrev pub named_of : List Text → Option (Option ℕ) → Option Action
 named_of (a ∷ b ∷ name ∷ names) (Some from) = Some (Action.GetSensors (name ∷ names) from)
 named_of words from = None
 
+-- one name is a task
+abbrev pub records_named : List Text → List Row → Option Action
+records_named (a ∷ b ∷ name ∷ []) rows = option_map (λ from. Action.Print (Task.Get name) from) (start_of rows)
+records_named words rows = named_of words (start_of rows)
+
 abbrev pub capture_of : Bool → List Row → Option Action
 capture_of whole rows = if whole && (has_value (codes "live") rows && not (has_value (codes "from") rows))
     then Some (Action.Capture (first_of (codes "output") rows) (is_given (codes "quiet") rows) (is_given (codes "partial") rows))
@@ -183,6 +179,7 @@ rewrite_of whole rows = if whole && (not (has_value (codes "from") rows)
     then Some Action.Rewrite else None
 
 abbrev pub action_of_verb : Verb → RowState → List Text → List Row → Option Action
+action_of_verb Verb.GetRecords row words rows = records_named words rows
 action_of_verb Verb.GetSensors row words rows = named_of words (start_of rows)
 action_of_verb Verb.Capture row words rows = capture_of (length words == 1) rows
 action_of_verb Verb.Rewrite row words rows = rewrite_of (length words == 2) rows
@@ -204,13 +201,9 @@ among_values names options rows = find (λ name. has_value name rows && not (has
 abbrev pub among_flags : List Text → List Text → List Row → Option Text
 among_flags names options rows = find (λ name. is_given name rows && not (has_option options name)) names
 
-abbrev pub or_else : Option Text → Option Text → Option Text
-or_else None second = second
-or_else (Some first) second = Some first
-
 -- the first option that was given and is not among those of a command
 unfoldable pub misplaced : List Text → List Row → Option Text
-misplaced options rows = or_else (among_values (map (λ name. name.now) VALUED) options rows)
+misplaced options rows = option_or (among_values (map (λ name. name.now) VALUED) options rows)
     (among_flags (map (λ name. name.now) FLAGS) options rows)
 
 abbrev pub text_format : Verb → Format
@@ -255,6 +248,7 @@ format_of verb rows = format_by verb rows (separator_of (first_of (codes "separa
 abbrev pub short_request : Action → Request
 short_request action = record {
   action = action;
+  filters = no_filters;
   source = Source.Images [];
   records = None;
   limits = record { part = None; tries = 5 };
@@ -262,24 +256,57 @@ short_request action = record {
   strict = false;
 }
 
-abbrev pub with_parts : Option Action → Option Source → Option (Option Text) → Option Limits → Option Format → Bool → Option Request
-with_parts (Some action) (Some source) (Some records) (Some limits) (Some format) strict =
-    Some (record { action = action; source = source; records = records; limits = limits; format = format; strict = strict })
-with_parts action source records limits format strict = None
+abbrev pub with_parts : Option Action → Option Filters → Option Source → Option (Option Text) → Option Limits → Option Format → Bool
+    → Option Request
+with_parts (Some action) (Some filters) (Some source) (Some records) (Some limits) (Some format) strict = Some (record {
+  action = action;
+  filters = filters;
+  source = source;
+  records = records;
+  limits = limits;
+  format = format;
+  strict = strict;
+})
+with_parts action filters source records limits format strict = None
+
+-- a number of entries is to be printed
+abbrev pub counts_entries : Action → Bool
+counts_entries (Action.Print (Task.SelList Count.All) from) = false
+counts_entries (Action.Print (Task.SelList count) from) = true
+counts_entries action = false
+
+-- a number of entries has no filters
+abbrev pub fitting : Option Action → Option Filters → Option Filters
+fitting (Some action) (Some filters) = if counts_entries action && choose_entries filters then None else Some filters
+fitting action filters = filters
 
 -- each option that is given goes with the command
 abbrev pub request_of_row : RowState → List Text → List Row → Option Request
 request_of_row row words rows =
     if is_some (misplaced row.options rows) then None
-    else with_parts (action_of row words rows)
+    else with_parts (action_of row words rows) (fitting (action_of row words rows) (filters_of row.verb words rows))
     (source_of (values_of (codes "image") rows) (first_of (codes "live") rows)) (records_of rows) (limits_of rows)
     (format_of row.verb rows) (is_given (codes "strict") rows)
 
 abbrev pub request_of_help : List Text → Option Request
 request_of_help words = option_map (λ topic. short_request (Action.Help topic)) (help_of words)
 
+-- `sdr type`, or `sdr type list`
+abbrev pub asks_for_types : List Text → Bool
+asks_for_types (a ∷ b ∷ []) = true
+asks_for_types (a ∷ b ∷ c ∷ []) = bytes_eq c (codes "list")
+asks_for_types words = false
+
+-- only these options may stand beside a text that is always the same
+abbrev pub types_request : List Row → Option Request
+types_request rows =
+    if is_some (misplaced (map (λ name. name.now) BESIDE_TYPES) rows) then None
+    else Some (short_request (Action.Help Topic.SensorTypes))
+
 abbrev pub request_of_verb : Verb → RowState → List Text → List Row → Option Request
 request_of_verb Verb.Help row words rows = request_of_help words
+request_of_verb Verb.ListOfType row words rows =
+    if asks_for_types words then types_request rows else request_of_row row words rows
 request_of_verb verb row words rows = request_of_row row words rows
 
 abbrev pub request_of_command : RowState → List Text → List Row → Option Request

@@ -90,10 +90,15 @@ fn valued_options<'a>(alloc: Global) -> Result<Command<'a>, AllocError>
         .arg(option_rule(alloc, "records"))?
         .arg(option_rule(alloc, "id"))?
         .arg(option_rule(alloc, "separator"))?
+        .arg(option_rule(alloc, "type"))?
+        .arg(option_rule(alloc, "entity"))?
+        .arg(list_rule(alloc, "exclude"))?
+        .arg(option_rule(alloc, "since"))?
+        .arg(option_rule(alloc, "until"))?
         .arg(output_rule(alloc))
 }
 
-/// The command line: seventeen options, and any number of words.
+/// The command line: all options, and any number of words.
 fn command_line<'a>(alloc: Global) -> Result<Command<'a>, AllocError>
     ensures { IfOk result (λ c. app_of c ≡ command_line) }
 {
@@ -161,6 +166,11 @@ fn has_other_value(matches: &ArgMatches<'_>) -> bool
         || has_value(matches, "records")
         || has_value(matches, "id")
         || has_value(matches, "separator")
+        || has_value(matches, "type")
+        || has_value(matches, "entity")
+        || has_value(matches, "exclude")
+        || has_value(matches, "since")
+        || has_value(matches, "until")
         || has_value(matches, "output")
 }
 

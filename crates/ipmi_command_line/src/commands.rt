@@ -7,12 +7,18 @@ ghost use Rattle.ipmi_command_line.specs.Commands.{begins_with, row_among, row_o
 pub enum Verb {
     /// The task that its words name, as in the reference program.
     Task,
+    /// The blocks of the records with these names.
+    GetRecords,
     /// The block of an entry, whose id is a word, or the value of `--id`.
     GetEntry,
     /// Entries in descriptive words.
     DescribeEvents,
     /// The newest entries in descriptive words, without a walk of the whole log.
     TailEvents,
+    /// The sensors of a type, which is the word after its own. Without that word, the types.
+    ListOfType,
+    /// The records of an entity, which is the word after its own.
+    ListOfEntity,
     /// Sensors in descriptive words.
     DescribeSensors,
     /// The blocks of the sensors with these names, in descriptive words.
@@ -34,8 +40,10 @@ pub enum Operand {
     Nothing,
     /// A kind of sensor data records, or nothing.
     Kind,
-    /// A name.
-    Name,
+    /// A sensor type, or nothing.
+    SensorType,
+    /// An entity.
+    Entity,
     /// One or more names.
     Names,
     /// A number of entries, after `first`, `last` or nothing; or nothing.
@@ -73,6 +81,68 @@ const PRINTING: &[&str] = &[
     "strict",
 ];
 
+/// The options of commands that list sensor data records.
+const LISTING: &[&str] = &[
+    "image",
+    "live",
+    "records",
+    "json",
+    "csv",
+    "separator",
+    "label",
+    "strict",
+    "type",
+    "entity",
+    "id",
+    "exclude",
+];
+
+/// The options of the command that lists those of a sensor type.
+const LISTING_TYPE: &[&str] = &[
+    "image",
+    "live",
+    "records",
+    "json",
+    "csv",
+    "separator",
+    "label",
+    "strict",
+    "entity",
+    "id",
+    "exclude",
+];
+
+/// The options of the command that lists those of an entity.
+const LISTING_ENTITY: &[&str] = &[
+    "image",
+    "live",
+    "records",
+    "json",
+    "csv",
+    "separator",
+    "label",
+    "strict",
+    "type",
+    "id",
+    "exclude",
+];
+
+/// The options of commands that list entries of the event log.
+const LISTING_ENTRIES: &[&str] = &[
+    "image",
+    "live",
+    "records",
+    "json",
+    "csv",
+    "separator",
+    "label",
+    "strict",
+    "type",
+    "id",
+    "since",
+    "until",
+];
+
 /// The options of the command that prints one entry.
 const GETTING: &[&str] = &[
     "image",
@@ -96,27 +166,41 @@ const REWRITING: &[&str] = &["image", "strict"];
 const NONE: &[&str] = &[];
 
 /// The commands. A command comes before one whose words begin it.
-pub const COMMANDS: [CommandRow; 21] = [
+pub const COMMANDS: [CommandRow; 23] = [
     (
         &["sdr", "list"],
         Verb::Task,
         Operand::Kind,
-        PRINTING,
+        LISTING,
         "  sdr, sdr list [KIND]    a line for each sensor: name, reading, status\n",
     ),
     (
         &["sdr", "elist"],
         Verb::Task,
         Operand::Kind,
-        PRINTING,
+        LISTING,
         "  sdr elist [KIND]        the same with number and entity\n",
     ),
     (
+        &["sdr", "type"],
+        Verb::ListOfType,
+        Operand::SensorType,
+        LISTING_TYPE,
+        "  sdr type [TYPE]         sdr elist of the sensors of TYPE; the types\n",
+    ),
+    (
+        &["sdr", "entity"],
+        Verb::ListOfEntity,
+        Operand::Entity,
+        LISTING_ENTITY,
+        "  sdr entity ID[.N]       sdr elist of the records of this entity\n",
+    ),
+    (
         &["sdr", "get"],
-        Verb::Task,
-        Operand::Name,
+        Verb::GetRecords,
+        Operand::Names,
         PRINTING,
-        "  sdr get NAME            all about the sensor of this name\n",
+        "  sdr get NAME..          all about the sensors of these names\n",
     ),
     (
         &["sdr", "info"],
@@ -132,12 +216,12 @@ pub const COMMANDS: [CommandRow; 21] = [
         PRINTING,
         "  sdr hex                 each sensor data record as an image line (the default)\n",
     ),
-    (&["sdr"], Verb::Task, Operand::Nothing, PRINTING, ""),
+    (&["sdr"], Verb::Task, Operand::Nothing, LISTING, ""),
     (
         &["sensor", "list"],
         Verb::DescribeSensors,
         Operand::Nothing,
-        PRINTING,
+        LISTING,
         "  sensor, sensor list     a line for each sensor: states in words, thresholds\n",
     ),
     (
@@ -151,7 +235,7 @@ pub const COMMANDS: [CommandRow; 21] = [
         &["sensor"],
         Verb::DescribeSensors,
         Operand::Nothing,
-        PRINTING,
+        LISTING,
         "",
     ),
     (
@@ -165,14 +249,14 @@ pub const COMMANDS: [CommandRow; 21] = [
         &["sel", "list"],
         Verb::Task,
         Operand::Count,
-        PRINTING,
+        LISTING_ENTRIES,
         "  sel list [[first] N]    a line for each event, or for the N oldest\n  sel list last N         a line for each of the N newest events\n",
     ),
     (
         &["sel", "elist"],
         Verb::DescribeEvents,
         Operand::Count,
-        PRINTING,
+        LISTING_ENTRIES,
         "  sel elist ..            the same as sel list .., with names and in words\n",
     ),
     (

@@ -27,6 +27,8 @@ pub enum Hint<'a> {
     Quotes,
     /// A file.
     File,
+    /// The list of sensor types.
+    SensorTypes,
     /// A kind of sensor data records, without `list` before it.
     Kind(&'a str),
     /// An option whose first dash is typographic. What follows the dash.
@@ -44,8 +46,8 @@ pub enum UsageError<'a> {
     Line(String, Hint<'a>),
     /// No command has this word after these words.
     UnknownWord(&'a str, &'static [&'static str], Hint<'a>),
-    /// The word is no kind of sensor data record.
-    UnknownKind(&'a str, Hint<'a>),
+    /// The word is none that the operand may be.
+    WrongWord(&'a str, Operand, Hint<'a>),
     /// The command of these words lacks what follows them.
     Missing(&'static [&'static str], Operand),
     /// The command of these words takes no such word, or not so many.
@@ -76,6 +78,10 @@ pub enum UsageError<'a> {
     JsonAndCsv,
     /// There is `--separator` without `--csv`.
     SeparatorWithoutCsv,
+    /// There are both a number of entries and a filter.
+    CountAndFilter,
+    /// The time of `--since` is after that of `--until`.
+    SinceAfterUntil,
 }
 
 impl From<AllocError> for UsageError<'_> {
@@ -166,7 +172,9 @@ impl fmt::Display for Operand {
         let words = match self {
             Operand::Kind => return write_kinds(f),
             Operand::Nothing => "nothing",
-            Operand::Name | Operand::Names => "a NAME",
+            Operand::SensorType => "a sensor type, which is a name or a number from 0 to 255",
+            Operand::Entity => "an entity: ID or ID.INSTANCE, 0 to 255 and 0 to 127",
+            Operand::Names => "a NAME",
             Operand::Count => "a number from 0 to 65535",
             Operand::EntryCount => "a number from 1 to 65535",
             Operand::EntryId => "an ID from 1 to 65534",
@@ -215,6 +223,7 @@ impl fmt::Display for Hint<'_> {
             Hint::FirstRecord => f.write_str(": leave it out to begin with the first record"),
             Hint::Quotes => f.write_str(": quote a name that has spaces"),
             Hint::File => f.write_str(": a file comes after --image"),
+            Hint::SensorTypes => f.write_str(": for the names write serdimko sdr type"),
             Hint::Kind(kind) => write!(f, ": did you mean 'sdr list {kind}'?"),
             Hint::Dash(rest) if rest.len() == 1 => {
                 write!(
@@ -239,7 +248,12 @@ fn rule_of(option: &str) -> &'static str {
         "from" => "four hex digits from 0001 to FFFE",
         "part" => "a number from 1 to 254, decimal without leading zeros",
         "tries" => "a number from 0 to 255, decimal without leading zeros",
-        "id" => "a hex id of 1 to 4 digits, 1 to FFFE",
+        "id" => {
+            "a hex id from 1 to FFFE; a listing also takes ascending ranges and commas, as 0001-0005,000A"
+        }
+        "since" | "until" => {
+            "a date, or a time with Z or an offset, from 1970 to 2106: 2026-11-30 or 2026-11-30T12:00Z"
+        }
         "live" => "TOOL:FOLDER, which serdimko-live gives",
         "separator" => "comma or semicolon",
         _ => "KEY=VALUE, with a key that no object and no earlier label has",
@@ -252,8 +266,8 @@ impl fmt::Display for UsageError<'_> {
             UsageError::Memory => f.write_str("out of memory"),
             UsageError::Line(said, hint) => write!(f, "{}{hint}", Escaped(said.as_str())),
             UsageError::UnknownWord(word, after, hint) => write_unknown(f, word, after, hint),
-            UsageError::UnknownKind(word, hint) => {
-                write!(f, "'{}' is not {}{hint}", Escaped(word), Operand::Kind)
+            UsageError::WrongWord(word, operand, hint) => {
+                write!(f, "'{}' is not {operand}{hint}", Escaped(word))
             }
             UsageError::Missing(words, operand) => write!(f, "'{}' needs {operand}", Spaced(words)),
             UsageError::Extra(word, words, hint) => {
@@ -320,6 +334,9 @@ impl UsageError<'_> {
             UsageError::RecordsWithoutLive => "--records goes only with a live controller",
             UsageError::LabelInText => "--label goes only with --json or --csv",
             UsageError::JsonAndCsv => "--json does not go with --csv",
+            UsageError::SinceAfterUntil => "--since is later than --until",
+            UsageError::CountAndFilter =>
+                "a number of entries does not go with --type, --id, --since or --until",
             UsageError::SeparatorWithoutCsv => "--separator goes only with --csv",
             _ => "the command line can't be read: see serdimko --help",
         }

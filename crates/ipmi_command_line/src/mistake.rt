@@ -7,6 +7,7 @@ use crate::error::{Hint, UsageError, next_word};
 use crate::number::{digits, number};
 use crate::table::{KINDS, kind_of};
 use clap::Error;
+use ipmi_text::SENSOR_TYPES;
 use std::alloc::{AllocError, Global};
 use std::convert::AsStr;
 use strsim::osa_distance;
@@ -270,14 +271,24 @@ pub(crate) fn unknown_word<'a>(
 /// The word is no kind of record.
 fn unknown_kind<'a>(alloc: Global, word: &'a str) -> Result<UsageError<'a>, AllocError> {
     if is_file(word) {
-        return Ok(UsageError::UnknownKind(word, Hint::File));
+        return Ok(UsageError::WrongWord(word, Operand::Kind, Hint::File));
     }
     for (name, _) in &KINDS {
         if is_near(alloc, word, name)? {
-            return Ok(UsageError::UnknownKind(word, Hint::Word(*name)));
+            return Ok(UsageError::WrongWord(word, Operand::Kind, Hint::Word(*name)));
         }
     }
-    Ok(UsageError::UnknownKind(word, Hint::None))
+    Ok(UsageError::WrongWord(word, Operand::Kind, Hint::None))
+}
+
+/// The word is no sensor type.
+pub(crate) fn unknown_type<'a>(alloc: Global, word: &'a str) -> Result<UsageError<'a>, AllocError> {
+    for name in SENSOR_TYPES {
+        if is_near(alloc, word, name)? {
+            return Ok(UsageError::WrongWord(word, Operand::SensorType, Hint::Word(name)));
+        }
+    }
+    Ok(UsageError::WrongWord(word, Operand::SensorType, Hint::SensorTypes))
 }
 
 /// The word is no number that the operand may be.
@@ -369,10 +380,14 @@ pub(crate) fn word_error<'a>(
         }
         (_, []) => Ok(UsageError::Missing(own, operand)),
         (Operand::Kind, [word]) => unknown_kind(alloc, word),
-        (Operand::Name | Operand::Names, [_, word, ..]) => {
+        (Operand::Names | Operand::SensorType, [_, word, ..]) => {
             Ok(UsageError::Extra(word, own, Hint::Quotes))
         }
-        (Operand::Kind, [_, word, ..]) => Ok(UsageError::Extra(word, own, Hint::None)),
+        (Operand::Kind | Operand::Entity, [_, word, ..]) => Ok(UsageError::Extra(
+            word,
+            own,
+            Hint::None,
+        )),
         (_, [word, ..]) if own.len() == 1 && !matches!(own, ["capture"]) => unknown(
             alloc, word, own,
         ),

@@ -1,6 +1,8 @@
 //! Numbers on a command line.
 ghost use Rattle.std.specs.Prelude.{◌≡◌, ◌≤◌, ◌⊎◌, IfSome, Some};
-ghost use Rattle.ipmi_command_line.specs.Number.{decimal_of, digits_of, number_of, within};
+ghost use Rattle.ipmi_command_line.specs.Number.{decimal_of, digits_of, hex_id_of, number_of, within};
+
+use crate::command::LAST_ID;
 
 /// Reads digits of this radix as a number from `low` to `high`.
 pub(crate) fn digits(text: &str, radix: u32, low: u16, high: u16) -> Option<u16>
@@ -36,4 +38,16 @@ pub(crate) fn number(text: &str, low: u16, high: u16) -> Option<u16>
         Some(_) => None,
         None => decimal(text, low, high),
     }
+}
+
+/// The id of a record, from `low` on, in hex digits with or without `0x`, as listings print it.
+pub(crate) fn hex_id(text: &str, low: u16) -> Option<u16>
+    ensures value { result ≡ hex_id_of low text.now }
+    ensures range { IfSome result (λ id. (low ≤ id) × (id ≤ 65534)) }
+{
+    let text = text.strip_prefix("0x").unwrap_or(text);
+    if text.len() > 4 {
+        return None;
+    }
+    digits(text, 16, low, LAST_ID)
 }

@@ -4,15 +4,16 @@ ghost use Rattle.clap.specs.Words.{first_of, found_of, rows_of};
 ghost use Rattle.ipmi_command_line.specs.Arguments.{values_of};
 ghost use Rattle.ipmi_command_line.specs.Command.{IsTask, number_or, start_of_text};
 ghost use Rattle.ipmi_command_line.specs.Commands.{row_of, row_state, texts};
-ghost use Rattle.ipmi_command_line.specs.Request.{action_of, among_flags, among_values, capture_of, entry_of, events_of, format_of, hex_id_of, help_of, IsRequest, IsAction, has_option, limits_of, live_at, live_of, misplaced, named_of, part_of_text, printed_of, records_of, request_of, request_of_command, request_of_help, request_of_row, request_of_rows, request_of_words, rewrite_of, separator_of, short_request, source_of, standard_inputs, start_of, tail_of, task_of_row, text_format, tool_of, topic_named, topic_of};
+ghost use Rattle.ipmi_command_line.specs.Request.{action_of, among_flags, among_values, capture_of, entry_of, events_of, format_of, help_of, IsRequest, IsAction, has_option, limits_of, live_at, live_of, misplaced, named_of, part_of_text, printed_of, records_named, records_of, request_of, request_of_command, request_of_help, request_of_row, request_of_rows, request_of_words, rewrite_of, separator_of, short_request, asks_for_types, counts_entries, fitting, types_request, source_of, standard_inputs, start_of, tail_of, task_of_row, text_format, tool_of, topic_named, topic_of};
 ghost use Rattle.ipmi_command_line.specs.declared.error.UsageError.{UsageError};
 
 use crate::arguments::{arguments, has_value, is_given, value, value_count};
-use crate::command::{DEFAULT_TRIES, FIRST_ID, LAST_ID, number_or, start_of_text};
+use crate::command::{DEFAULT_TRIES, FIRST_ID, number_or, start_of_text};
 use crate::commands::{CommandRow, Verb, row_of};
 use crate::error::UsageError;
+use crate::filters::{Filters, filters_of};
 use crate::mistake::{misplaced_option, refused, unknown_word, value_error, word_error};
-use crate::number::{decimal, digits, number};
+use crate::number::{decimal, hex_id, number};
 use crate::table::{oldest, task_of, task_of_four};
 use crate::task::{Count, Kind, Task};
 use crate::words::{Word, Words};
@@ -39,6 +40,8 @@ pub enum Topic {
     Capture,
     /// `image`.
     Image,
+    /// The sensor types that have names.
+    SensorTypes,
 }
 
 /// What is to be done.
@@ -119,6 +122,8 @@ pub enum Format {
 pub struct Request {
     /// What is to be done.
     pub action: Action,
+    /// Which records a listing prints.
+    pub filters: Filters,
     /// Where the records come from.
     pub source: Source,
     /// The image whose sensor data records stand for those of a live controller, if these are still the same.
@@ -132,18 +137,6 @@ pub struct Request {
 }
 
 // ---- values
-
-/// The id in hex digits, with or without `0x`, as listings print it.
-fn hex_id(text: &str) -> Option<u16>
-    ensures value { result ≡ hex_id_of text.now }
-    ensures range { IfSome result (λ id. (1 ≤ id) × (id ≤ 65534)) }
-{
-    let text = text.strip_prefix("0x").unwrap_or(text);
-    if text.len() > 4 {
-        return None;
-    }
-    digits(text, 16, FIRST_ID, LAST_ID)
-}
 
 /// The id to start from.
 fn start_of<'a>(matches: &ArgMatches<'a>) -> Result<Option<u16>, UsageError<'a>>
@@ -209,7 +202,11 @@ fn copies(alloc: Global, words: &[&str]) -> Result<Words, AllocError>
 
 /// Copies of all values of an option that may come several times.
 #[tactic(auto, using(crate::proofs::ArgumentLemmas::values_are))]
-fn copies_of(alloc: Global, matches: &ArgMatches<'_>, name: &str) -> Result<Words, AllocError>
+pub(crate) fn copies_of(
+    alloc: Global,
+    matches: &ArgMatches<'_>,
+    name: &str,
+) -> Result<Words, AllocError>
     ensures { IfOk result (λ copies. copies ≡ values_of name.now (rows_of (found_of matches.now))) }
 {
     copies(alloc, matches.get_strs(name).unwrap_or(&[]))
@@ -358,7 +355,7 @@ fn entry_of(alloc: Global, words: &[&str], id: Option<&str>) -> Result<Option<Ta
     if words.len() != 2 {
         return Ok(None);
     }
-    Ok(hex_id(id).map(Task::SelGet))
+    Ok(hex_id(id, FIRST_ID).map(Task::SelGet))
 }
 
 /// `sel elist` and how many entries.
@@ -407,6 +404,9 @@ fn task_of_row(
         Verb::GetEntry => entry_of(alloc, words, id),
         Verb::DescribeEvents => Ok(events_of(words)),
         Verb::TailEvents => Ok(tail_of(words)),
+        Verb::ListOfType | Verb::ListOfEntity if words.len() == 3 => {
+            Ok(Some(Task::Elist(Kind::All)))
+        }
         Verb::DescribeSensors if is_whole => Ok(Some(Task::List(Kind::Sensors))),
         Verb::ListDevices if is_whole => Ok(Some(Task::Fru(None))),
         _ => Ok(None),
@@ -434,6 +434,25 @@ fn printed_of<'a>(
         return Err(UsageError::Misplaced("from", row.0));
     }
     Ok(Action::Print(task, from))
+}
+
+/// Prints the records with the names after the first two words. One name is a task.
+fn records_named<'a>(
+    alloc: Global,
+    row: &CommandRow,
+    words: &[&'a str],
+    matches: &ArgMatches<'a>,
+) -> Result<Action, UsageError<'a>>
+    ensures value { let meant = records_named (texts words.now) (rows_of (found_of matches.now)) in
+        MatchResult result (λ action. meant ≡ Some action) (λ e. (e ≡ UsageError.Memory) ⊎ (meant ≡ None)) }
+    ensures range { IfOk result IsAction }
+{
+    if words.len() != 3 {
+        return named_of(alloc, row, words, matches);
+    }
+    let from = start_of(matches)?;
+    let name = Word::new(alloc, words[2])?;
+    Ok(Action::Print(Task::Get(name), from))
 }
 
 /// Prints the sensors with the names after the first two words.
@@ -519,6 +538,7 @@ fn action_of<'a>(
     ensures range { IfOk result IsAction }
 {
     match row.1 {
+        Verb::GetRecords => records_named(alloc, row, words, matches),
         Verb::GetSensors => named_of(alloc, row, words, matches),
         Verb::Capture => capture_of(alloc, row, words, matches),
         Verb::Rewrite => rewrite_of(alloc, row, words, matches),
@@ -529,13 +549,18 @@ fn action_of<'a>(
 // ---- options
 
 /// The options with a value that go with some commands only.
-pub const VALUED: [&str; 7] = [
+pub const VALUED: [&str; 12] = [
     "image",
     "label",
     "live",
     "records",
     "id",
     "separator",
+    "type",
+    "entity",
+    "exclude",
+    "since",
+    "until",
     "output",
 ];
 
@@ -656,6 +681,7 @@ fn short_request(alloc: Global, action: Action) -> Request
 {
     Request {
         action,
+        filters: Filters::new(alloc),
         source: Source::Images(Words::new(alloc)),
         records: None,
         limits: Limits {
@@ -665,6 +691,28 @@ fn short_request(alloc: Global, action: Action) -> Request
         format: Format::Plain,
         strict: false,
     }
+}
+
+/// Whether a number of entries is to be printed.
+fn counts_entries(action: &Action) -> bool
+    ensures { result ≡ counts_entries action.now }
+{
+    match action {
+        Action::Print(Task::SelList(Count::All), _) => false,
+        Action::Print(Task::SelList(_), _) => true,
+        _ => false,
+    }
+}
+
+/// The filters of a command that does this. A number of entries has none, as it would count what they leave out.
+fn fitting<'a>(action: &Action, filters: Filters) -> Result<Filters, UsageError<'a>>
+    ensures { MatchResult result (λ fits. fitting (Some action.now) (Some filters) ≡ Some fits)
+        (λ _. fitting (Some action.now) (Some filters) ≡ None) }
+{
+    if counts_entries(action) && filters.choose_entries() {
+        return Err(UsageError::CountAndFilter);
+    }
+    Ok(filters)
 }
 
 /// The request of a command that reads records.
@@ -682,12 +730,14 @@ fn request_of_row<'a>(
         return Err(misplaced_option(row, name));
     }
     let action = action_of(alloc, row, words, matches)?;
+    let filters = fitting(&action, filters_of(alloc, row.1, words, matches)?)?;
     let source = source_of(alloc, matches)?;
     let records = records_of(alloc, matches)?;
     let limits = limits_of(matches)?;
     let format = format_of(alloc, row.1, matches)?;
     Ok(Request {
         action,
+        filters,
         source,
         records,
         limits,
@@ -708,6 +758,38 @@ fn request_of_help<'a>(alloc: Global, words: &[&'a str]) -> Result<Request, Usag
     }
 }
 
+/// Whether the words of `sdr type` ask for the types.
+#[tactic(auto, using(crate::proofs::CommandLemmas::asks))]
+fn asks_for_types(words: &[&str]) -> bool
+    ensures { result ≡ asks_for_types (texts words.now) }
+{
+    match words {
+        [] | [_] => false,
+        [_, _] => true,
+        [_, _, word] => *word == "list",
+        _ => false,
+    }
+}
+
+/// The options that may stand beside a text that is always the same.
+const BESIDE_TYPES: [&str; 4] = ["image", "live", "records", "strict"];
+
+/// The request for the names of sensor types.
+fn types_request<'a>(
+    alloc: Global,
+    row: &CommandRow,
+    matches: &ArgMatches<'a>,
+) -> Result<Request, UsageError<'a>>
+    ensures value { let meant = types_request (rows_of (found_of matches.now)) in
+        MatchResult result (λ request. meant ≡ Some request) (λ e. (e ≡ UsageError.Memory) ⊎ (meant ≡ None)) }
+    ensures range { IfOk result IsRequest }
+{
+    if let Some(name) = misplaced(&BESIDE_TYPES, matches) {
+        return Err(misplaced_option(row, name));
+    }
+    Ok(short_request(alloc, Action::Help(Topic::SensorTypes)))
+}
+
 /// The request of a command.
 fn request_of_command<'a>(
     alloc: Global,
@@ -721,6 +803,7 @@ fn request_of_command<'a>(
 {
     match row.1 {
         Verb::Help => request_of_help(alloc, words),
+        Verb::ListOfType if asks_for_types(words) => types_request(alloc, row, matches),
         _ => request_of_row(alloc, row, words, matches),
     }
 }

@@ -10,6 +10,7 @@ mod device_lines;
 mod devices;
 mod entry_types;
 mod faults_at_calls;
+mod filtered;
 mod found_sensors;
 mod growing;
 mod image_faults;

@@ -7,8 +7,8 @@ use Rattle.std.proofs.lemmas.List.Folds.{list_any_at}
 use Rattle.ipmi_records.specs.Sdr.{name_of}
 use Rattle.ipmi_commands.specs.Below.{known, Done, Failure, Place, place_after, Row, SdrFault, SdrView, sdr_view_of, Store}
 use Rattle.ipmi_commands.specs.Output.{and_then, no_output, Output, piece_of}
-use Rattle.ipmi_commands.specs.Prelude.{AreTexts, Detail, Form, IfChosen, IsTextOfRecord, IsBlockOfName, is_name, IsPieceOver, reading_for, row_items, rows_end, some_has_name, WritesPiece}
-use Rattle.ipmi_commands.specs.Sensors.{AreBlocks, BlocksAreOfListing, Found, found_among, found_row, has_one_of, IsBlockOfFound, IsPieceOfFound, reading_in, PrintsBlocks, PrintsFirst, PrintsFound}
+use Rattle.ipmi_commands.specs.Prelude.{has_one_of, AreTexts, Detail, Form, IfChosen, IsTextOfRecord, IsBlockOfName, is_name, IsPieceOver, reading_for, row_items, rows_end, some_has_name, WritesPiece}
+use Rattle.ipmi_commands.specs.Sensors.{AreBlocks, BlocksAreOfListing, Found, found_among, found_row, IsBlockOfFound, IsPieceOfFound, reading_in, PrintsBlocks, PrintsFirst, PrintsFound}
 use Rattle.ipmi_commands.proofs.NameLemmas.{HasItems, name_counted}
 use Rattle.ipmi_commands.proofs.OutputLemmas.{nothing_then, then_assoc, then_nothing}
 use Rattle.ipmi_commands.specs.Format.{Texts}

@@ -2,7 +2,7 @@
 use Rattle.std.proofs.Common.{◌≡◌, ℕ, suc, Bool, true, false, cond, nat_eq, Option, None, Some, Result, Ok, Err, List, [], ◌∷◌, All, refl, arith}
 use Rattle.ipmi_bus.specs.Store.{Inventory, IsInventory, inventory_in}
 use Rattle.ipmi_commands.specs.Below.{known, AreBytes, fru_of, Row, Store, IsStore, inventory_of, SdrFault, SdrView, printed_name, sdr_view_of, sel_view_of}
-use Rattle.ipmi_commands.specs.Prelude.{Detail, Form, IfChosen, IsBlockOfName, IsDevicePiece, IsLocatorPiece, IsRecordText, IsRowText, IsTextOver, is_faulty, ItemsHaveAText, OfInfo, OfInventory, OfRow, reading_for, row_is_of_kind, Subject, Texts, TextsExist}
+use Rattle.ipmi_commands.specs.Prelude.{Detail, Form, IfChosen, IsBlockOfName, IsDevicePiece, IsLocatorPiece, IsRecordText, IsRowText, IsTextOver, is_faulty, ItemsHaveAText, OfInfo, OfInventory, OfRow, reading_for, selects, selects_entry, Subject, Texts, TextsExist}
 use Rattle.ipmi_commands.specs.Output.{no_output, piece_of}
 
 -- there is such a text
@@ -55,10 +55,11 @@ module _ {x : Texts} (exist : TextsExist x) where
   has_row : (form : Form) (store : Store) (row : Row) → IsStore store → HasText (IsRowText x store form row)
   has_row Form.Hex store row ok = exist.has_hex row
   has_row Form.Bytes store row ok = (_, refl)
-  has_row (Form.Record detail kind) store row ok = has_chosen (row_is_of_kind kind row) _ (has_record detail store row (sdr_view_of row.bytes))
+  has_row (Form.Record detail selection) store row ok = has_chosen (selects selection row) _ (has_record detail store row (sdr_view_of row.bytes))
   has_row (Form.Block name) store row ok = has_block_of_name name store row.id (sdr_view_of row.bytes)
   has_row Form.Device store row ok = has_locator store (sdr_view_of row.bytes) ok
-  has_row (Form.Entry entries) store row ok = exist.has_entry entries.detail row.id (sel_view_of row.bytes) entries.sensors
+  has_row (Form.Entry entries) store row ok = has_chosen (selects_entry entries.selection row) _
+      (exist.has_entry entries.selection.detail row.id (sel_view_of row.bytes) entries.sensors)
   has_row Form.Skipped store row ok = (_, refl)
 
   has_item : (store : Store) (subject : Subject) → IsStore store → HasText (IsTextOver x store subject)

@@ -8,7 +8,7 @@ use Rattle.ipmi_bus.proofs.StepsLaws.{steps_follow}
 use Rattle.ipmi_commands.specs.Below.{CursorState, Done, First, Ended, EndsBy, Ending, Failure, handed_out, IsHonest, IsStep, IsWalk, OnGrowing, Place, place_after, place_after_rows, Row, rows_of, sel_view_of, Seen, seen_after, Sel, Shelf, start_of, stays_refl, Store, WalkEnd}
 use Rattle.ipmi_commands.specs.declared.kept.KeptEntry.{KeptEntry}
 use Rattle.ipmi_commands.specs.declared.limits.RequestLimits.{RequestLimits}
-use Rattle.ipmi_commands.specs.Kept.{kept_row, kept_rows, Keeps, KeepsByCursor, KeepsEntries, last_of, PrintsKept}
+use Rattle.ipmi_commands.specs.Kept.{IsKeptText, kept_row, kept_rows, Keeps, KeepsByCursor, KeepsEntries, last_of, PrintsKept}
 use Rattle.ipmi_commands.specs.Output.{Output, piece_of}
 use Rattle.ipmi_commands.specs.Prelude.{AtEnd, cause_of, change, ending_of, EndsFor, EndsListing, EndsPrinting, EntryText, FindsIt, Change, Form, IsAllowed, IsAmong, IsFresh, IsPieceOver, IsTextWhile, Item, Job, last_plan, last_rows, ListsHonestly, most_on_walk, next_points, OfRow, OnWalk, Plan, points_at_walk_end, PrintsAfter, ReadError, ReadPoint, row_items, Runs, TracesListing, walk_call_bound, WritesPiece}
 use Rattle.ipmi_commands.specs.declared.limits.Tries.{Tries}
@@ -230,14 +230,14 @@ module _ (x : Texts) (entries : EntryText) where
 
   -- one line, or a part of it
   pub line_printed : (entry : KeptEntry) (line : List ℕ) (old new : Output) (ending : Ending)
-      → x.IsEntry entries.detail entry.id (sel_view_of entry.bytes) entries.sensors line → WritesPiece (piece_of line false) old new ending
+      → IsKeptText x entries entry line → WritesPiece (piece_of line false) old new ending
       → PrintsKept x entries (entry ∷ []) old new ending
   line_printed entry line old new ending is_line writes store [] start points is = cc is
   line_printed entry line old new ending is_line writes store (row ∷ (other ∷ rows)) start points is = cc is
   line_printed entry line old new ending is_line writes store (row ∷ []) start points is =
       let same : kept_row row ≡ entry = cc is in
       let text : IsPieceOver x store (OfRow (Form.Entry entries) row) (piece_of line false) =
-      record { is_text = subst (λ (e : KeptEntry). x.IsEntry entries.detail e.id (sel_view_of e.bytes) entries.sensors line) (sym same) is_line; counted = refl } in
+      record { is_text = subst (λ (e : KeptEntry). IsKeptText x entries e line) (sym same) is_line; counted = refl } in
       by ending writes text
     where
       by : (e : Ending) → WritesPiece (piece_of line false) old new e

@@ -157,7 +157,7 @@ locator_keeps (Ok view) s s' keeps = device_keeps (sdr.fru_of view) s s' keeps
 locator_keeps (Err fault) s s' keeps = tt
 
 row_keeps : (form : Form) (row : Row) (s s' : Seen) → KeepsFor form s s' → KeepsAt (points_because_of form row) s s'
-row_keeps (Form.Record detail kind) row s s' keeps = if_keeps _ (reading_points row.id (sdr_view_of row.bytes)) s s' (reading_keeps row.id (sdr_view_of row.bytes) s s')
+row_keeps (Form.Record detail selection) row s s' keeps = if_keeps _ (reading_points row.id (sdr_view_of row.bytes)) s s' (reading_keeps row.id (sdr_view_of row.bytes) s s')
 row_keeps (Form.Block name) row s s' keeps = named_keeps name row.id (sdr_view_of row.bytes) s s'
 row_keeps Form.Device row s s' keeps = locator_keeps (sdr_view_of row.bytes) s s' keeps
 row_keeps _ row s s' keeps = tt

@@ -6,7 +6,7 @@ use Rattle.std.proofs.lemmas.Nat.{mul-le}
 use Rattle.ipmi_commands.specs.Below.{AllOf, Count, CycleAt, device_name, Done, Ending, EndsBy, Failure, First, FoundIsRow, IsHonest, IsShelf, IsStore, IsWalk, is_whole_record, MissingAt, OnGrowing, Place, place_after, records_in, Row, rows_of, Sdr, Seen, stays_refl, Store, WalkEnd}
 use Rattle.ipmi_commands.specs.Named.{end_after, ending_then, listed_end, PrintsDevices, PrintsPlan, walk_of}
 use Rattle.ipmi_commands.specs.declared.named.RecordsEnd.{RecordsEnd}
-use Rattle.ipmi_commands.specs.Prelude.{after_names, AreTexts, AtEnd, AtInventory, bytes_of_rows, calls_for_devices, calls_for_point, inventories_plan, WritesRecords, WritesWhole, walk_call_bound, entries_job, keeping_last, OnEntries, Cause, cause_of, Change, change, Dishonest, end_after_names, ending_of, end_points_of_last, EndsNamed, EndsFor, EndsListing, EntryText, named_entries, Form, GaveUp, HasFirstItems, IsAllowed, IsAmong, IsPage, IsPieceOver, IsTextWhile, Item, Job, Leaves, listing, listing_plan, MayEnd, most_calls, most_named, most_on_walk, NameLookup, next_points, NoMemory, NoOutput, OfRow, OnNamed, FollowsPlan, Plan, Printed, Refused, row_items, rows_end, Runs, ReadPoint, points_at_walk_end, points_before, points_of_walk, Subject, TracesJob, with_first_points, inventory_call_bound}
+use Rattle.ipmi_commands.specs.Prelude.{SelectedEntries, after_names, AreTexts, AtEnd, AtInventory, bytes_of_rows, calls_for_devices, calls_for_point, inventories_plan, WritesRecords, WritesWhole, walk_call_bound, entries_job, keeping_last, OnEntries, Cause, cause_of, Change, change, Dishonest, end_after_names, ending_of, end_points_of_last, EndsNamed, EndsFor, EndsListing, EntryText, named_entries, Form, GaveUp, HasFirstItems, IsAllowed, IsAmong, IsPage, IsPieceOver, IsTextWhile, Item, Job, Leaves, listing, listing_plan, MayEnd, most_calls, most_named, most_on_walk, NameLookup, next_points, NoMemory, NoOutput, OfRow, OnNamed, FollowsPlan, Plan, Printed, Refused, row_items, rows_end, Runs, ReadPoint, points_at_walk_end, points_before, points_of_walk, Subject, TracesJob, with_first_points, inventory_call_bound}
 use Rattle.ipmi_commands.specs.Output.{no_output, Output}
 use Rattle.ipmi_commands.specs.declared.limits.Tries.{Tries}
 use Rattle.ipmi_commands.proofs.CountLemmas.{between, ends_here, ends_since}
@@ -88,18 +88,18 @@ named_all records end tries store Holds (NameLookup.Events detail count from) ho
     entries_all (named_entries detail (bytes_of_rows records)) from tries store Holds count holds
 named_all records end tries store Holds NameLookup.Devices holds = holds _ _
 
-entries_calls : (detail : Detail) (entries : EntryText) (count : Count) (from : Option ℕ) (tries : Tries)
+entries_calls : (detail : SelectedEntries) (entries : EntryText) (count : Count) (from : Option ℕ) (tries : Tries)
     → most_calls (keeping_last (entries_job entries count from)) tries ≤ most_named (NameLookup.Events detail count from) tries
 entries_calls detail entries Count.All from tries = omega arith
 entries_calls detail entries (Count.First n) from tries = omega arith
 entries_calls detail entries (Count.Last n) from tries = omega arith
 entries_calls detail entries (Count.Tail n) from tries = omega arith
 
-pub entries_end : (detail : Detail) (entries : EntryText) (count : Count) (from : Option ℕ) (seen : Seen) (ending : Ending)
+pub entries_end : (detail : SelectedEntries) (entries : EntryText) (count : Count) (from : Option ℕ) (seen : Seen) (ending : Ending)
     → EndsListing (Form.Entry entries) seen ending → EndsNamed (NameLookup.Events detail count from) seen ending
 entries_end detail entries count from seen ending ends = grind arith
 
-entries_may : (x : Texts) → (detail : Detail) (entries : EntryText) (count : Count) (from : Option ℕ) (c : Change) (ending : Ending)
+entries_may : (x : Texts) → (detail : SelectedEntries) (entries : EntryText) (count : Count) (from : Option ℕ) (c : Change) (ending : Ending)
     → MayEnd x (keeping_last (entries_job entries count from)) c ending → EndsNamed (NameLookup.Events detail count from) c.seen' ending
 entries_may x detail entries Count.All from c ending ends = entries_end detail entries Count.All from c.seen' ending ends
 entries_may x detail entries (Count.First n) from c ending ends = entries_end detail entries (Count.First n) from c.seen' ending ends
@@ -236,7 +236,7 @@ module _ (x : Texts) (tries : Tries) (s s' : Seen) (kept : Output) (named : Name
 
 -- ---- after the walk
 
-pub then_ends : (detail : Detail) (count : Count) (from : Option ℕ) (seen : Seen) (ending : Ending) (walked : RecordsEnd)
+pub then_ends : (detail : SelectedEntries) (count : Count) (from : Option ℕ) (seen : Seen) (ending : Ending) (walked : RecordsEnd)
     → EndsNamed (NameLookup.Events detail count from) seen ending → EndsNamed (NameLookup.Events detail count from) seen (ending_then ending walked)
 then_ends detail count from seen ending walked ends = grind arith
 
@@ -313,7 +313,7 @@ devices_allowed IsText records end old new ending allowed =
 -- ---- after the walk of the records
 
 -- the walk of the records, over an honest controller
-module _ (x : Texts) (look_row : FoundIsRow) (split : RecordsAreFound) (tries : Tries) (s s' s'' : Seen) (kept old new : Output) (detail : Detail)
+module _ (x : Texts) (look_row : FoundIsRow) (split : RecordsAreFound) (tries : Tries) (s s' s'' : Seen) (kept old new : Output) (detail : SelectedEntries)
     (result : Result Place Failure) (walked : RecordsEnd) (is : walk_of result ≡ Ok walked)
     (page_of : IsHonest s → IsPage plain_texts Form.Bytes First tries None (change s s' no_output kept) result) where
   abbrev read_ends : IsHonest s → EndsFor tries (IsTrue s.plain) s s' AtEnd

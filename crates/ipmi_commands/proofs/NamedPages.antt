@@ -3,7 +3,7 @@ use Rattle.std.proofs.Common.{inl, ℕ, ◌+◌, ◌*◌, ◌≤◌, IsTrue, Opt
 use Rattle.ipmi_commands.specs.Below.{Count, Ending, Failure, FoundIsRow, IsHonest, Place, records_in, Seen, start_of, TailIsWalk}
 use Rattle.ipmi_commands.specs.Named.{ending_then, ReadsRecords}
 use Rattle.ipmi_commands.specs.declared.named.RecordsEnd.{RecordsEnd}
-use Rattle.ipmi_commands.specs.Prelude.{IsPieceOver, ArePages, bytes_of_rows, cause_of, change, ending_of, EndsListing, named_entries, entries_with, Form, listing, listing_plan, most_on_walk, NameLookup, pages_made, RunsNamedInPages}
+use Rattle.ipmi_commands.specs.Prelude.{SelectedEntries, IsPieceOver, ArePages, bytes_of_rows, cause_of, change, ending_of, EndsListing, named_entries, entries_with, Form, listing, listing_plan, most_on_walk, NameLookup, pages_made, RunsNamedInPages}
 use Rattle.ipmi_commands.specs.Output.{no_output, Output}
 use Rattle.ipmi_commands.specs.declared.limits.Tries.{Tries}
 use Rattle.ipmi_commands.proofs.CountLemmas.{between, ends_since}
@@ -22,7 +22,7 @@ no_pages x form start tries [] s text h =
 no_pages x form start tries (size ∷ sizes) s text h =
     inl (Failure.OutOfMemory, refl, page_without_memory x form start tries (Some size) s text h)
 
-module _ (x : Texts) (tries : Tries) (s s' : Seen) (kept : Output) (detail : Detail) (from : Option ℕ)
+module _ (x : Texts) (tries : Tries) (s s' : Seen) (kept : Output) (detail : SelectedEntries) (from : Option ℕ)
     (sizes : List ℕ) where
   -- the walk of the records ended the run before an entry was asked for
   pub pages_failed : (text : Output) (failure : Failure)

@@ -5,7 +5,7 @@ use Rattle.ipmi_commands.specs.Named.{end_after, listed_end, walk_of}
 use Rattle.ipmi_commands.specs.declared.named.RecordsEnd.{RecordsEnd}
 use Rattle.ipmi_commands.specs.Run.{EndsInfo}
 use Rattle.ipmi_commands.specs.Output.{Output}
-use Rattle.ipmi_commands.specs.Prelude.{Change, end_of, ending_of, EndsListing, EndsNamed, EntryText, entries_job, Form, keeping_last, MayEnd, NameLookup, RetriesParts, RunsNamedInPages, Tries, WritesPiece}
+use Rattle.ipmi_commands.specs.Prelude.{SelectedEntries, Change, end_of, ending_of, EndsListing, EndsNamed, EntryText, entries_job, Form, keeping_last, MayEnd, NameLookup, RetriesParts, RunsNamedInPages, Tries, WritesPiece}
 use Rattle.ipmi_commands.specs.Format.{Texts}
 use Rattle.ipmi_commands.specs.declared.format.Detail.{Detail}
 
@@ -24,7 +24,7 @@ module _ (tries : Tries) (S : Seen → Type 0) (seen : Seen) where
   entries_spare entries ending ends = listing_spares (Form.Entry entries) ending (λ is. cc is) ends
 
   -- entries with names
-  pub events_spare : (detail : Detail) (count : Count) (from : Option ℕ) (ending : Ending)
+  pub events_spare : (detail : SelectedEntries) (count : Count) (from : Option ℕ) (ending : Ending)
       → EndsNamed (NameLookup.Events detail count from) seen ending → RetriesParts tries S seen ending
   events_spare detail count from (Err (Failure.Inventory id FruEnded.GaveUp)) ends = absurd (cc ends.0)
   events_spare detail count from ending ends = grind arith
@@ -70,6 +70,6 @@ job_spares x tries S entries (Count.Last n) from c ending ends = entries_spare t
 job_spares x tries S entries (Count.Tail n) from c ending ends = entries_spare tries S c.seen' entries ending ends
 
 -- entries with names in pages
-pub pages_spare : (x : Texts) → {detail : Detail} {from : Option ℕ} {sizes : List ℕ} {c : Change} {ending : Ending} (tries : Tries) (S : Seen → Type 0)
+pub pages_spare : (x : Texts) → {detail : SelectedEntries} {from : Option ℕ} {sizes : List ℕ} {c : Change} {ending : Ending} (tries : Tries) (S : Seen → Type 0)
     → RunsNamedInPages x detail from tries sizes c ending → RetriesParts tries S c.seen' ending
 pages_spare x {detail = detail} {from = from} {c = c} {ending = ending} tries S runs = events_spare tries S c.seen' detail Count.All from ending runs.ends

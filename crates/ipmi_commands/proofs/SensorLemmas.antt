@@ -10,9 +10,9 @@ use Rattle.ipmi_bus.proofs.HeldLemmas.{held_at_last, held_in_first}
 use Rattle.ipmi_bus.proofs.StepsLaws.{steps_follow}
 use Rattle.ipmi_bus.proofs.WalkLemmas.{all_at_end}
 use Rattle.ipmi_commands.specs.Below.{AreSteps, cursor_after, CursorHoldsCurrent, CursorState, Done, CycleAt, MissingAt, End, Ended, EndsBy, Ending, Failure, First, first_row, handed_out, Id, IsHonest, IsLog, IsStep, IsWalk, last_next, OnGrowing, OnlyGrew, Place, place_after, place_after_rows, Reading, Row, rows_of, Sdr, SdrFault, SdrView, sdr_view_of, Seen, seen_after, Shelf, StandsAt, start_of, StaysHonest, StepIsHonest, Stepped, stays_refl, stays_trans, store_shelf, Store, WalkEnd, WalkStep, WasHeld, WasLog, with_handed}
-use Rattle.ipmi_commands.specs.Prelude.{AsksAt, AtEnd, calls_for_points, Cause, cause_of, cause_of_unread, EndsFor, failure_of, FindsIt, FindsNone, Form, IsFresh, is_name, IsOnWalk, KeepsAt, most_after, most_for_one, NoMemory, OnEachWalk, OnWalk, points_because_of, walk_call_bound, reading_for, reading_points, shelf_of, ReadPoint, ReadError}
+use Rattle.ipmi_commands.specs.Prelude.{has_one_of, AsksAt, AtEnd, calls_for_points, Cause, cause_of, cause_of_unread, EndsFor, failure_of, FindsIt, FindsNone, Form, IsFresh, is_name, IsOnWalk, KeepsAt, most_after, most_for_one, NoMemory, OnEachWalk, OnWalk, points_because_of, walk_call_bound, reading_for, reading_points, shelf_of, ReadPoint, ReadError}
 use Rattle.ipmi_records.specs.Sdr.{name_of}
-use Rattle.ipmi_commands.specs.Sensors.{AddsNamed, AreFoundWhile, AreNamed, FindsAlong, FindsBy, FindsWhile, Found, found_among, found_by, found_of, found_of_result, found_points, has_one_of, SearchCalls, Searches, SearchesBy, StopsAtResult, with_readings}
+use Rattle.ipmi_commands.specs.Sensors.{AddsNamed, AreFoundWhile, AreNamed, FindsAlong, FindsBy, FindsWhile, Found, found_among, found_by, found_of, found_of_result, found_points, SearchCalls, Searches, SearchesBy, StopsAtResult, with_readings}
 use Rattle.ipmi_commands.specs.Traced.{IsStopAmong, IsTraced, seen_next}
 use Rattle.ipmi_commands.specs.declared.limits.RequestLimits.{RequestLimits}
 use Rattle.ipmi_commands.specs.declared.limits.Tries.{Tries}

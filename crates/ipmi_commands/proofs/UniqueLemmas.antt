@@ -39,12 +39,13 @@ module _ {x : Texts} (one : TextsAreOne x) where
   one_row : (form : Form) (store : Store) (row : Row) → AreBytes row.bytes → IsOne (IsRowText x store form row)
   one_row Form.Hex store row are a b p q = one.hex_is row a b p q
   one_row Form.Bytes store row are a b p q = p ∙ sym q
-  one_row (Form.Record detail kind) store row are a b p q =
+  one_row (Form.Record detail selection) store row are a b p q =
       one_chosen _ (IsRecordText x detail store row (sdr_view_of row.bytes)) (one_record detail store row (sdr_view_of row.bytes)) a b p q
   one_row (Form.Block name) store row are a b p q = one_block_of_name name store row.id (sdr_view_of row.bytes) a b p q
   one_row Form.Device store row are a b p q = one_locator store (sdr_view_of row.bytes) a b p q
   one_row (Form.Entry entries) store row are a b p q =
-      one.entry_is entries.detail row.id (sel_view_of row.bytes) entries.sensors a b (entry_are_bytes row.bytes are) p q
+      one_chosen _ (x.IsEntry entries.selection.detail row.id (sel_view_of row.bytes) entries.sensors)
+      (λ a b p q. one.entry_is entries.selection.detail row.id (sel_view_of row.bytes) entries.sensors a b (entry_are_bytes row.bytes are) p q) a b p q
   one_row Form.Skipped store row are a b p q = p ∙ sym q
 
   one_item : (store : Store) (subject : Subject) → IsOfBytes subject → IsOne (IsTextOver x store subject)

@@ -110,7 +110,7 @@ LacksInventory _ seen = ⊥
 
 -- the text of a record in this form is missing
 abbrev pub PieceErrorIsTrue : Form → ReadError → Seen → Type 0
-PieceErrorIsTrue (Form.Record detail kind) unread seen = LacksValue unread seen
+PieceErrorIsTrue (Form.Record detail selection) unread seen = LacksValue unread seen
 PieceErrorIsTrue (Form.Block name) unread seen = LacksValue unread seen
 PieceErrorIsTrue Form.Device unread seen = LacksInventory unread seen
 PieceErrorIsTrue _ unread seen = unread ≡ ReadError.Memory

@@ -57,7 +57,7 @@ calls_for_devices tries store (row ∷ rows) =
 
 -- over any controller: for the reading or inventory that a record requires
 abbrev pub most_after : Form → Tries → ℕ
-most_after (Form.Record detail kind) tries = tries.count + 1
+most_after (Form.Record detail selection) tries = tries.count + 1
 most_after (Form.Block name) tries = tries.count + 1
 most_after Form.Device tries = inventory_call_bound tries 65535
 most_after _ tries = 0

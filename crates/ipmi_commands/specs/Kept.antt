@@ -12,7 +12,7 @@ use Rattle.ipmi_commands.specs.Listing.{Lists}
 use Rattle.ipmi_commands.specs.Meanwhile.{IsTextWhile}
 use Rattle.ipmi_commands.specs.Output.{Output}
 use Rattle.ipmi_commands.specs.Plan.{last_plan, OnWalk, ReadPoint, row_items}
-use Rattle.ipmi_commands.specs.Texts.{IsPieceOver, Subject}
+use Rattle.ipmi_commands.specs.Texts.{IsListedEntry, IsPieceOver, Subject}
 use Rattle.ipmi_commands.specs.Traced.{TracesListing}
 use Rattle.ipmi_commands.specs.Format.{Texts}
 
@@ -23,6 +23,11 @@ last_of n items = drop (length items - n) items
 -- what is kept of an entry
 abbrev pub kept_row : Row → KeptEntry
 kept_row row = record { id = row.id; bytes = row.bytes }
+
+-- the text of a kept entry is that of a row with its id and bytes
+abbrev pub IsKeptText : Texts → EntryText → KeptEntry → List ℕ → Type 0
+IsKeptText x entries entry text =
+    IsListedEntry x entries (record { id = entry.id; next = 0; bytes = entry.bytes }) text
 
 abbrev pub kept_rows : List Row → List KeptEntry
 kept_rows rows = map kept_row rows

@@ -17,6 +17,7 @@ pub mod Plan
 pub mod Prelude
 pub mod Printed
 pub mod Run
+pub mod Selection
 pub mod Sensors
 pub mod Tail
 pub mod Texts

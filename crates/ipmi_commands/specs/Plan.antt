@@ -1,13 +1,14 @@
 -- Plans of what a run prints over a store. A plan has items in order, an end, and the points at
 -- which the run may give up or be refused.
 use Rattle.std.specs.Prelude.{ℕ, ◌-◌, ◌==◌, nat_le, ◌||◌, Bool, false, if◌then◌else◌, Option, Some, None, is_some, Result, Ok, Err, List, [], ◌∷◌, ◌++◌, length, map, take, drop}
-use Rattle.ipmi_commands.specs.Below.{Place, First, Shelf, Row, Store, rows_of, IsWalk, EndsBy, asked_at, WalkEnd, Done, CycleAt, MissingAt, place_after, place_after_rows, SdrFault, SdrView, Kind, Cycle, Missing, Ending, Failure}
+use Rattle.ipmi_commands.specs.Below.{Place, First, Shelf, Row, Store, rows_of, IsWalk, EndsBy, asked_at, WalkEnd, Done, CycleAt, MissingAt, place_after, place_after_rows, SdrFault, SdrView, Cycle, Missing, Ending, Failure}
 use Rattle.ipmi_records.specs.Sdr as sdr
 use Rattle.ipmi_commands.specs.declared.job.EntryText.{EntryText}
 use Rattle.ipmi_commands.specs.declared.job.Form.{Form}
 use Rattle.ipmi_commands.specs.declared.job.Listing.{Listing}
 use Rattle.ipmi_commands.specs.declared.format.Detail.{Detail}
-use Rattle.ipmi_commands.specs.Texts.{row_is_of_kind, is_name, Subject, OfRow, OfInventory, OfInfo}
+use Rattle.ipmi_commands.specs.Selection.{is_name, Selected, selects}
+use Rattle.ipmi_commands.specs.Texts.{Subject, OfRow, OfInventory, OfInfo}
 
 -- `Holds` for each walk of a shelf from this place that has an end, and for that end; by a law of
 -- ipmi_bus there is exactly one
@@ -46,10 +47,10 @@ abbrev pub reading_points : ℕ → Result SdrView SdrFault → List ReadPoint
 reading_points id (Ok view) = if is_some (sdr.reading_of view) then AtRecord id ∷ [] else []
 reading_points id (Err fault) = []
 
--- the reading's point, for a record of this kind; for any other record no reading is requested
-abbrev pub listed_points : Kind → Row → List ReadPoint
-listed_points kind row =
-    if row_is_of_kind kind row then reading_points row.id (sdr.sdr_view_of row.bytes) else []
+-- the reading's point, for a record that is selected; for any other record no reading is requested
+abbrev pub listed_points : Selected → Row → List ReadPoint
+listed_points selection row =
+    if selects selection row then reading_points row.id (sdr.sdr_view_of row.bytes) else []
 
 -- the reading's point, for a record with this name
 abbrev pub named_points : List ℕ → ℕ → Result SdrView SdrFault → List ReadPoint
@@ -68,7 +69,7 @@ locator_points (Err fault) = []
 
 -- the points of the reading or inventory that a row requires
 abbrev pub points_because_of : Form → Row → List ReadPoint
-points_because_of (Form.Record detail kind) row = listed_points kind row
+points_because_of (Form.Record detail selection) row = listed_points selection row
 points_because_of (Form.Block name) row = named_points name row.id (sdr.sdr_view_of row.bytes)
 points_because_of Form.Device row = locator_points (sdr.sdr_view_of row.bytes)
 points_because_of _ row = []

@@ -3,7 +3,7 @@ pub use Rattle.ipmi_commands.specs.Allowed.{AreTexts, AtEnd, Cause, cause_of, Ch
 pub use Rattle.ipmi_commands.specs.Asking.{InfoSays, LacksInventory, ShowsDevice, ShowsLocator, ShowsRow, PieceErrorIsTrue, AsksAt, bytes_of, IsCountedDevice, row_has_fault, row_piece, shown, cause_of_unread, failure_of, Finds, FindsIt, FindsLocator, FindsNone, is_absent, IsInfoText, ReadsFor, unread_inventory}
 pub use Rattle.ipmi_commands.specs.Calls.{calls_for_devices, calls_for_point, calls_for_points, calls_for, for_each_part, for_inventory, inventory_call_bound, read_call_bound, most_after, most_for_one, most_on_walk, walk_call_bound}
 pub use Rattle.ipmi_commands.specs.Format.{IsTextOfRecord, Texts, TextsAreOne, TextsExist}
-pub use Rattle.ipmi_commands.specs.Job.{devices_job, entries_job, events_job, IsFrom, IsJob, IsNamed, IsPlace, job_of, keeping_last, listing, listing_in, lists_all, named_entries, searches, shelf_of}
+pub use Rattle.ipmi_commands.specs.Job.{choosing, devices_job, entries_job, events_job, IsFrom, IsJob, IsNamed, IsPlace, job_of, keeping_last, listing, listing_in, lists_all, named_entries, searches, shelf_of}
 pub use Rattle.ipmi_commands.specs.Laws.{AreOfBytes, FinishedRunsAreOne, ItemsHaveAText, IsOfBytes, ItemsHaveOneText, TailsAreOfTheLog}
 pub use Rattle.ipmi_commands.specs.Listing.{CallsAlong, Counted, CountsEntries, end_of, IsOnWalk, is_reached, KeepsListing, ListingCalls, Lists, ListsAfter, ListsAll, ListsAlong, ListsHonestly, OnEachWalk, ReachesEnd, WritesRecords, WritesWhole}
 pub use Rattle.ipmi_commands.specs.Meanwhile.{IsTextWhile, KeepsAt, KeepsFor, OnGrowingListing}
@@ -14,8 +14,9 @@ pub use Rattle.ipmi_commands.specs.Plain.{descriptive_texts, in_parentheses, IsI
 pub use Rattle.ipmi_commands.specs.Plan.{after_names, AtInventory, AtRecord, device_points, end_after_names, points_at_walk_end, end_points_of_last, first_end, first_rows, info_plan, inventories_plan, inventory_item, inventory_plan, Item, last_items, last_plan, last_rows, listed_points, listing_plan, locator_points, named_points, next_points, OnWalk, Plan, reading_points, row_items, rows_end, some_has_name, ReadPoint, points_because_of, points_of_rows, points_before, points_of_walk, text_plan, view_has_name, with_first_points, bytes_of_rows}
 pub use Rattle.ipmi_commands.specs.Printed.{faults_of, pieces_of, printed}
 pub use Rattle.ipmi_commands.specs.Run.{AnswersCommand, AnswersJob, AnswersLine, EndsNamed, EndsListing, FailsToRead, IsRewriting, IsSaving, job_of_command, LacksValue, last_call_bound, MayEnd, most_calls, most_named, most_on_tail, NoneIsTrue, OnGrowingEntries, OnGrowingLast, OnGrowingLastKept, OnGrowingNamed, OnGrowingPlan, OnListing, OnLast, OnLastKept, OnEntries, OnNamed, FollowsPlan, Prints, PrintsWhile, RetriesParts, Runs, RunsCommand, RunsInPages, RunsOver, Says, second_walk_bound, ShowsInventory, TracesJob, TroublesInARow, WritesPiece, WritesText}
+pub use Rattle.ipmi_commands.specs.Selection.{has_one_of, is_name, of_kind, row_is_of_kind, Selected, SelectedEntries, selects, selects_entry}
 pub use Rattle.ipmi_commands.specs.Tail.{after_points, has_last, id_in_run, IsTailStart, is_tail, OnGrowingTail, OnTail, OnTailFrom, OnTried, OnWhole, tail_from, TracesTail}
-pub use Rattle.ipmi_commands.specs.Texts.{IfChosen, is_name, is_of_kind, IsBlockOfName, IsDevicePiece, IsListedOfKind, IsLocatorPiece, IsRecordText, IsRowText, IsTextOver, IsPieceOver, is_faulty, is_faulty_device, is_faulty_locator, is_faulty_row, is_faulty_there, OfInfo, OfInventory, OfRow, reading_by, reading_for, row_is_of_kind, Subject}
+pub use Rattle.ipmi_commands.specs.Texts.{IfChosen, IsBlockOfName, IsDevicePiece, IsListed, IsListedEntry, IsLocatorPiece, IsRecordText, IsRowText, IsTextOver, IsPieceOver, is_faulty, is_faulty_device, is_faulty_locator, is_faulty_row, is_faulty_there, OfInfo, OfInventory, OfRow, reading_by, reading_for, Subject}
 pub use Rattle.ipmi_commands.specs.Traced.{EndsPrinting, HasNoCursor, IsStopAmong, IsWithin, PrintsAfter, Traces, TracesFrom, TracesLast, TracesListing}
 pub use Rattle.ipmi_commands.specs.declared.format.Detail.{Detail}
 pub use Rattle.ipmi_commands.specs.declared.job.EntryText.{EntryText}

@@ -32,8 +32,8 @@ most_on_tail tries = tries.count + 1 + (most_on_walk Form.Skipped tries + most_o
 -- the largest number of calls for what is listed with names, after the walk that reads them; an
 -- inventory has at most 65,535 bytes, and at most 65,536 records locate a device besides device 0
 abbrev pub most_named : NameLookup → Tries → ℕ
-most_named (NameLookup.Events detail (Count.Tail n) from) tries = most_on_tail tries
-most_named (NameLookup.Events detail count from) tries = most_on_walk Form.Skipped tries
+most_named (NameLookup.Events selection (Count.Tail n) from) tries = most_on_tail tries
+most_named (NameLookup.Events selection count from) tries = most_on_walk Form.Skipped tries
 most_named NameLookup.Devices tries = 65537 * inventory_call_bound tries 65535
 
 -- the largest number of calls of a job
@@ -74,9 +74,9 @@ EndsListing form seen _ = ⊥
 -- `Done`, names of sensors may be missing. It is also the walk of the locators: if no record had the
 -- next id, the last call was for an inventory.
 abbrev pub EndsNamed : NameLookup → Seen → Ending → Type 0
-EndsNamed (NameLookup.Events detail count from) seen (Err (Failure.NamesCycle n)) = Unit {0}
-EndsNamed (NameLookup.Events detail count from) seen (Err (Failure.NamesMissing n)) = Unit {0}
-EndsNamed (NameLookup.Events detail count from) seen ending = EndsListing Form.Bytes seen ending
+EndsNamed (NameLookup.Events selection count from) seen (Err (Failure.NamesCycle n)) = Unit {0}
+EndsNamed (NameLookup.Events selection count from) seen (Err (Failure.NamesMissing n)) = Unit {0}
+EndsNamed (NameLookup.Events selection count from) seen ending = EndsListing Form.Bytes seen ending
 EndsNamed NameLookup.Devices seen (Err (Failure.Ended (Ended.Missing n))) = Unit {0}
 EndsNamed NameLookup.Devices seen ending = EndsListing Form.Device seen ending
 
@@ -196,8 +196,8 @@ OnEntries entries (Count.Tail n) from tries store Holds = OnTail entries n tries
 -- what is listed with the names in the sensor data records on this walk; devices are
 -- those that these records locate
 abbrev pub OnNamed : List Row → WalkEnd → NameLookup → Tries → Store → (Plan → ℕ → Type 0) → Type 0
-OnNamed records end (NameLookup.Events detail count from) tries store Holds =
-    OnEntries (named_entries detail (bytes_of_rows records)) count from tries store Holds
+OnNamed records end (NameLookup.Events selection count from) tries store Holds =
+    OnEntries (named_entries selection (bytes_of_rows records)) count from tries store Holds
 OnNamed records end NameLookup.Devices tries store Holds =
     Holds (inventories_plan (device_name 0 (bytes_of_rows records)) records end)
     (calls_for_point tries store (AtInventory 0) + calls_for_devices tries store records)
@@ -252,8 +252,8 @@ OnGrowingEntries entries (Count.Last n) from s s' Holds = OnGrowingLastKept entr
 OnGrowingEntries entries (Count.Tail n) from s s' Holds = OnGrowingTail entries n s s' Holds
 
 abbrev pub OnGrowingNamed : List Row → NameLookup → Seen → Seen → (Plan → Type 0) → Type 0
-OnGrowingNamed records (NameLookup.Events detail count from) s s' Holds =
-    OnGrowingEntries (named_entries detail (bytes_of_rows records)) count from s s' Holds
+OnGrowingNamed records (NameLookup.Events selection count from) s s' Holds =
+    OnGrowingEntries (named_entries selection (bytes_of_rows records)) count from s s' Holds
 OnGrowingNamed records NameLookup.Devices s s' Holds = Keeps (λ store. store.inventories) s s'
     → Holds (inventories_plan (device_name 0 (bytes_of_rows records)) records Done)
 

@@ -1,7 +1,7 @@
 -- Sensors that one walk of the sensor data records finds by their names, and the blocks that are printed of them.
 use Rattle.std.specs.Prelude.{◌≡◌, ◌⊎◌, ℕ, ◌+◌, ◌*◌, ◌<◌, ◌≤◌, ◌==◌, Bool, true, false, IsTrue, if◌then◌else◌, Option, None, Some, Result, Ok, Err, List, [], ◌∷◌, ◌++◌, length, take, drop}
 use Rattle.std.specs.FinSet as set
-use Rattle.std.specs.List.{Contains, list_any}
+use Rattle.std.specs.List.{Contains}
 use Rattle.ipmi_commands.specs.Below.{CursorState, CursorHoldsCurrent, CycleAt, digits, Done, End, Ended, Ending, Failure, Kind, known, LastCallSays, MissingAt, OnGrowing, Place, Reading, RefusesRecord, Row, Sdr, SdrFault, SdrView, sdr_view_of, Seen, Stepped, Store, WalkEnd, WasHeld}
 use Rattle.ipmi_commands.specs.declared.limits.Tries.{Tries}
 use Rattle.ipmi_records.specs.Sdr as sdr
@@ -13,7 +13,8 @@ use Rattle.ipmi_commands.specs.Calls.{most_for_one, walk_call_bound}
 use Rattle.ipmi_commands.specs.Listing.{CallsAlong, OnEachWalk}
 use Rattle.ipmi_commands.specs.Output.{and_then, IsCut, no_output, Output, piece_of}
 use Rattle.ipmi_commands.specs.Plan.{OnWalk, reading_points, row_items, rows_end, ReadPoint}
-use Rattle.ipmi_commands.specs.Texts.{IfChosen, is_name, IsPieceOver, reading_for}
+use Rattle.ipmi_commands.specs.Selection.{has_one_of, is_name, of_kind}
+use Rattle.ipmi_commands.specs.Texts.{IfChosen, IsPieceOver, reading_for}
 use Rattle.ipmi_commands.specs.Traced.{IsStopAmong, IsTraced, seen_next}
 
 -- ---- what is found
@@ -23,11 +24,6 @@ pub record Found : Type 0 where
   pub id : ℕ
   pub bytes : List ℕ
   pub reading : Option Reading
-
--- the printed name of a record is one of the names
-abbrev pub has_one_of : List (List ℕ) → Result SdrView SdrFault → Bool
-has_one_of names (Ok view) = list_any (λ name. is_name name (sdr.name_of view)) names
-has_one_of names (Err fault) = false
 
 -- the store's reading that belongs to a record; a record with a fault has none
 abbrev pub reading_in : Store → Result SdrView SdrFault → Option Reading
@@ -65,7 +61,7 @@ found_by names (step ∷ steps) last =
 
 -- a listing that requests a reading for each record: a search makes at most as many calls
 abbrev pub with_readings : Form
-with_readings = Form.Record Detail.Line Kind.All
+with_readings = Form.Record Detail.Line (of_kind Kind.All)
 
 -- each has one of the names
 abbrev pub AreNamed : List (List ℕ) → List Found → Type 0

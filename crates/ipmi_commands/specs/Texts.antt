@@ -1,11 +1,13 @@
 -- The texts that a command prints for a row, an inventory and an info, in any form of output.
-use Rattle.std.specs.Prelude.{◌≡◌, ℕ, ◌==◌, ◌||◌, not, Bool, true, false, is_err, Option, Some, None, Result, Ok, Err, List, [], bytes_eq}
-use Rattle.ipmi_commands.specs.Below.{known, Reading, Row, Store, inventory_of, reading_of, SdrFault, SdrView, Shelf, printed_name, sel_view_of, Kind}
+use Rattle.std.specs.Prelude.{◌≡◌, ℕ, ◌==◌, not, Bool, true, false, is_err, Option, Some, None, Result, Ok, Err, List, []}
+use Rattle.ipmi_commands.specs.Below.{known, Reading, Row, Store, inventory_of, reading_of, SdrFault, SdrView, Shelf, printed_name, sel_view_of}
 use Rattle.ipmi_records.specs.Sdr as sdr
 use Rattle.ipmi_commands.specs.declared.format.Detail.{Detail}
+use Rattle.ipmi_commands.specs.declared.job.EntryText.{EntryText}
 use Rattle.ipmi_commands.specs.declared.job.Form.{Form}
 use Rattle.ipmi_commands.specs.Format.{IsTextOfRecord, Texts}
 use Rattle.ipmi_commands.specs.Output.{piece_of, Output}
+use Rattle.ipmi_commands.specs.Selection.{is_name, Selected, selects, selects_entry}
 
 -- ---- selection
 
@@ -13,25 +15,6 @@ use Rattle.ipmi_commands.specs.Output.{piece_of, Output}
 abbrev pub IfChosen : Bool → (List ℕ → Type 0) → List ℕ → Type 0
 IfChosen true IsText text = IsText text
 IfChosen false IsText text = text ≡ []
-
--- the type byte determines the kind of a record, even of a record with a fault
-abbrev pub is_of_kind : Kind → ℕ → Bool
-is_of_kind Kind.Sensors type = (type == 0x01) || (type == 0x02)
-is_of_kind Kind.All type = true
-is_of_kind Kind.Full type = type == 0x01
-is_of_kind Kind.Compact type = type == 0x02
-is_of_kind Kind.Event type = type == 0x03
-is_of_kind Kind.Generic type = type == 0x10
-is_of_kind Kind.Mc type = type == 0x12
-is_of_kind Kind.Fru type = type == 0x11
-
-abbrev pub row_is_of_kind : Kind → Row → Bool
-row_is_of_kind kind row = is_of_kind kind (sdr.record_type row.bytes)
-
--- the record has this printed name; a record of a type without a view of its own has no name
-abbrev pub is_name : List ℕ → Option (List ℕ) → Bool
-is_name wanted None = false
-is_name wanted (Some name) = bytes_eq wanted name
 
 -- ---- records
 
@@ -48,10 +31,10 @@ abbrev pub IsRecordText : Texts → Detail → Store → Row → Result SdrView 
 IsRecordText x detail store row (Ok view) text = IsTextOfRecord x detail row.id view (known (reading_for store view)) text
 IsRecordText x detail store row (Err fault) text = x.IsFault row.id fault row.bytes text
 
--- the text of a record of this kind, nothing for any other
-abbrev pub IsListedOfKind : Texts → Detail → Kind → Store → Row → List ℕ → Type 0
-IsListedOfKind x detail kind store row text =
-    IfChosen (row_is_of_kind kind row)
+-- the text of a record that is selected, nothing for any other
+abbrev pub IsListed : Texts → Detail → Selected → Store → Row → List ℕ → Type 0
+IsListed x detail selection store row text =
+    IfChosen (selects selection row)
     (λ t. IsRecordText x detail store row (sdr.sdr_view_of row.bytes) t) text
 
 -- the block of a record with this name; nothing for a record without it, or with a fault
@@ -60,6 +43,12 @@ IsBlockOfName x name store id (Ok view) text =
     IfChosen (is_name name (sdr.name_of view))
     (λ t. IsTextOfRecord x Detail.Block id view (known (reading_for store view)) t) text
 IsBlockOfName x name store id (Err fault) text = text ≡ []
+
+-- the text of an entry that is selected, nothing for any other
+abbrev pub IsListedEntry : Texts → EntryText → Row → List ℕ → Type 0
+IsListedEntry x entries row text =
+    IfChosen (selects_entry entries.selection row)
+    (λ t. x.IsEntry entries.selection.detail row.id (sel_view_of row.bytes) entries.sensors t) text
 
 -- ---- devices
 
@@ -89,12 +78,11 @@ pub data Subject : Type 0 where
 abbrev pub IsRowText : Texts → Store → Form → Row → List ℕ → Type 0
 IsRowText x store Form.Hex row text = x.IsHex row text
 IsRowText x store Form.Bytes row text = text ≡ row.bytes
-IsRowText x store (Form.Record detail kind) row text = IsListedOfKind x detail kind store row text
+IsRowText x store (Form.Record detail selection) row text = IsListed x detail selection store row text
 IsRowText x store (Form.Block name) row text =
     IsBlockOfName x name store row.id (sdr.sdr_view_of row.bytes) text
 IsRowText x store Form.Device row text = IsLocatorPiece x store (sdr.sdr_view_of row.bytes) text
-IsRowText x store (Form.Entry entries) row text =
-    x.IsEntry entries.detail row.id (sel_view_of row.bytes) entries.sensors text
+IsRowText x store (Form.Entry entries) row text = IsListedEntry x entries row text
 IsRowText x store Form.Skipped row text = text ≡ []
 
 -- the text of a subject, with the readings and inventories of the store
@@ -120,7 +108,7 @@ is_faulty_locator x store (Ok view) = is_faulty_there x store (sdr.fru_of view)
 is_faulty_locator x store (Err fault) = false
 
 abbrev pub is_faulty_row : Texts → Store → Form → Row → Bool
-is_faulty_row x store (Form.Record detail kind) row = is_err (sdr.sdr_view_of row.bytes)
+is_faulty_row x store (Form.Record detail selection) row = is_err (sdr.sdr_view_of row.bytes)
 is_faulty_row x store Form.Device row = is_faulty_locator x store (sdr.sdr_view_of row.bytes)
 is_faulty_row x store form row = false
 

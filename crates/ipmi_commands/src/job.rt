@@ -2,20 +2,21 @@
 //! alone: what it consists of is a detail.
 ghost use Rattle.std.specs.Prelude.{◌≡◌, IfSome, Some, true};
 ghost use Rattle.ipmi_commands.specs.Below.{is_listing, IsCount, IsTask, start_of};
-ghost use Rattle.ipmi_commands.specs.Job.{devices_job, entries_job, events_job, IsFrom, IsJob, IsPlace, job_of, keeping_last, listing, listing_in, lists_all, named_entries, searches, shelf_of};
+ghost use Rattle.ipmi_commands.specs.Job.{choosing, choosing_entries, choosing_form, devices_job, entries_job, events_job, IsFrom, IsJob, IsPlace, job_of, keeping_last, listing, lists_all, named_entries, searches, shelf_of};
 ghost use Rattle.ipmi_commands.specs.declared.job.Job.{Job};
 ghost use Rattle.ipmi_commands.specs.Listing.{end_of};
 
 use crate::format::{Detail, Format};
+use crate::selection::{EntrySelection, Selection};
 use ipmi_bus::{Place, Shelf};
-use ipmi_command_line::{Count, Kind, Task};
+use ipmi_command_line::{Count, Filters, Task};
 use ipmi_events::Sensors;
 use ipmi_output::{Failure, RecordName};
 
-/// How an entry of the event log is printed: in this detail, with the names of these sensors if they were read.
+/// The text of an entry of the event log: which entries have one, and the sensors that have names in it, if they were read.
 #[derive(Drop)]
-pub struct EntryText {
-    pub(crate) detail: Detail,
+pub struct EntryText<'a> {
+    pub(crate) selection: EntrySelection<'a>,
     pub(crate) sensors: Option<Sensors>,
 }
 
@@ -26,14 +27,14 @@ pub enum Form<'a> {
     Hex,
     /// The bytes of a sensor data record.
     Bytes,
-    /// The text of a sensor data record in this detail, if it is of this kind.
-    Record(Detail, Kind),
+    /// The text of a sensor data record in this detail, if it is selected.
+    Record(Detail, Selection<'a>),
     /// The block of a sensor data record, if this is its printed name.
     Block(RecordName<'a>),
     /// The inventory of the device that a FRU device locator names.
     Device,
     /// The text of an event log entry.
-    Entry(EntryText),
+    Entry(EntryText<'a>),
     /// Nothing: an event log entry is skipped.
     Skipped,
 }
@@ -47,11 +48,11 @@ pub struct Listing<'a> {
 }
 
 /// What is listed with names from the sensor data records.
-#[derive(Clone, Copy)]
-pub enum NameLookup {
-    /// The entries of the event log that the count selects, in this detail, with the names of their sensors. The walk
+#[derive(Drop)]
+pub enum NameLookup<'a> {
+    /// These entries of the event log, and of them those that the count selects, with the names of their sensors. The walk
     /// starts at this id, or at the first entry; of `Count::Tail` it starts as that says.
-    Events(Detail, Count, Option<u16>),
+    Events(EntrySelection<'a>, Count, Option<u16>),
     /// All FRU devices, with the name of device 0 too.
     Devices,
 }
@@ -63,14 +64,14 @@ pub enum Job<'a> {
     Records(Listing<'a>),
     /// Lists the last entries of a walk of the event log, at most this many. The walk starts at this id, or at the
     /// first entry.
-    Last(EntryText, u16, Option<u16>),
+    Last(EntryText<'a>, u16, Option<u16>),
     /// The same along one walk, which keeps these entries in memory until they are printed.
-    LastKept(EntryText, u16, Option<u16>),
+    LastKept(EntryText<'a>, u16, Option<u16>),
     /// The same along a walk that begins where the info of the event log suggests, if that walk has so many entries and an end,
     /// and otherwise at the first entry.
-    Tail(EntryText, u16),
+    Tail(EntryText<'a>, u16),
     /// Reads the sensor data records for names, then lists with these names.
-    NameLookup(NameLookup),
+    NameLookup(NameLookup<'a>),
     /// Prints the info of the shelf.
     Info(Shelf),
     /// Prints the inventory of this device with this name, in this detail.
@@ -79,14 +80,24 @@ pub enum Job<'a> {
     AllInventories(Option<RecordName<'a>>),
 }
 
-impl EntryText {
-    /// The text in this detail with the names of these sensors.
-    pub(crate) fn named(detail: Detail, sensors: Sensors) -> EntryText
-        ensures { result ≡ named_entries detail sensors }
+impl<'a> EntryText<'a> {
+    /// The text of these entries with the names of these sensors.
+    pub(crate) fn named(selection: EntrySelection<'a>, sensors: Sensors) -> EntryText<'a>
+        ensures { result ≡ named_entries selection.entry sensors }
     {
         EntryText {
-            detail,
+            selection,
             sensors: Some(sensors),
+        }
+    }
+
+    /// The same text of those entries alone that pass these filters.
+    fn choosing(self, filters: &'a Filters) -> EntryText<'a>
+        ensures { result ≡ choosing_entries filters.now self.entry }
+    {
+        EntryText {
+            selection: self.selection.with_filters(filters),
+            sensors: self.sensors,
         }
     }
 }
@@ -101,6 +112,19 @@ impl<'a> Form<'a> {
             Form::Hex | Form::Bytes | Form::Record(_, _) | Form::Block(_) | Form::Device => {
                 Shelf::Sdr
             }
+        }
+    }
+
+    /// The same form, which prints only the records or entries that pass these filters.
+    fn choosing(self, filters: &'a Filters) -> Form<'a>
+        ensures { result ≡ choosing_form filters.now self.entry }
+    {
+        match self {
+            Form::Record(detail, selection) => {
+                Form::Record(detail, selection.with_filters(filters))
+            }
+            Form::Entry(entries) => Form::Entry(entries.choosing(filters)),
+            form => form,
         }
     }
 
@@ -149,10 +173,10 @@ impl<'a> Job<'a> {
     }
 
     /// The job of listing the entries that `count` selects, each as such a text.
-    fn entries(entries: EntryText, count: Count, from: Option<u16>) -> Job<'a>
+    fn entries(entries: EntryText<'a>, count: Count, from: Option<u16>) -> Job<'a>
         requires count { IsCount count }
         requires from { IsFrom from }
-        ensures value { result ≡ entries_job entries count from }
+        ensures value { result ≡ entries_job entries.entry count from }
         ensures range { IsJob result }
     {
         match count {
@@ -171,10 +195,11 @@ impl<'a> Job<'a> {
         ensures range { IsJob result }
     {
         if has_names {
-            return Job::NameLookup(NameLookup::Events(detail, count, from));
+            let selection = EntrySelection::in_detail(detail);
+            return Job::NameLookup(NameLookup::Events(selection, count, from));
         }
-        let sensors = None;
-        Job::entries(EntryText { detail, sensors }, count, from)
+        let (selection, sensors) = (EntrySelection::in_detail(detail), None);
+        Job::entries(EntryText { selection, sensors }, count, from)
     }
 
     /// The job of listing all devices, that of id 0 with its name or without.
@@ -199,8 +224,14 @@ impl<'a> Job<'a> {
     {
         match task {
             Task::Hex => Some(Job::records(Form::Hex, from, None)),
-            Task::List(kind) => Some(Job::records(Form::Record(Detail::Line, *kind), from, None)),
-            Task::Elist(kind) => Some(Job::records(Form::Record(Detail::Long, *kind), from, None)),
+            Task::List(kind) => {
+                let form = Form::Record(Detail::Line, Selection::of_kind(*kind));
+                Some(Job::records(form, from, None))
+            }
+            Task::Elist(kind) => {
+                let form = Form::Record(Detail::Long, Selection::of_kind(*kind));
+                Some(Job::records(form, from, None))
+            }
             Task::Get(name) => {
                 let name = RecordName::new(name.as_str());
                 Some(Job::records(Form::Block(name), from, None))
@@ -218,6 +249,30 @@ impl<'a> Job<'a> {
             Task::Fru(None) => Some(Job::devices(format.has_names(Detail::Line))),
             Task::Fru(Some(id)) => Some(Job::Inventory(Detail::Block, *id, None)),
             Task::Rewrite => None,
+        }
+    }
+
+    /// The same job, but a listing prints only the sensor data records or the entries that pass these filters. A number of
+    /// entries counts also those that do not pass.
+    pub fn choosing(self, filters: &'a Filters) -> Job<'a>
+        ensures value { result ≡ choosing filters.now self.entry }
+        ensures range { IsJob self.entry → IsJob result }
+    {
+        match self {
+            Job::Records(listing) => Job::Records(Listing {
+                form: listing.form.choosing(filters),
+                start: listing.start,
+                most: listing.most,
+            }),
+            Job::Last(entries, wanted, from) => Job::Last(entries.choosing(filters), wanted, from),
+            Job::LastKept(entries, wanted, from) => {
+                Job::LastKept(entries.choosing(filters), wanted, from)
+            }
+            Job::Tail(entries, wanted) => Job::Tail(entries.choosing(filters), wanted),
+            Job::NameLookup(NameLookup::Events(selection, count, from)) => {
+                Job::NameLookup(NameLookup::Events(selection.with_filters(filters), count, from))
+            }
+            job => job,
         }
     }
 
@@ -241,16 +296,6 @@ impl<'a> Job<'a> {
             Job::Records(listing) => listing.most.is_none() && !listing.form.searches(),
             Job::NameLookup(NameLookup::Events(_, Count::All, _)) => true,
             _ => false,
-        }
-    }
-
-    /// The listing, if the job is `Job::Records`.
-    pub(crate) fn listing(self) -> Option<Listing<'a>>
-        ensures { result ≡ listing_in self.entry }
-    {
-        match self {
-            Job::Records(listing) => Some(listing),
-            _ => None,
         }
     }
 }

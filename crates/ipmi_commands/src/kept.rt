@@ -142,7 +142,7 @@ fn print_entry<'a, F: Format, O: Sink>(
     alloc: Global,
     format: &F,
     entry: KeptEntry,
-    entries: &EntryText,
+    entries: &EntryText<'_>,
     out: &mut O,
     summary: &mut Summary,
 ) -> Result<(), Failure<'a>>
@@ -166,7 +166,7 @@ pub(crate) fn print_entries<'a, F: Format, O: Sink>(
     alloc: Global,
     format: &F,
     kept: &mut LastEntries,
-    entries: &EntryText,
+    entries: &EntryText<'_>,
     out: &mut O,
     summary: &mut Summary,
 ) -> Result<(), Failure<'a>>
@@ -191,7 +191,7 @@ pub(crate) fn list_kept<'a, F: Format, C: Controller, O: Sink>(
     ctl: &mut C,
     limits: RequestLimits,
     format: &F,
-    entries: EntryText,
+    entries: EntryText<'a>,
     wanted: u16,
     from: Option<u16>,
     out: &mut O,
@@ -201,7 +201,7 @@ pub(crate) fn list_kept<'a, F: Format, C: Controller, O: Sink>(
     requires from { IsFrom from }
     ensures faults { O.faults out.new ≡ O.faults out.old + write_faults result }
     ensures asked { AsksAtMost limits.part (C.seen ctl.old) (C.seen ctl.new) }
-    ensures runs { Runs (F.texts format.now) (Job.LastKept entries wanted from) limits.tries
+    ensures runs { Runs (F.texts format.now) (Job.LastKept entries.entry wanted from) limits.tries
         (change (C.seen ctl.old) (C.seen ctl.new) (printed (O.taken out.old) summary.old) (printed (O.taken out.new) summary.new)) result }
 {
     let mut kept = LastEntries::new(alloc, wanted);

@@ -57,7 +57,7 @@ fn list_rest<'a, F: Format, C: Controller, O: Sink>(
     ctl: &mut C,
     limits: RequestLimits,
     format: &F,
-    entries: EntryText,
+    entries: EntryText<'a>,
     passed: u32,
     out: &mut O,
     summary: &mut Summary,
@@ -65,11 +65,11 @@ fn list_rest<'a, F: Format, C: Controller, O: Sink>(
     requires { (from : Option ℕ) × IsFresh limits Form.Skipped from cursor.old }
     ensures faults { O.faults out.new ≡ O.faults out.old + write_faults result }
     ensures asked { AsksAtMost limits.part (C.seen ctl.old) (C.seen ctl.new) }
-    ensures ends { EndsListing (Form.Entry entries) (C.seen ctl.new) result }
+    ensures ends { EndsListing (Form.Entry entries.entry) (C.seen ctl.new) result }
     ensures calls { (C.seen ctl.new).calls ≤ (C.seen ctl.old).calls + most_on_walk Form.Skipped
         limits.tries }
     ensures honest { IsHonest (C.seen ctl.old) →
-        ListsAfter (F.texts format.now) entries cursor.old.place passed limits.tries (change (C.seen ctl.old) (C.seen ctl.new)
+        ListsAfter (F.texts format.now) entries.entry cursor.old.place passed limits.tries (change (C.seen ctl.old) (C.seen ctl.new)
         (printed (O.taken out.old) summary.old) (printed (O.taken out.new) summary.new)) result }
 {
     let most = Some(passed);
@@ -107,7 +107,7 @@ fn list_after<'a, F: Format, C: Controller, O: Sink>(
     ctl: &mut C,
     limits: RequestLimits,
     format: &F,
-    entries: EntryText,
+    entries: EntryText<'a>,
     from: Option<u16>,
     passed: u32,
     out: &mut O,
@@ -116,11 +116,11 @@ fn list_after<'a, F: Format, C: Controller, O: Sink>(
     requires { IsFrom from }
     ensures faults { O.faults out.new ≡ O.faults out.old + write_faults result }
     ensures asked { AsksAtMost limits.part (C.seen ctl.old) (C.seen ctl.new) }
-    ensures ends { EndsListing (Form.Entry entries) (C.seen ctl.new) result }
+    ensures ends { EndsListing (Form.Entry entries.entry) (C.seen ctl.new) result }
     ensures calls { (C.seen ctl.new).calls ≤ (C.seen ctl.old).calls + most_on_walk Form.Skipped
         limits.tries }
     ensures honest { IsHonest (C.seen ctl.old) →
-        ListsAfter (F.texts format.now) entries (start_of from) passed limits.tries (change (C.seen ctl.old) (C.seen ctl.new)
+        ListsAfter (F.texts format.now) entries.entry (start_of from) passed limits.tries (change (C.seen ctl.old) (C.seen ctl.new)
         (printed (O.taken out.old) summary.old) (printed (O.taken out.new) summary.new)) result }
 {
     let mut cursor = start_cursor(alloc, limits, &Form::Skipped, from)?;
@@ -143,7 +143,7 @@ pub(crate) fn list_last<'a, F: Format, C: Controller, O: Sink>(
     ctl: &mut C,
     limits: RequestLimits,
     format: &F,
-    entries: EntryText,
+    entries: EntryText<'a>,
     wanted: u16,
     from: Option<u16>,
     out: &mut O,
@@ -153,7 +153,7 @@ pub(crate) fn list_last<'a, F: Format, C: Controller, O: Sink>(
     requires from { IsFrom from }
     ensures faults { O.faults out.new ≡ O.faults out.old + write_faults result }
     ensures asked { AsksAtMost limits.part (C.seen ctl.old) (C.seen ctl.new) }
-    ensures runs { Runs (F.texts format.now) (Job.Last entries wanted from) limits.tries
+    ensures runs { Runs (F.texts format.now) (Job.Last entries.entry wanted from) limits.tries
         (change (C.seen ctl.old) (C.seen ctl.new) (printed (O.taken out.old) summary.old) (printed (O.taken out.new) summary.new)) result }
 {
     match count_entries(alloc, ctl, limits, format, from, out, summary) {

@@ -18,6 +18,7 @@ mod piece;
 mod plain;
 mod read_error;
 mod runs;
+mod selection;
 mod sensors;
 mod summary;
 mod tail;

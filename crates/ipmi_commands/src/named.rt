@@ -6,12 +6,13 @@ ghost use Rattle.ipmi_commands.specs.declared.job.Job.{Job};
 ghost use Rattle.ipmi_commands.specs.Prelude.{change, entries_job, IsFrom, keeping_last, IsNamed, named_entries, printed, RetriesParts, Runs, RunsNamedInPages};
 
 use crate::devices::print_devices;
-use crate::format::{Detail, Format};
+use crate::format::Format;
 use crate::job::{EntryText, Form, Listing, NameLookup};
 use crate::limits::RequestLimits;
 use crate::pages::{list_page, list_pages};
 use crate::perform::list_entries;
 use crate::plain::Plain;
+use crate::selection::EntrySelection;
 use crate::summary::Summary;
 use ipmi_bus::{Controller, Ended, Place};
 use ipmi_command_line::Count;
@@ -75,7 +76,7 @@ fn list_events<'a, F: Format, C: Controller, O: Sink>(
     ctl: &mut C,
     limits: RequestLimits,
     format: &F,
-    detail: Detail,
+    selection: EntrySelection<'a>,
     records: Vec<u8>,
     count: Count,
     from: Option<u16>,
@@ -86,10 +87,10 @@ fn list_events<'a, F: Format, C: Controller, O: Sink>(
     requires from { IsFrom from }
     ensures faults { O.faults out.new ≡ O.faults out.old + write_faults result }
     ensures asked { AsksAtMost limits.part (C.seen ctl.old) (C.seen ctl.new) }
-    ensures runs { Runs (F.texts format.now) (keeping_last (entries_job (named_entries detail (records_in records.items)) count from)) limits.tries
+    ensures runs { Runs (F.texts format.now) (keeping_last (entries_job (named_entries selection.entry (records_in records.items)) count from)) limits.tries
         (change (C.seen ctl.old) (C.seen ctl.new) (printed (O.taken out.old) summary.old) (printed (O.taken out.new) summary.new)) result }
 {
-    let entries = EntryText::named(detail, Sensors::of(alloc, records)?);
+    let entries = EntryText::named(selection, Sensors::of(alloc, records)?);
     list_entries(
         alloc, ctl, limits, format, entries, count, from, out, summary,
     )
@@ -127,7 +128,7 @@ pub(crate) fn list_named<'a, F: Format, C: Controller, O: Sink>(
     ctl: &mut C,
     limits: RequestLimits,
     format: &F,
-    named: NameLookup,
+    named: NameLookup<'a>,
     out: &mut O,
     summary: &mut Summary,
 ) -> Result<(), Failure<'a>>
@@ -135,7 +136,7 @@ pub(crate) fn list_named<'a, F: Format, C: Controller, O: Sink>(
     ensures faults { O.faults out.new ≡ O.faults out.old + write_faults result }
     ensures asked { AsksAtMost limits.part (C.seen ctl.old) (C.seen ctl.new) }
     ensures parts { IsHonest (C.seen ctl.old) → RetriesParts limits.tries (IsStateOf C.seen) (C.seen ctl.new) result }
-    ensures runs { Runs (F.texts format.now) (Job.NameLookup named) limits.tries
+    ensures runs { Runs (F.texts format.now) (Job.NameLookup named.entry) limits.tries
         (change (C.seen ctl.old) (C.seen ctl.new) (printed (O.taken out.old) summary.old) (printed (O.taken out.new) summary.new)) result }
 {
     ipmi_bus::laws::what_is_found_is_a_row();
@@ -145,9 +146,9 @@ pub(crate) fn list_named<'a, F: Format, C: Controller, O: Sink>(
     let walked = read_records(alloc, ctl, limits, &mut records, &mut counted)?;
     let records = records.into_inner();
     match named {
-        NameLookup::Events(detail, count, from) => {
+        NameLookup::Events(selection, count, from) => {
             list_events(
-                alloc, ctl, limits, format, detail, records, count, from, out, summary,
+                alloc, ctl, limits, format, selection, records, count, from, out, summary,
             )?;
             walked.end()
         }
@@ -163,7 +164,7 @@ pub(crate) fn list_named_pages<'a, F: Format, C: Controller, O: Sink>(
     ctl: &mut C,
     limits: RequestLimits,
     format: &F,
-    detail: Detail,
+    selection: EntrySelection<'a>,
     from: Option<u16>,
     out: &mut O,
     summary: &mut Summary,
@@ -172,7 +173,7 @@ pub(crate) fn list_named_pages<'a, F: Format, C: Controller, O: Sink>(
     requires { IsFrom from }
     ensures faults { O.faults out.new ≡ O.faults out.old + write_faults result }
     ensures asked { AsksAtMost limits.part (C.seen ctl.old) (C.seen ctl.new) }
-    ensures runs { RunsNamedInPages (F.texts format.now) detail from limits.tries sizes.now
+    ensures runs { RunsNamedInPages (F.texts format.now) selection.entry from limits.tries sizes.now
         (change (C.seen ctl.old) (C.seen ctl.new) (printed (O.taken out.old) summary.old) (printed (O.taken out.new) summary.new)) result }
 {
     ipmi_bus::laws::the_tail_is_a_walk();
@@ -181,7 +182,7 @@ pub(crate) fn list_named_pages<'a, F: Format, C: Controller, O: Sink>(
     let mut records = Written::new(Vec::new(alloc));
     let mut counted = Summary::new();
     let walked = read_records(alloc, ctl, limits, &mut records, &mut counted)?;
-    let entries = EntryText::named(detail, Sensors::of(alloc, records.into_inner())?);
+    let entries = EntryText::named(selection, Sensors::of(alloc, records.into_inner())?);
     let listing = Listing::new(Form::Entry(entries), from, None);
     list_pages(
         alloc,

@@ -75,7 +75,7 @@ fn list_first<'a, F: Format, C: Controller, O: Sink>(
     ctl: &mut C,
     limits: RequestLimits,
     format: &F,
-    entries: EntryText,
+    entries: EntryText<'a>,
     from: Option<u16>,
     most: Option<u32>,
     out: &mut O,
@@ -84,7 +84,7 @@ fn list_first<'a, F: Format, C: Controller, O: Sink>(
     requires { IsFrom from }
     ensures faults { O.faults out.new ≡ O.faults out.old + write_faults result }
     ensures asked { AsksAtMost limits.part (C.seen ctl.old) (C.seen ctl.new) }
-    ensures runs { Runs (F.texts format.now) (Job.Records (listing (Form.Entry entries) (start_of from) most)) limits.tries
+    ensures runs { Runs (F.texts format.now) (Job.Records (listing (Form.Entry entries.entry) (start_of from) most)) limits.tries
         (change (C.seen ctl.old) (C.seen ctl.new) (printed (O.taken out.old) summary.old) (printed (O.taken out.new) summary.new)) result }
 {
     let listing = Listing::new(Form::Entry(entries), from, most);
@@ -98,7 +98,7 @@ pub(crate) fn list_entries<'a, F: Format, C: Controller, O: Sink>(
     ctl: &mut C,
     limits: RequestLimits,
     format: &F,
-    entries: EntryText,
+    entries: EntryText<'a>,
     count: Count,
     from: Option<u16>,
     out: &mut O,
@@ -108,7 +108,7 @@ pub(crate) fn list_entries<'a, F: Format, C: Controller, O: Sink>(
     requires from { IsFrom from }
     ensures faults { O.faults out.new ≡ O.faults out.old + write_faults result }
     ensures asked { AsksAtMost limits.part (C.seen ctl.old) (C.seen ctl.new) }
-    ensures runs { Runs (F.texts format.now) (keeping_last (entries_job entries count from)) limits.tries
+    ensures runs { Runs (F.texts format.now) (keeping_last (entries_job entries.entry count from)) limits.tries
         (change (C.seen ctl.old) (C.seen ctl.new) (printed (O.taken out.old) summary.old) (printed (O.taken out.new) summary.new)) result }
 {
     match count {
@@ -300,13 +300,12 @@ pub fn execute_pages<'a, F: Format, C: Controller, O: Sink>(
 {
     ipmi_bus::laws::the_tail_is_a_walk();
     match job {
-        Job::NameLookup(NameLookup::Events(detail, _, from)) => {
+        Job::NameLookup(NameLookup::Events(selection, _, from)) => {
             list_named_pages(
-                alloc, ctl, limits, format, detail, from, out, summary, pages,
+                alloc, ctl, limits, format, selection, from, out, summary, pages,
             )
         }
-        job => {
-            let listing = job.listing().unwrap();
+        Job::Records(listing) => {
             list_pages(
                 alloc,
                 ctl,
@@ -319,5 +318,7 @@ pub fn execute_pages<'a, F: Format, C: Controller, O: Sink>(
                 pages,
             )
         }
+        // it lists all records of a shelf
+        _ => unreachable!(),
     }
 }

@@ -3,21 +3,19 @@
 ghost use Rattle.std.specs.Prelude.{◌≡◌, ◌+◌, ◌≤◌, ℕ, false, Err, IfErr, IfOk, length, List, Ok, option_map, string_bytes, unwrap_or};
 ghost use Rattle.ipmi_commands.specs.Below.{AsksAtMost, row_of_record, IsHonest, IsStateOf, largest_len, whole_len, sdr_view_of};
 ghost use Rattle.ipmi_records.specs.Sdr.{name_of};
+ghost use Rattle.ipmi_commands.specs.Selection.{is_passed};
 ghost use Rattle.ipmi_commands.specs.declared.job.Form.{Form};
-ghost use Rattle.ipmi_commands.specs.Prelude.{failure_of, RetriesParts, PieceErrorIsTrue, LacksValue, bytes_of, Finds, is_name, is_of_kind, IsBlockOfName, IsPieceOver, listed_points, most_after, named_points, OfRow, reading_for, reading_points, row_has_fault, row_piece, shelf_of, shown, ShowsRow, points_because_of};
+ghost use Rattle.ipmi_commands.specs.Prelude.{failure_of, RetriesParts, PieceErrorIsTrue, LacksValue, bytes_of, Finds, IfChosen, IsBlockOfName, IsPieceOver, listed_points, most_after, named_points, OfRow, reading_for, reading_points, row_has_fault, row_piece, shelf_of, shown, ShowsRow, points_because_of};
 
 use crate::format::{Detail, Format};
 use crate::inventory::locator_piece;
 use crate::job::{EntryText, Form};
 use crate::limits::{RequestLimits, Tries};
 use crate::read_error::ReadError;
+use crate::selection::{Selection, is_name};
 use ipmi_bus::{Controller, Record, SEL_ENTRY_LEN, read_reading};
-use ipmi_command_line::Kind;
 use ipmi_image::LineBuffer;
-use ipmi_records::{
-    COMPACT_TYPE, CONTROLLER_TYPE, EVENT_ONLY_TYPE, FRU_TYPE, FULL_TYPE, GENERIC_TYPE,
-    KnownReading, SdrView, SelView,
-};
+use ipmi_records::{KnownReading, SdrView, SelView};
 use ipmi_text::Reading;
 use std::alloc::{AllocError, Global};
 
@@ -27,22 +25,6 @@ pub(crate) fn entry_bytes(bytes: &[u8]) -> &[u8; SEL_ENTRY_LEN]
     ensures { result.now ≡ bytes.now }
 {
     bytes.first_chunk::<SEL_ENTRY_LEN>().unwrap()
-}
-
-/// Whether a record is of this kind, according to its type byte.
-fn is_of_kind(kind: Kind, record_type: u8) -> bool
-    ensures { result ≡ is_of_kind kind record_type }
-{
-    match kind {
-        Kind::Sensors => record_type == FULL_TYPE || record_type == COMPACT_TYPE,
-        Kind::All => true,
-        Kind::Full => record_type == FULL_TYPE,
-        Kind::Compact => record_type == COMPACT_TYPE,
-        Kind::Event => record_type == EVENT_ONLY_TYPE,
-        Kind::Generic => record_type == GENERIC_TYPE,
-        Kind::Mc => record_type == CONTROLLER_TYPE,
-        Kind::Fru => record_type == FRU_TYPE,
-    }
 }
 
 /// Requests the reading that belongs to a record, if there is one. An `Ended` in the error names the record's id.
@@ -65,13 +47,13 @@ pub(crate) fn reading_for<C: Controller>(
     }
 }
 
-/// The text of a record of this kind, or of its fault. Empty for a record of another kind.
+/// The text of a record that is selected, or of its fault. Empty for any other record.
 fn listed_text<F: Format, C: Controller>(
     alloc: Global,
     ctl: &mut C,
     format: &F,
     detail: Detail,
-    kind: Kind,
+    selection: &Selection<'_>,
     tries: Tries,
     lent: &Record<'_>,
 ) -> Result<Piece, ReadError>
@@ -80,10 +62,10 @@ fn listed_text<F: Format, C: Controller>(
     ensures asked { AsksAtMost 0 (C.seen ctl.old) (C.seen ctl.new) }
     ensures says { IfErr result (λ unread. LacksValue unread (C.seen ctl.new)) }
     ensures honest { let row = row_of_record lent.now in IsHonest (C.seen ctl.old) →
-        Finds (λ store piece. IsPieceOver (F.texts format.now) store (OfRow (Form.Record detail kind) row) (shown piece))
-        (listed_points kind row) tries (C.seen ctl.old) (C.seen ctl.new) result }
+        Finds (λ store piece. IsPieceOver (F.texts format.now) store (OfRow (Form.Record detail selection.now) row) (shown piece))
+        (listed_points selection.now row) tries (C.seen ctl.old) (C.seen ctl.new) result }
 {
-    if !is_of_kind(kind, lent.bytes[3]) {
+    if !selection.selects(alloc, lent)? {
         return Ok(Piece::sound(Vec::new(alloc)));
     }
     let view = match SdrView::read(lent.bytes) {
@@ -99,16 +81,6 @@ fn listed_text<F: Format, C: Controller>(
     let reading = reading_for(ctl, lent.id, &view, tries)?;
     let text = format.record(alloc, detail, lent.id, &view, KnownReading::from(reading))?;
     Ok(Piece::sound(text))
-}
-
-/// Whether a record with the printed name `own` has this name.
-pub(crate) fn is_name(name: &str, own: &Option<String>) -> bool
-    ensures { result ≡ is_name name.now (option_map (λ text. string_bytes text) own.now) }
-{
-    match own {
-        Some(own) => name == own.as_str(),
-        None => false,
-    }
 }
 
 /// The block of a record with this name. Empty for a record without it, or with a fault.
@@ -141,17 +113,22 @@ fn named_block<F: Format, C: Controller>(
     Ok(format.record(alloc, Detail::Block, id, &view, KnownReading::from(reading))?)
 }
 
-/// The text of an entry of the event log.
+/// The text of an entry of the event log. Empty for one that is not selected.
 pub(crate) fn entry_text<F: Format>(
     alloc: Global,
     format: &F,
-    entries: &EntryText,
+    entries: &EntryText<'_>,
     id: u16,
     entry: &SelView<'_>,
 ) -> Result<Vec<u8>, AllocError>
-    ensures { IfOk result (λ text. (F.texts format.now).IsEntry entries.now.detail id entry.now entries.now.sensors text.items) }
+    ensures { IfOk result (λ text. IfChosen (is_passed entries.now.selection.filters id entry.now)
+        (λ t. (F.texts format.now).IsEntry entries.now.selection.detail id entry.now entries.now.sensors t) text.items) }
 {
-    format.entry(alloc, entries.detail, id, entry, entries.sensors.as_ref())
+    if !entries.selection.selects(id, entry) {
+        return Ok(Vec::new(alloc));
+    }
+    let detail = entries.selection.detail();
+    format.entry(alloc, detail, id, entry, entries.sensors.as_ref())
 }
 
 /// The text of an item, and whether the item has a fault.
@@ -256,8 +233,9 @@ pub(crate) fn row_text<F: Format, C: Controller>(
             copy_bytes(lent, line);
             Ok(RowText::Line)
         }
-        Form::Record(detail, kind) => {
-            Ok(RowText::Own(listed_text(alloc, ctl, format, *detail, *kind, tries, lent)?))
+        Form::Record(detail, selection) => {
+            let record = listed_text(alloc, ctl, format, *detail, selection, tries, lent)?;
+            Ok(RowText::Own(record))
         }
         Form::Block(name) => {
             let block = named_block(alloc, ctl, format, name.as_str(), tries, lent)?;

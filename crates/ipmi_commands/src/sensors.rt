@@ -4,7 +4,7 @@ ghost use Rattle.std.specs.FinSet as set;
 ghost use Rattle.std.specs.List.{list_any};
 ghost use Rattle.ipmi_records.specs.Sdr.{name_of};
 ghost use Rattle.ipmi_commands.specs.Below.{AsksAtMost, End, IsHonest, row_of_record, Sdr, sdr_view_of, start_of, write_faults};
-ghost use Rattle.ipmi_commands.specs.Prelude.{Finds, IsFrom, is_name, LacksValue, most_on_walk, printed};
+ghost use Rattle.ipmi_commands.specs.Prelude.{Finds, IsFrom, LacksValue, most_on_walk, printed};
 ghost use Rattle.ipmi_commands.specs.Sensors.{AddsNamed, EndsSearch, Found, found_of, found_points, IsBlockOfFound, PrintsFound, SearchCalls, Searches, SearchesBy, with_readings};
 
 use crate::format::{Detail, Format};
@@ -12,8 +12,9 @@ use crate::job::Form;
 use crate::limits::{RequestLimits, Tries};
 use crate::pages::start_cursor;
 use crate::perform::write_piece;
-use crate::piece::{is_name, reading_for};
+use crate::piece::reading_for;
 use crate::read_error::ReadError;
+use crate::selection::{is_name, is_one_of};
 use crate::summary::Summary;
 use ipmi_bus::{Controller, Cursor, Record};
 use ipmi_command_line::Word;
@@ -81,13 +82,6 @@ impl FoundSensors {
         self.sensors.push(FoundSensor { id, bytes, reading })?;
         Ok(())
     }
-}
-
-/// Whether a record with the printed name `own` has one of these names.
-fn is_one_of(names: &[Word], own: &Option<String>) -> bool
-    ensures { result ≡ list_any (λ name. is_name name (option_map (λ text. string_bytes text) own.now)) names.now }
-{
-    names.iter().any(|name| is_name(name.as_str(), own))
 }
 
 /// Appends the record and its reading to `found` if it has one of these names. If this fails, `found` is unchanged.

@@ -73,7 +73,7 @@ pub(crate) fn list_tail<'a, F: Format, C: Controller, O: Sink>(
     ctl: &mut C,
     limits: RequestLimits,
     format: &F,
-    entries: EntryText,
+    entries: EntryText<'a>,
     wanted: u16,
     out: &mut O,
     summary: &mut Summary,
@@ -81,7 +81,7 @@ pub(crate) fn list_tail<'a, F: Format, C: Controller, O: Sink>(
     requires { 1 ≤ wanted }
     ensures faults { O.faults out.new ≡ O.faults out.old + write_faults result }
     ensures asked { AsksAtMost limits.part (C.seen ctl.old) (C.seen ctl.new) }
-    ensures runs { Runs (F.texts format.now) (Job.Tail entries wanted) limits.tries
+    ensures runs { Runs (F.texts format.now) (Job.Tail entries.entry wanted) limits.tries
         (change (C.seen ctl.old) (C.seen ctl.new) (printed (O.taken out.old) summary.old) (printed (O.taken out.new) summary.new)) result }
 {
     let Some(id) = tail_from(ctl, wanted, limits.tries())? else {

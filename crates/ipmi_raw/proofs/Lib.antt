@@ -10,3 +10,4 @@ mod AskLemmas
 mod StreamLemmas
 mod PipedLemmas
 mod HandedLemmas
+mod LastWordsLemmas

@@ -12,3 +12,4 @@ pub mod Heard
 pub mod Streams
 pub mod Piped
 pub mod Handed
+pub mod LastWords

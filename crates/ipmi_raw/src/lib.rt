@@ -10,6 +10,7 @@ mod controller;
 pub mod freeipmi;
 mod heard;
 pub mod ipmitool;
+mod last_words;
 pub mod laws;
 mod line;
 mod peer;
@@ -23,6 +24,7 @@ pub mod words;
 
 pub use controller::RawController;
 pub use heard::Heard;
+pub use last_words::line_of_output;
 pub use line::Line;
 pub use peer::{Lost, Peer, ReplyText};
 pub use piped::{Open, Piped};

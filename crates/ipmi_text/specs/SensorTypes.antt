@@ -1,5 +1,7 @@
 -- The names of sensor types (IPMI v2.0, table 42-3).
-use Rattle.std.specs.Prelude.{ℕ, List, [], ◌∷◌, codes}
+use Rattle.std.specs.Prelude.{ℕ, ◌+◌, List, [], ◌∷◌, codes, Option, option_map}
+use Rattle.std.specs.List.{position}
+use Rattle.std.specs.Str.{str_eq_ignore_ascii_case}
 use Rattle.ipmi_text.specs.Names.{name_from_one, name_or_code}
 
 -- the names, starting at type 01h, some of them shortened
@@ -53,3 +55,7 @@ sensor_types =
 -- the name of a type, or else `sensor type 0xNN`
 abbrev pub sensor_type_text_of : ℕ → List ℕ
 sensor_type_text_of code = name_or_code (name_from_one sensor_types code) (codes "sensor type") code
+
+-- the type with this name, in capital or small letters
+abbrev pub sensor_type_named : List ℕ → Option ℕ
+sensor_type_named name = option_map (λ place. place + 1) (position (λ known. str_eq_ignore_ascii_case known name) sensor_types)

@@ -25,6 +25,6 @@ pub use field_text::{ENGLISH, fru_text, push_sdr_text, sdr_text};
 pub use hex_digits::{ByteH, HexByte, HexWord, WordH};
 pub use reading::Reading;
 pub use sdr_header::{SDR_HEADER_LEN, sdr_len};
-pub use sensor_types::{SensorType, sensor_type_text};
+pub use sensor_types::{SENSOR_TYPES, SensorType, sensor_type_text};
 pub use times::{UtcTime, minutes_text, utc_text};
 pub use units::{Units, push_units, unit_text};

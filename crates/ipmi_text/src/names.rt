@@ -1,5 +1,7 @@
 //! Names from tables, and what is printed for a code without a name.
-ghost use Rattle.std.specs.Prelude.{◌≡◌, ◌<◌, length, map, option_map, slice_get, slice_index_or, []};
+ghost use Rattle.std.specs.Prelude.{◌≡◌, ◌<◌, IfSome, length, map, option_map, slice_get, slice_index_or, []};
+ghost use Rattle.std.specs.List.{position};
+ghost use Rattle.std.specs.Str.{str_eq_ignore_ascii_case};
 ghost use Rattle.ipmi_text.specs.Names.{name_from_one};
 
 use crate::hex_digits::HexByte;
@@ -25,6 +27,16 @@ pub(crate) fn name_from_one(table: &[&'static str], code: u8) -> Option<&'static
     ensures { option_map (λ s. s.now) result ≡ name_from_one (map (λ s. s.now) table.now) code }
 {
     name_at(table, usize::from(code).checked_sub(1)?)
+}
+
+/// The index of a name in a table, in capital or small letters.
+pub(crate) fn place_of(table: &[&'static str], name: &str) -> Option<usize>
+    ensures place { result ≡ position (λ known. str_eq_ignore_ascii_case known.now name.now) table.now }
+    ensures bound { IfSome result (λ place. place < length table.now) }
+{
+    table
+        .iter()
+        .position(|known| known.eq_ignore_ascii_case(name))
 }
 
 /// A code of some kind, printed as its name, or as `KIND 0xNN` if it has none.

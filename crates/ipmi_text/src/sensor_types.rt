@@ -1,17 +1,17 @@
 //! The names of sensor types.
-ghost use Rattle.std.specs.Prelude.{◌≡◌, IfOk, string_bytes};
-ghost use Rattle.ipmi_text.specs.SensorTypes.{sensor_type_text_of};
+ghost use Rattle.std.specs.Prelude.{◌≡◌, IfOk, option_map, string_bytes};
+ghost use Rattle.ipmi_text.specs.SensorTypes.{sensor_type_named, sensor_type_text_of};
 
 use crate::capacity::text_with_capacity;
-use crate::names::{NameOrCode, name_from_one};
+use crate::names::{NameOrCode, name_from_one, place_of};
 use std::alloc::{AllocError, Global};
 use std::fmt;
 
 /// The capacity for the text of any sensor type.
 const CAPACITY: usize = 32;
 
-/// The names, starting at type 01h, some of them shortened (IPMI v2.0, table 42-3).
-const SENSOR_TYPES: [&str; 44] = [
+/// The names of sensor types, starting at type 01h, some of them shortened (IPMI v2.0, table 42-3).
+pub const SENSOR_TYPES: [&str; 44] = [
     "Temperature",
     "Voltage",
     "Current",
@@ -61,6 +61,18 @@ const SENSOR_TYPES: [&str; 44] = [
 /// A sensor type, printed as its name (IPMI v2.0, table 42-3), or as `sensor type 0xNN` if it has none.
 #[derive(Clone, Copy, Debug, PartialEq, Eq)]
 pub struct SensorType(pub u8);
+
+impl SensorType {
+    /// The type with this name (IPMI v2.0, table 42-3), in capital or small letters, if there is one.
+    pub fn named(name: &str) -> Option<SensorType>
+        ensures { option_map (λ kind. kind.0) result ≡ sensor_type_named name.now }
+    {
+        match place_of(&SENSOR_TYPES, name) {
+            Some(place) => Some(SensorType(place as u8 + 1)),
+            None => None,
+        }
+    }
+}
 
 impl fmt::Display for SensorType {
     ghost use Rattle.std.specs.Prelude.{Some};

@@ -4,4 +4,3 @@ pub mod EndingLemmas
 pub mod ImagesLemmas
 pub mod NamesLemmas
 pub mod RunErrorLemmas
-mod LastWordsLemmas

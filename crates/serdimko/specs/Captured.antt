@@ -15,7 +15,7 @@ use Rattle.ipmi_output.specs.Received.{Received, ReceivesText}
 use Rattle.ipmi_output.specs.declared.failure.Failure.{Failure}
 use Rattle.ipmi_output.specs.Sink.{TakesPart}
 use Rattle.serdimko.specs.declared.capture.Target.{Target}
-use Rattle.serdimko.specs.LastWords.{lost_text}
+use Rattle.ipmi_raw.specs.LastWords.{lost_text}
 use Rattle.serdimko.specs.Live.{name_of}
 use Rattle.serdimko.specs.Out.{Out}
 use Rattle.serdimko.specs.RunError.{named_text, no_reply_text}

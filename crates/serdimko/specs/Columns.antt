@@ -15,7 +15,7 @@ use Rattle.serdimko.specs.Printing.{WritesLine}
 use Rattle.serdimko.specs.RunError.{faults_of_error}
 
 abbrev pub table_of_query : Query → Table
-table_of_query (Query.Print task from) = table_of task
+table_of_query (Query.Print task from filters) = table_of task
 table_of_query (Query.Sensors names from) = Table.Records
 
 -- the names of a table's columns and of labels

@@ -6,6 +6,5 @@ pub mod Printing
 pub mod Reason
 pub mod RunError
 pub mod Settings
-pub mod LastWords
 pub mod Closed
 pub mod Columns

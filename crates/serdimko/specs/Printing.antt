@@ -5,8 +5,11 @@ use Rattle.std.specs.declared.alloc.AllocError.{AllocError}
 use Rattle.std.specs.declared.alloc.Global.{Global}
 use Rattle.ipmi_bus.specs.CursorState.{start_of}
 use Rattle.ipmi_bus.specs.Seen.{AsksAtMost, IsHonest}
+use Rattle.ipmi_command_line.specs.declared.filters.Filters.{Filters}
 use Rattle.ipmi_command_line.specs.declared.task.Task.{Task}
-use Rattle.ipmi_commands.specs.Prelude.{change, job_of, keeping_last, most_on_walk, Output, RunsCommand}
+use Rattle.ipmi_commands.specs.Format.{Texts}
+use Rattle.ipmi_commands.specs.declared.job.Job.{Job}
+use Rattle.ipmi_commands.specs.Prelude.{change, choosing, job_of, keeping_last, most_on_walk, Output, RunsCommand}
 use Rattle.ipmi_program.specs.declared.wording.Wording.{Wording}
 use Rattle.ipmi_commands.specs.Sensors.{AddsNamed, EndsSearch, Found, PrintsFound, Searches, with_readings}
 use Rattle.ipmi_commands.specs.declared.limits.RequestLimits.{RequestLimits}
@@ -22,7 +25,7 @@ use Rattle.serdimko.specs.declared.driver.Query.{Query}
 use Rattle.serdimko.specs.declared.outcome.Outcome.{Outcome}
 use Rattle.serdimko.specs.declared.report.Report.{Report}
 use Rattle.serdimko.specs.declared.run_error.RunError.{RunError}
-use Rattle.serdimko.specs.LastWords.{IsLastLine}
+use Rattle.ipmi_raw.specs.LastWords.{IsLastLine}
 use Rattle.serdimko.specs.Out.{Out, State}
 use Rattle.serdimko.specs.Reason.{reason_of}
 use Rattle.serdimko.specs.Settings.{texts_for}
@@ -99,14 +102,18 @@ pub record RunsThenEnds (report : Report) (Prints : Output → Output → Ending
 
 -- ---- a task
 
+-- the job of a task, for the records that pass the filters
+abbrev pub chosen_job : Texts → Task → Option ℕ → Filters → Option Job
+chosen_job x task from filters = option_map (choosing filters) (job_of x.has_names task from)
+
 -- What a task prints of a controller. No part requested is too long. If the connection was lost, its tool's last words are told.
-pub record PrintsTask (limits : RequestLimits) (task : Task) (from : Option ℕ) (report : Report) (old new : State)
+pub record PrintsTask (limits : RequestLimits) (task : Task) (from : Option ℕ) (filters : Filters) (report : Report) (old new : State)
     (last : Option RunError) : Type 0 where
   pub said : Result (Option (String Global)) AllocError
   pub last_line : IsLastLine new.lost said
   pub asked : AsksAtMost limits.part old.seen new.seen
   pub runs : RunsThenEnds report
-      (λ before after. RunsCommand (texts_for report) (option_map keeping_last (job_of (texts_for report).has_names task from)) limits.tries (change old.seen new.seen before after))
+      (λ before after. RunsCommand (texts_for report) (option_map keeping_last (chosen_job (texts_for report) task from filters)) limits.tries (change old.seen new.seen before after))
       said old.out new.out last
 
 -- the outcome of a run with this error
@@ -187,7 +194,7 @@ pub record PrintsSensors (limits : RequestLimits) (names : List (List ℕ)) (fro
 -- ---- a query
 
 abbrev pub PrintsQuery : RequestLimits → Query → Report → State → State → Received → Received → Outcome → Type 0
-PrintsQuery limits (Query.Print task from) report old new said said' result =
-    (last : Option RunError) × PrintsTask limits task from report old new last × Reports report last said said' result
+PrintsQuery limits (Query.Print task from filters) report old new said said' result =
+    (last : Option RunError) × PrintsTask limits task from filters report old new last × Reports report last said said' result
 PrintsQuery limits (Query.Sensors names from) report old new said said' result =
     PrintsSensors limits names from report old new said said' result

@@ -14,7 +14,7 @@ use Rattle.serdimko.specs.declared.report.Report.{Report}
 
 -- the numbers of a query are in their ranges
 abbrev pub IsQuery : Query → Type 0
-IsQuery (Query.Print task from) = IsTask task × IsFrom from
+IsQuery (Query.Print task from filters) = IsTask task × IsFrom from
 IsQuery (Query.Sensors names from) = IsFrom from
 
 -- texts of one of several images follow its name

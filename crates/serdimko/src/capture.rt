@@ -14,7 +14,7 @@ ghost use Rattle.serdimko.specs.RunError.{no_reply_text};
 
 use crate::closable::{Output, is_closed};
 use crate::ending::write_flushed;
-use crate::live::{lost_line, name_of};
+use crate::live::name_of;
 use crate::run_error::{CLOSED, run_parts};
 use ipmi_bus::Shelf;
 use ipmi_capture::{Captured, Left, Progress, capture};
@@ -24,7 +24,7 @@ use ipmi_image::{ImageFault, Snapshot, snapshot_text};
 use ipmi_output::Part::{Escaped, Text};
 use ipmi_output::{Failure, MessageSink, write_failure, write_message};
 use ipmi_program::read_image;
-use ipmi_raw::{Open, Peer, Piped, RawController};
+use ipmi_raw::{Open, Peer, Piped, RawController, line_of_output};
 use std::alloc::{AllocError, Global};
 use std::fs::{self, File, Files};
 use std::io::{self, ErrorKind, Write};
@@ -285,7 +285,7 @@ fn report_captured<R: Files + AllocGlobal, W: Write + Drop, E: MessageSink>(
 {
     let (name, is_unknown) = name_of(host);
     if let Some(text) = lost {
-        let line = lost_line(rt.alloc(), text)?;
+        let line = line_of_output(rt.alloc(), text)?;
         say_lost(line.as_str(), name, err);
         return Ok(NOT_WHOLE);
     }

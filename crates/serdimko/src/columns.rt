@@ -22,7 +22,7 @@ fn table_of_query(query: &Query) -> Table
     ensures { result ≡ table_of_query query.now }
 {
     match query {
-        Query::Print(task, _) => table_of(task),
+        Query::Print(task, ..) => table_of(task),
         Query::Sensors(..) => Table::Records,
     }
 }

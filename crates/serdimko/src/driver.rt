@@ -5,9 +5,9 @@ ghost use Rattle.ipmi_command_line.specs.Command.{IsTask};
 ghost use Rattle.ipmi_bus.specs.Seen.{AsksAtMost};
 ghost use Rattle.ipmi_commands.specs.Prelude.{change, IsFrom, IsJob, keeping_last, printed, RunsCommand};
 ghost use Rattle.ipmi_output.specs.Failure.{write_faults};
-ghost use Rattle.serdimko.specs.LastWords.{IsLastLine};
+ghost use Rattle.ipmi_raw.specs.LastWords.{IsLastLine};
 ghost use Rattle.serdimko.specs.Settings.{IsQuery};
-ghost use Rattle.serdimko.specs.Printing.{PrintsName, PrintsNames, PrintsQuery, PrintsSensors, PrintsTask, Each, PrintsBroken, RunsName, RunsThenEnds};
+ghost use Rattle.serdimko.specs.Printing.{chosen_job, PrintsName, PrintsNames, PrintsQuery, PrintsSensors, PrintsTask, Each, PrintsBroken, RunsName, RunsThenEnds};
 
 use crate::closable::Output;
 use crate::ending::end_run;
@@ -15,7 +15,7 @@ use crate::outcome::Outcome;
 use crate::report::Report;
 use crate::run_error::RunError;
 use ipmi_bus::Controller;
-use ipmi_command_line::{Task, Word, Words};
+use ipmi_command_line::{Filters, Task, Word, Words};
 use ipmi_commands::{
     Format, FoundSensors, Job, RequestLimits, Summary, execute, find_sensors, print_sensors,
 };
@@ -56,10 +56,28 @@ impl Connection for SnapshotController {
 /// What is printed of each image or controller.
 #[derive(Drop)]
 pub(crate) enum Query {
-    /// What the task says, from this id on.
-    Print(Task, Option<u16>),
+    /// What the task says, from this id on; of a listing, the records that pass the filters.
+    Print(Task, Option<u16>, Filters),
     /// The block of each sensor with one of these names, from this id on.
     Sensors(Words, Option<u16>),
+}
+
+/// The job of the task, for the records that pass the filters.
+fn job_of<'a, F: Format>(
+    format: &F,
+    task: &'a Task,
+    from: Option<u16>,
+    filters: &'a Filters,
+) -> Option<Job<'a>>
+    requires task { IsTask task.now }
+    requires from { IsFrom from }
+    ensures value { result ≡ chosen_job (F.texts format.now) task.now from filters.now }
+    ensures range { IfSome result (λ job. IsJob job) }
+{
+    match Job::of(format, task, from) {
+        Some(job) => Some(job.choosing(filters)),
+        None => None,
+    }
 }
 
 /// Runs the job, which keeps last entries in memory. Without one, as for `image rewrite`, the run fails.
@@ -91,17 +109,18 @@ fn run_task<'a, C: Connection, W: Write + Drop>(
     limits: RequestLimits,
     task: &'a Task,
     from: Option<u16>,
+    filters: &'a Filters,
     report: &Report<'a, '_>,
     out: &mut Output<W>,
 ) -> Option<RunError<'a>>
     requires task { IsTask task.now }
     requires from { IsFrom from }
-    ensures { PrintsTask limits task.now from report.now
+    ensures { PrintsTask limits task.now from filters.now report.now
         (state (C.seen ctl.old) (⟦<C as Connection>⟧.lost ctl.old) (out_of out.old))
         (state (C.seen ctl.new) (⟦<C as Connection>⟧.lost ctl.new) (out_of out.new)) result }
 {
     let mut summary = Summary::new();
-    let job = Job::of(&report.format, task, from);
+    let job = job_of(&report.format, task, from, filters);
     let ending = run_job(alloc, ctl, limits, &report.format, job, out, &mut summary);
     let said = ctl.last_line(alloc);
     end_run(alloc, report, ending, said, &summary, out)
@@ -238,8 +257,8 @@ pub(crate) fn print_query<C: Connection, W: Write + Drop, E: MessageSink>(
         (E.received err.old) (E.received err.new) result }
 {
     match query {
-        Query::Print(task, from) => {
-            let error = run_task(alloc, ctl, limits, task, *from, report, out);
+        Query::Print(task, from, filters) => {
+            let error = run_task(alloc, ctl, limits, task, *from, filters, report, out);
             report.tell(&error, err)
         }
         Query::Sensors(names, from) => {

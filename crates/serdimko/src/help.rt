@@ -1,5 +1,6 @@
 //! The output of `--help`, `help` and `--version`.
 use ipmi_command_line::{COMMANDS, Topic};
+use ipmi_text::SENSOR_TYPES;
 use std::alloc::{AllocError, Global};
 
 /// The version of this program, as in the file VERSION.
@@ -31,10 +32,18 @@ Options, anywhere, also after the command:
   --records IMAGE  with serdimko-live: sensor data records from this image, if
                   its info of them is the machine's
   --from HEX4     start at this record id, not 0000 or FFFF (sdr list, elist,
-                  hex, get; sensor; sel list, elist)
+                  type, entity, hex, get; sensor; sel list, elist)
   --part N        ask for at most N bytes at once, 1 to 254 (default 64)
   --tries N       retries for one record or answer, 0 to 255 (default 5)
-  --id HEX        the ID of sel get in hex, as sel list prints it
+  --type TYPE     list only sensors of this type, a name or number (sdr type), or
+                  events of such sensors
+  --entity ID[.N]  list only what belongs to this entity
+  --id HEX        the ID of sel get in hex; in listings, only records or events
+                  with these ids: 0001-0005,000a
+  --exclude NAME  do not list records of this name; may come several times
+  --since TIME    list only events at this time or later
+  --until TIME    list only events at this time or earlier; TIME is
+                  2026-11-30T12:00Z, or 2026-11-30, which is midnight in UTC
   --strict        status 1 if a fault or a missing device was printed
   --json          an object in a line for each thing, and one at the end
   --csv           a line with the names of columns, and one for each thing
@@ -64,13 +73,18 @@ const SDR: &str = "Prints sensor data records.
 
   sdr list [KIND]      a line for each record: name, reading, status; also sdr
   sdr elist [KIND]     name, number, status, entity, reading
-  sdr get NAME         a block for each record of this name; quote a name with
-                       spaces: sdr get 'CPU1 Temp'
+  sdr get NAME..       a block for each record of these names; quote a name with
+                       spaces: sdr get 'CPU1 Temp' 'CPU2 Temp'
+  sdr type TYPE        sdr elist of the sensors of this type, a name or number
+  sdr type             the types of sensors
+  sdr entity ID[.N]    sdr elist of the records of this entity
   sdr info             a summary of the repository
   sdr hex              each record as a line of an image
 
 KIND is all, full, compact, event, generic, mclocator or fru; without it full
-and compact records are listed, which are the sensors.
+and compact records are listed, which are the sensors. --type TYPE,
+--entity ID[.N], --id HEX[-HEX],.. and --exclude NAME list fewer of them: --type
+and --entity leave out a record that can't be read, --exclude does not.
 --from HEX4 starts at this record id, in the order of the next ids.
 ";
 
@@ -85,7 +99,8 @@ The thresholds are lnr, lcr, lnc, unc, ucr, unr: lower (l) or upper (u), and
 non-recoverable (nr), critical (cr) or non-critical (nc); - where there is none.
 The status is the worst that is passed, as unc; ok: none is, or there is none;
 ns: none, or not captured; na: not a sensor of this controller. sdr list has no
-l and u.
+l and u. --type TYPE, --entity ID[.N], --id HEX[-HEX],.. and --exclude NAME list
+fewer sensors.
 --from HEX4 starts at this record id, in the order of the next ids.
 ";
 
@@ -106,6 +121,9 @@ const SEL: &str = "Prints the system event log.
 N is 0 to 65535, and 0 means all; sel tail takes no 0. ID is 1 to 65534. Both
 are decimal, or 0x and four hex digits at most: 0016 is --id 0016, 0x16 or 22.
 --from HEX4 starts at this record id, with sel list and sel elist.
+--since TIME, --until TIME, --type TYPE and --id HEX[-HEX],.. list fewer events;
+a number N does not go with them. TIME is a date or 2026-11-30T12:00Z. An event
+without a known time is left out by --since and --until.
 ";
 
 const FRU: &str = "Prints inventories of field replaceable units.
@@ -147,6 +165,17 @@ fn general(alloc: Global) -> Result<String, AllocError> {
     Ok(text)
 }
 
+/// The sensor types that have names, each with its number.
+fn sensor_types(alloc: Global) -> Result<String, AllocError> {
+    let mut text = String::new(alloc);
+    for (place, name) in SENSOR_TYPES.iter().enumerate() {
+        let code = place + 1;
+        let line = format!(in alloc; "0x{code:02x}  {name}\n")?;
+        text.push_str(line.as_str())?;
+    }
+    Ok(text)
+}
+
 /// The help text on a topic.
 pub(crate) fn help_on(alloc: Global, topic: Topic) -> Result<String, AllocError> {
     String::from_str(
@@ -159,6 +188,7 @@ pub(crate) fn help_on(alloc: Global, topic: Topic) -> Result<String, AllocError>
             Topic::Fru => FRU,
             Topic::Capture => CAPTURE,
             Topic::Image => IMAGE,
+            Topic::SensorTypes => return sensor_types(alloc),
         },
     )
 }

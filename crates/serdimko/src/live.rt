@@ -1,11 +1,10 @@
 //! Prints what a command asks for from a live controller. A stock tool holds a session with it, and pipes in a folder lead to the tool.
-ghost use Rattle.std.specs.Prelude.{◌≡◌, ◌*◌, None, Some, IfOk, is_none, map, option_map, string_bytes, take};
+ghost use Rattle.std.specs.Prelude.{◌≡◌, ◌*◌, None, Some, IfOk, is_none, option_map, string_bytes};
 ghost use Rattle.std.specs.Duration.{as_nanos};
 ghost use Rattle.ipmi_image.specs.WithRecords.{machine_of};
 ghost use Rattle.ipmi_raw.specs.Controller.{last_words};
 ghost use Rattle.ipmi_raw.specs.Handed.{OnlyRequests};
 ghost use Rattle.ipmi_raw.specs.Piped.{no_units};
-ghost use Rattle.serdimko.specs.LastWords.{lost_text, on_a_line, said_lines};
 ghost use Rattle.serdimko.specs.Live.{name_of, pipe_name, PrintsLive, tool_of};
 ghost use Rattle.serdimko.specs.Out.{out_of, state};
 ghost use Rattle.serdimko.specs.Columns.{Then};
@@ -24,7 +23,7 @@ use ipmi_commands::RequestLimits;
 use ipmi_image::WithRecords;
 use ipmi_output::{Failure, MessageSink};
 use ipmi_program::labels_of;
-use ipmi_raw::{Open, Piped, RawController, Tool};
+use ipmi_raw::{Open, Piped, RawController, Tool, line_of_output};
 use std::alloc::{AllocError, Global};
 use std::fs::{self, File, Files, OpenOptions};
 use std::io::{self, BufReader, Write};
@@ -32,11 +31,6 @@ use std::time::{Clock, Duration};
 
 /// The pause in milliseconds after a busy answer, before the next call.
 const PAUSE: u64 = 500;
-
-/// The largest number of bytes and of lines of a tool's output in a message.
-const MOST_TOLD: usize = 200;
-
-const MOST_LINES: usize = 3;
 
 /// The tool of a live controller, and the folder of its pipes.
 #[derive(Clone, Copy)]
@@ -118,46 +112,6 @@ impl<'a, R: Files + AllocGlobal> Open for Pipes<'a, R> {
     }
 }
 
-/// The end mark that ipmitool prints after each reply.
-const MARK: &str = ".";
-
-/// The lines of a text that say something, without white space at their ends; at most three.
-fn said_lines<'a>(alloc: Global, text: &'a str) -> Result<Vec<&'a str>, AllocError>
-    ensures { IfOk result (λ lines. map (λ line. line.now) lines.items ≡ said_lines text.entry.now) }
-{
-    text.lines()
-        .map(|line| line.trim())
-        .filter(|line| !line.is_empty() && *line != MARK)
-        .take(MOST_LINES)
-        .collect(alloc)
-}
-
-/// The first part of a tool's output, which is told.
-fn first_part(text: &[u8]) -> &[u8]
-    ensures { result.now ≡ take MOST_TOLD text.now }
-{
-    &text[..MOST_TOLD.min(text.len())]
-}
-
-/// These lines on one; without any, that there are none.
-fn on_a_line(alloc: Global, lines: &[&str]) -> Result<String, AllocError>
-    ensures { IfOk result (λ line. string_bytes line ≡ on_a_line (map (λ line. line.now) lines.now)) }
-{
-    match lines {
-        [] => String::from_str(alloc, "the tool said nothing"),
-        [_, ..] => lines.join(alloc, "; "),
-    }
-}
-
-/// The last output of the tool, on one line, cut off if it is long.
-pub(crate) fn lost_line(alloc: Global, text: &[u8]) -> Result<String, AllocError>
-    ensures { IfOk result (λ line. string_bytes line ≡ lost_text text.now) }
-{
-    let text = String::from_utf8_lossy(alloc, first_part(text))?;
-    let lines = said_lines(alloc, text.as_str())?;
-    on_a_line(alloc, lines.as_slice())
-}
-
 impl<O: Open + Drop, K: Clock + Drop> Connection for RawController<Piped<O>, K> {
     ghost lost = { λ controller. last_words controller };
 
@@ -165,7 +119,7 @@ impl<O: Open + Drop, K: Clock + Drop> Connection for RawController<Piped<O>, K> 
 
     fn last_line(&self, alloc: Global) -> Result<Option<String>, AllocError> {
         match self.lost() {
-            Some(text) => Ok(Some(lost_line(alloc, text)?)),
+            Some(text) => Ok(Some(line_of_output(alloc, text)?)),
             None => Ok(None),
         }
     }

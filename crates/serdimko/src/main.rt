@@ -118,6 +118,7 @@ fn run<E: MessageSink>(rt: &HostRuntime, request: Request, err: &mut E) -> Resul
 {
     let Request {
         action,
+        filters,
         source,
         records,
         limits,
@@ -143,7 +144,7 @@ fn run<E: MessageSink>(rt: &HostRuntime, request: Request, err: &mut E) -> Resul
         Action::Print(task, from) => {
             run_query(
                 rt,
-                &Query::Print(task, from),
+                &Query::Print(task, from, filters),
                 &source,
                 records,
                 &settings,

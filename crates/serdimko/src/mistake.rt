@@ -20,7 +20,7 @@ fn is_quoted(name: &str) -> bool {
     name.bytes().any(|byte| byte == b' ' || byte == b'\'' || byte.is_ascii_control())
 }
 
-/// What to say after a run of `sensor get` that lacks something: the words may be one name that was not quoted.
+/// What to say after a run for several names that lacks something: the words may be one name that was not quoted.
 pub(crate) fn maybe_unquoted<'a>(
     alloc: Global,
     names: &'a [Word],
@@ -28,7 +28,7 @@ pub(crate) fn maybe_unquoted<'a>(
     if names.len() < 2 || names.iter().any(|name| is_quoted(name.as_str())) {
         return Ok(None);
     }
-    let rule = "'sensor get' takes each word as a name: quote a name that has spaces";
+    let rule = "each word is a name: quote a name that has spaces";
     let mut parts = line(alloc, &[Text(rule)])?;
     if let [first, second] = names {
         let (first, second) = (Escaped(first.as_str()), Escaped(second.as_str()));

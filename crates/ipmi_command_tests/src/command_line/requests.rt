@@ -1,7 +1,8 @@
 //! What command lines of `serdimko` ask for, and why others are refused.
 use crate::cases::parts;
 use ipmi_command_line::{
-    Action, Format, Request, Source, Task, UsageError, Word, Words, request_of,
+    Action, Filters, Format, IdRange, Ids, Request, Source, Task, UsageError, Word, Words,
+    request_of,
 };
 use std::alloc::Global;
 use std::process::Abort;
@@ -96,16 +97,51 @@ fn format_text(rt: &impl Abort, alloc: Global, form: &Format) -> String {
     }
 }
 
-/// A request: the action, the source and the image of its records, the limits, the format, and whether it is strict.
+fn ranges_of(ids: &Option<Ids>) -> &[IdRange] {
+    match ids {
+        Some(ids) => ids.as_slice(),
+        None => &[],
+    }
+}
+
+/// The filters that were given, each after a space.
+fn filters_text(rt: &impl Abort, alloc: Global, filters: &Filters) -> String {
+    let mut text = String::new(alloc);
+    if let Some(code) = filters.sensor_type {
+        write!(text, " type {code}").expect(rt, "memory");
+    }
+    if let Some(entity) = filters.entity {
+        let (id, instance) = (entity.id, entity.instance);
+        write!(text, " entity {id} {instance:?}").expect(rt, "memory");
+    }
+    for range in ranges_of(&filters.ids) {
+        let (first, last) = (range.first, range.last);
+        write!(text, " {first}-{last}").expect(rt, "memory");
+    }
+    if let Some(time) = filters.since {
+        write!(text, " since {time}").expect(rt, "memory");
+    }
+    if let Some(time) = filters.until {
+        write!(text, " until {time}").expect(rt, "memory");
+    }
+    for name in filters.excluded.as_slice() {
+        let name = name.as_str();
+        write!(text, " not {name}").expect(rt, "memory");
+    }
+    text
+}
+
+/// A request: the action, the filters, the source and the image of its records, the limits, the format, and whether it is strict.
 fn request_text(rt: &impl Abort, alloc: Global, request: &Request) -> String {
     let action = action_text(rt, alloc, &request.action);
+    let filters = filters_text(rt, alloc, &request.filters);
     let source = source_text(rt, alloc, &request.source);
     let records = request.records.as_ref().map_or("", Word::as_str);
     let form = format_text(rt, alloc, &request.format);
     let (part, tries, strict) = (request.limits.part, request.limits.tries, request.strict);
-    format!(in alloc; "{action}; {source}{records}; {part:?} {tries}; {form}; {strict}").expect(
-        rt, "memory",
-    )
+    format!(in alloc;
+        "{action}{filters}; {source}{records}; {part:?} {tries}; {form}; {strict}"
+    ).expect(rt, "memory")
 }
 
 fn answer_text(rt: &impl Abort, alloc: Global, answer: Result<Request, UsageError<'_>>) -> String {
@@ -138,13 +174,28 @@ sdr|List(Sensors) None; images; None 5; plain; false
 --,sdr,list|List(Sensors) None; images; None 5; plain; false
 sdr,list,--image,a,full,--from,00a0|List(Full) Some(160); images a; None 5; plain; false
 --image,a,sdr,get,CPU1 Temp,--image=-|Get(CPU1 Temp) None; images a -; None 5; plain; false
+sdr,get,CPU1,Temp|sensors CPU1 Temp None; images; None 5; plain; false
 sdr,get,--,--help|Get(--help) None; images; None 5; plain; false
+sdr,type,Fan|Elist(All) None type 4; images; None 5; plain; false
+sdr,type,power supply,--exclude,PSU1,--exclude,PSU2|Elist(All) None type 8 not PSU1 not PSU2; images; None 5; plain; false
+sdr,type,0xff,--json|Elist(All) None type 255; images; None 5; json; false
+sdr,type|help SensorTypes; images; None 5; plain; false
+sdr,type,list,--strict|help SensorTypes; images; None 5; plain; false
+sdr,list,--id,0000-0002|List(Sensors) None 0-2; images; None 5; plain; false
+sdr,entity,7|Elist(All) None entity 7 None; images; None 5; plain; false
+sdr,entity,0x07.127,--from,0002|Elist(All) Some(2) entity 7 Some(127); images; None 5; plain; false
+sdr,list,all,--type,1,--entity,3.1|List(All) None type 1 entity 3 Some(1); images; None 5; plain; false
+sensor,--id,000a|List(Sensors) None 10-10; images; None 5; words; false
 sensor|List(Sensors) None; images; None 5; words; false
 sensor,list,--part,8,--tries,0|List(Sensors) None; images; Some(8) 0; words; false
 sensor,get,A,B,--from,0002|sensors A B Some(2); images; None 5; words; false
 sel|Info(Sel) None; images; None 5; plain; false
 sel,list,last,20|SelList(Last(20)) None; images; None 5; plain; false
 sel,elist|SelList(All) None; images; None 5; words; false
+sel,list,--since,1970-01-02,--until,1970-01-02T00:00:01Z|SelList(All) None since 86400 until 86401; images; None 5; plain; false
+sel,elist,--since,2026-11-30T01:00:00+01:00,--type,fan|SelList(All) None type 4 since 1795996800; images; None 5; words; false
+sel,list,--id,0001-000f|SelList(All) None 1-15; images; None 5; plain; false
+sel,elist,0,--until,2106-02-07T06:28:15Z|SelList(All) None until 4294967295; images; None 5; words; false
 sel,elist,0x10|SelList(First(16)) None; images; None 5; words; false
 sel,elist,last,3|SelList(Last(3)) None; images; None 5; words; false
 sel,tail,5|SelList(Tail(5)) None; images; None 5; words; false
@@ -184,7 +235,26 @@ sel,cl\u{7}ear|unknown word 'cl\\x07ear' after 'sel': use one of info list elist
 sdr,list,ful|'ful' is not a kind: all, full, compact, event, generic, mclocator or fru: did you mean 'full'?
 sdr,get|'sdr get' needs a NAME
 sensor,get|'sensor get' needs a NAME
-sdr,get,CPU1,Temp|unexpected word 'Temp' with 'sdr get': quote a name that has spaces
+sdr,type,Fann|'Fann' is not a sensor type, which is a name or a number from 0 to 255: did you mean 'Fan'?
+sdr,list,--type,256|'256' is not a sensor type, which is a name or a number from 0 to 255: for the names write serdimko sdr type
+sdr,type,Power,Supply|unexpected word 'Supply' with 'sdr type': quote a name that has spaces
+sdr,type,--json|--json does not go with 'sdr type'
+sel,list,--since,2026-12-01,--until,2026-11-01|--since is later than --until
+sdr,type,Fan,--type,Fan|--type does not go with 'sdr type'
+sdr,entity|'sdr entity' needs an entity: ID or ID.INSTANCE, 0 to 255 and 0 to 127
+sdr,entity,3.128|'3.128' is not an entity: ID or ID.INSTANCE, 0 to 255 and 0 to 127
+sdr,entity,3,1|unexpected word '1' with 'sdr entity'
+sensor,--id,5-1|--id '5-1' is not a hex id from 1 to FFFE; a listing also takes ascending ranges and commas, as 0001-0005,000A
+sdr,get,A,--exclude,B|--exclude does not go with 'sdr get'
+sel,tail,5,--type,Fan|--type does not go with 'sel tail'
+sel,list,--entity,3|--entity does not go with 'sel list'
+sel,list,5,--since,2026-11-30|a number of entries does not go with --type, --id, --since or --until
+sel,elist,last,5,--type,fan|a number of entries does not go with --type, --id, --since or --until
+sel,list,--since,yesterday|--since 'yesterday' is not a date, or a time with Z or an offset, from 1970 to 2106: 2026-11-30 or 2026-11-30T12:00Z
+sel,list,--until,2026-11-31|--until '2026-11-31' is not a date, or a time with Z or an offset, from 1970 to 2106: 2026-11-30 or 2026-11-30T12:00Z
+sel,list,--until,2106-02-07T06:28:16Z|--until '2106-02-07T06:28:16Z' is not a date, or a time with Z or an offset, from 1970 to 2106: 2026-11-30 or 2026-11-30T12:00Z
+sel,list,--since,1969-12-31|--since '1969-12-31' is not a date, or a time with Z or an offset, from 1970 to 2106: 2026-11-30 or 2026-11-30T12:00Z
+sdr,list,--since,2026-11-30|--since does not go with 'sdr list'
 sdr,info,foo|unexpected word 'foo' with 'sdr info'
 sel,list,ten|'ten' is not a number from 0 to 65535, in decimal without leading zeros or as 0x and up to four hex digits
 sel,get,0016|'0016' is not an ID from 1 to 65534, in decimal without leading zeros or as 0x and up to four hex digits: in hex write 0x0016, or --id 0016
@@ -194,7 +264,7 @@ sel,tail,0|'0' is not a number from 1 to 65535, in decimal without leading zeros
 sel,tail,5,6|unexpected word '6' with 'sel tail'
 sel,tail,5,--from,0002|--from does not go with 'sel tail'
 sel,get,1,--id,2|'sel get' takes an ID or --id, not both
-sdr,--id,2|--id does not go with 'sdr'
+sdr,hex,--id,2|--id does not go with 'sdr hex'
 sdr,list,--from,0000|--from '0000' is not four hex digits from 0001 to FFFE: leave it out to begin with the first record
 --part,0|--part '0' is not a number from 1 to 254, decimal without leading zeros
 sdr,info,--from,0001|--from does not go with 'sdr info'

@@ -2,7 +2,7 @@
 use crate::raw::cases::get_sdr;
 use ipmi_bus::{Code, Shelf};
 use ipmi_raw::words::{first_byte, strip};
-use ipmi_raw::{Reply, ReplyBytes, Request, Tool};
+use ipmi_raw::{Reply, ReplyBytes, Request, Tool, line_of_output};
 
 #[test]
 fn the_front_of_a_text_is_taken_off(rt: HostRuntime) {
@@ -97,5 +97,31 @@ fn some_codes_say_that_there_is_none(rt: HostRuntime) {
         (get_sdr(), 0xCC, 0xCC),
     ] {
         assert!(&rt; request.code_given(code) == Code(given), "{code}");
+    }
+}
+
+/// What a tool printed, and the line that a message has of it.
+const LAST_WORDS: [(&[u8], &str); 5] = [
+    (b"", "the tool said nothing"),
+    (b".\n \n.\n", "the tool said nothing"),
+    (
+        b"Error: Unable to establish session\n",
+        "Error: Unable to establish session",
+    ),
+    (b" one \n\ntwo\n.\nthree\nfour\n", "one; two; three"),
+    (b"a\xFF", "a\u{fffd}"),
+];
+
+#[test]
+fn what_a_tool_said_is_cut(rt: HostRuntime) {
+    let line = line_of_output(rt.alloc(), &[b'x'; 201]).expect(&rt, "memory");
+    assert!(&rt; line.len() == 200, "{line}");
+}
+
+#[test]
+fn what_a_tool_said_is_a_line(rt: HostRuntime) {
+    for (text, wanted) in LAST_WORDS {
+        let line = line_of_output(rt.alloc(), text).expect(&rt, "memory");
+        assert!(&rt; line.as_str() == wanted, "{wanted}: got {line}");
     }
 }

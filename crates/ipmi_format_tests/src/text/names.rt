@@ -1,6 +1,6 @@
 //! The names of sensor types, of chassis types and of events, and the codes that have none.
 use crate::cases::{assert_text, byte_of, parts};
-use ipmi_text::{chassis_text, event_text, sensor_type_text};
+use ipmi_text::{SensorType, chassis_text, event_text, sensor_type_text};
 use std::alloc::Global;
 use std::process::Abort;
 
@@ -136,6 +136,19 @@ fn each_sensor_type_has_its_name(rt: HostRuntime) {
     for line in SENSOR_TYPES.lines() {
         assert_sensor_type(&rt, rt.alloc(), line);
     }
+}
+
+#[test]
+fn a_sensor_type_is_found_by_its_name(rt: HostRuntime) {
+    let found = |name| SensorType::named(name).map(|kind| kind.0);
+    assert!(&rt; found("Temperature") == Some(0x01), "the first");
+    assert!(&rt;
+        found("fru state") == Some(0x2C),
+        "the last, in small letters"
+    );
+    assert!(&rt; found("POWER SUPPLY") == Some(0x08), "in capital letters");
+    assert!(&rt; found("Power").is_none(), "the beginning of a name");
+    assert!(&rt; found("").is_none(), "no name");
 }
 
 #[test]

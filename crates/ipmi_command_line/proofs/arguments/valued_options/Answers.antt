@@ -10,5 +10,10 @@ returns c =
     let records = c.in_ok-arg-3.ensures.shape c.option_rule-2.ensures.local ∙ ap₂ with_rule live c.option_rule-2.ensures.rule in
     let id = c.in_ok-arg-4.ensures.shape c.option_rule-3.ensures.local ∙ ap₂ with_rule records c.option_rule-3.ensures.rule in
     let separator = c.in_ok-arg-5.ensures.shape c.option_rule-4.ensures.local ∙ ap₂ with_rule id c.option_rule-4.ensures.rule in
-    IfOk-weaker c.arg-6.result _ _ (λ r h. h.shape c.output_rule.ensures.local
-    ∙ ap₂ with_rule separator c.output_rule.ensures.rule) c.arg-6.ensures
+    let type = c.in_ok-arg-6.ensures.shape c.option_rule-5.ensures.local ∙ ap₂ with_rule separator c.option_rule-5.ensures.rule in
+    let entity = c.in_ok-arg-7.ensures.shape c.option_rule-6.ensures.local ∙ ap₂ with_rule type c.option_rule-6.ensures.rule in
+    let exclude = c.in_ok-arg-8.ensures.shape c.list_rule-2.ensures.local ∙ ap₂ with_rule entity c.list_rule-2.ensures.rule in
+    let since = c.in_ok-arg-9.ensures.shape c.option_rule-7.ensures.local ∙ ap₂ with_rule exclude c.option_rule-7.ensures.rule in
+    let until = c.in_ok-arg-10.ensures.shape c.option_rule-8.ensures.local ∙ ap₂ with_rule since c.option_rule-8.ensures.rule in
+    IfOk-weaker c.arg-11.result _ _ (λ r h. h.shape c.output_rule.ensures.local
+    ∙ ap₂ with_rule until c.output_rule.ensures.rule) c.arg-11.ensures

@@ -24,8 +24,8 @@ returns-in-Ok-clause-runs g c =
       traces = λ h. tt;
     }
 
-pub returns-in-Err-clause-runs : goal.returns-in-Err-clause-runs
-returns-in-Err-clause-runs g c =
+pub returns-clause-runs : goal.returns-clause-runs
+returns-clause-runs g c =
     let counts = rw c.in-Err.is at c.count_entries.ensures.honest in
     record {
       calls = omega (arith, c.count_entries.ensures.calls);

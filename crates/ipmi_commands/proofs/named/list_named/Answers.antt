@@ -4,6 +4,7 @@ use Rattle.ipmi_commands.proofs.NamedLemmas.{devices_run, events_run, names_fail
 use Rattle.ipmi_commands.proofs.PartLemmas.{after_spares, job_spares, walk_spares}
 use Rattle.ipmi_commands.specs.declared.format.Detail.{Detail}
 use Rattle.ipmi_commands.specs.Below.{IsStateOf}
+use Rattle.ipmi_commands.specs.Selection.{in_detail}
 use Rattle.ipmi_commands.proofs.named.list_named.Goals as goal
 
 pub returns-in_err-walked-clause-runs : goal.returns-in_err-walked-clause-runs
@@ -15,7 +16,7 @@ pub returns-in_err-list_events-in-Events-clause-runs : goal.returns-in_err-list_
 returns-in_err-list_events-in-Events-clause-runs g c =
     let reads = rw (c.new-records.ensures.taken, c.new.ensures.items, c.new-counted.ensures) at c.in_ok-walked.ensures.reads in
     rw (c.in-Events.is, passed _ _ c.from_residual-in_err-list_events-in-Events.ensures.1)
-    (events_run (g.F.Format.texts c.args.format.now) c.what_is_found_is_a_row.ensures c.records_are_found_again.ensures c.args.limits.tries _ _ _ _ _ _ c.in-Events.detail _ _ (sym reads.is) reads.page
+    (events_run (g.F.Format.texts c.args.format.now) c.what_is_found_is_a_row.ensures c.records_are_found_again.ensures c.args.limits.tries _ _ _ _ _ _ c.in-Events.selection _ _ (sym reads.is) reads.page
     c.in-Events.count c.in-Events.from (Err _) reads.calls
     (rw (some_is _ _ (c.into_inner-records.ensures.bytes (λ w. refl))) at c.in_err-list_events-in-Events.ensures.runs))
 
@@ -23,7 +24,7 @@ pub returns-in-Events-clause-runs : goal.returns-in-Events-clause-runs
 returns-in-Events-clause-runs g c =
     let reads = rw (c.new-records.ensures.taken, c.new.ensures.items, c.new-counted.ensures) at c.in_ok-walked.ensures.reads in
     rw (c.in-Events.is, c.end.ensures)
-    (events_run (g.F.Format.texts c.args.format.now) c.what_is_found_is_a_row.ensures c.records_are_found_again.ensures c.args.limits.tries _ _ _ _ _ _ c.in-Events.detail _ _ (sym reads.is) reads.page
+    (events_run (g.F.Format.texts c.args.format.now) c.what_is_found_is_a_row.ensures c.records_are_found_again.ensures c.args.limits.tries _ _ _ _ _ _ c.in-Events.selection _ _ (sym reads.is) reads.page
     c.in-Events.count c.in-Events.from (Ok _) reads.calls
     (rw (some_is _ _ (c.into_inner-records.ensures.bytes (λ w. refl))) at c.in_ok-list_events-in-Events.ensures.runs))
 
@@ -33,7 +34,7 @@ returns-clause-runs g c =
     let bytes = c.deref.ensures.value ∙ some_is _ _ (c.into_inner-records.ensures.bytes (λ w. refl)) in
     let devices = c.print_devices.ensures in
     rw c.in-Devices.is
-    (devices_run (g.F.Format.texts c.args.format.now) c.what_is_found_is_a_row.ensures c.records_are_found_again.ensures c.args.limits.tries _ _ _ _ _ _ Detail.Line _ _ (sym reads.is) reads.page
+    (devices_run (g.F.Format.texts c.args.format.now) c.what_is_found_is_a_row.ensures c.records_are_found_again.ensures c.args.limits.tries _ _ _ _ _ _ (in_detail Detail.Line) _ _ (sym reads.is) reads.page
     c.print_devices.result reads.calls reads.whole (rw bytes at devices.calls) devices.ends (rw bytes at devices.honest))
 
 pub returns-in_err-walked-clause-parts : goal.returns-in_err-walked-clause-parts

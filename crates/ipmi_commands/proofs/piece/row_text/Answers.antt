@@ -2,8 +2,8 @@ use Rattle.std.proofs.Common.{rules}
 use Rattle.ipmi_commands.proofs.AskLemmas.{passed}
 use Rattle.ipmi_commands.proofs.piece.row_text.Goals as goal
 
-pub returns-in_err-listed_text-in-Record-clause-honest : goal.returns-in_err-listed_text-in-Record-clause-honest
-returns-in_err-listed_text-in-Record-clause-honest g c = search rules
+pub returns-in_err-record-in-Record-clause-honest : goal.returns-in_err-record-in-Record-clause-honest
+returns-in_err-record-in-Record-clause-honest g c = search rules
 
 pub returns-in_err-block-in-Block-clause-honest : goal.returns-in_err-block-in-Block-clause-honest
 returns-in_err-block-in-Block-clause-honest g c = search rules

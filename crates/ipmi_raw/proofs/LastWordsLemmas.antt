@@ -3,7 +3,7 @@ use Rattle.std.proofs.Common.{◌≡◌, ◌≤◌, ◌++◌, [], ◌∷◌, ap,
 use Rattle.std.proofs.lemmas.List.Folds.{flat_map-map}
 use Rattle.std.specs.Borrow.{Bor}
 use Rattle.std.specs.List.{join_by}
-use Rattle.serdimko.specs.LastWords.{on_a_line}
+use Rattle.ipmi_raw.specs.LastWords.{on_a_line}
 
 pub joined : (lines : List (Bor (List ℕ))) → 1 ≤ length lines
     → join_by (λ line. line.now) (codes "; ") lines ≡ on_a_line (map (λ line. line.now) lines)

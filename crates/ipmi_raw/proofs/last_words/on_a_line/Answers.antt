@@ -1,6 +1,6 @@
 use Rattle.std.proofs.Common.{◌≡◌, IfOk, List, ℕ, string_bytes, subst}
-use Rattle.serdimko.proofs.LastWordsLemmas.{joined}
-use Rattle.serdimko.proofs.live.on_a_line.Goals as goal
+use Rattle.ipmi_raw.proofs.LastWordsLemmas.{joined}
+use Rattle.ipmi_raw.proofs.last_words.on_a_line.Goals as goal
 
 pub returns-in-len1-up : goal.returns-in-len1-up
 returns-in-len1-up c =

@@ -3,7 +3,7 @@ use Rattle.std.specs.Str.{trim}
 use Rattle.std.proofs.lemmas.Iterator.{YieldsList-from_map_by, YieldsList-from_take}
 use Rattle.std.proofs.lemmas.Iterator.Consumers.{map_from_collect, YieldsList-at, YieldsList-from_filter}
 use Rattle.std.proofs.lemmas.Iterator.Splits.{YieldsList-from_lines}
-use Rattle.serdimko.proofs.live.said_lines.Goals as goal
+use Rattle.ipmi_raw.proofs.last_words.said_lines.Goals as goal
 
 pub returns : goal.returns
 returns c =

@@ -1,0 +1,365 @@
+//! Which records of a listing are printed.
+ghost use Rattle.std.specs.Prelude.{◌≡◌, ◌⊎◌, ◌==◌, codes, IfOk, map, MatchResult, None, option_map, Some, string_bytes};
+ghost use Rattle.std.specs.List.{filter_map, list_all, slice_split};
+ghost use Rattle.clap.specs.Words.{first_of, found_of, rows_of};
+ghost use Rattle.ipmi_command_line.specs.Arguments.{values_of};
+ghost use Rattle.ipmi_command_line.specs.Commands.{texts};
+ghost use Rattle.ipmi_command_line.specs.Filters.{are_ordered, byte_of, choose_entries, entity_of, entity_text, filters_of, full_time, id_range, ids_of, ids_text, is_id_range, no_filters, optional, sensor_type_of, stamp_of, time_of, type_text};
+ghost use Rattle.ipmi_command_line.specs.declared.error.UsageError.{UsageError};
+
+use crate::arguments::value;
+use crate::commands::{Operand, Verb};
+use crate::error::{Hint, UsageError};
+use crate::mistake::{unknown_type, value_error};
+use crate::number::{hex_id, number};
+use crate::request::copies_of;
+use crate::words::Words;
+use clap::ArgMatches;
+use ipmi_text::SensorType;
+use jiff::Timestamp;
+use std::alloc::{AllocError, Global};
+use std::marker::Model;
+
+/// An entity, or one instance of it (IPMI v2.0, section 43.14).
+#[derive(Clone, Copy, Debug, PartialEq, Eq)]
+pub struct EntityFilter {
+    /// The entity id.
+    pub id: u8,
+    /// The instance, 0 to 127. None: each of them.
+    pub instance: Option<u8>,
+}
+
+/// Record ids, from the first to the last.
+#[derive(Clone, Copy, Debug, PartialEq, Eq)]
+pub struct IdRange {
+    /// The first id.
+    pub first: u16,
+    /// The last id.
+    pub last: u16,
+}
+
+/// Record ids, as ranges. In contracts they are a list.
+#[derive(Debug, Drop)]
+pub struct Ids {
+    ranges: Vec<IdRange>,
+}
+
+impl Model for Ids {
+    ghost use Rattle.std.specs.Prelude.{List};
+    ghost use Rattle.ipmi_command_line.specs.declared.filters.IdRange.{IdRange};
+
+    ghost Value = { List IdRange };
+
+    ghost view = { λ ids. ids.ranges.items };
+}
+
+impl Ids {
+    /// The ranges, in the order of the command line.
+    pub fn as_slice(&self) -> &[IdRange]
+        ensures { result.now ≡ self.now }
+    {
+        self.ranges.as_slice()
+    }
+}
+
+/// What a record has to be so that a listing prints it. A filter that was not given lets every record pass.
+#[derive(Debug, Drop)]
+pub struct Filters {
+    /// It is about a sensor of this type (IPMI v2.0, table 42-3).
+    pub sensor_type: Option<u8>,
+    /// It belongs to this entity.
+    pub entity: Option<EntityFilter>,
+    /// Its id is in one of these ranges.
+    pub ids: Option<Ids>,
+    /// Its name is none of these.
+    pub excluded: Words,
+    /// Its time is this one or later, in seconds since 1970.
+    pub since: Option<u32>,
+    /// Its time is this one or earlier.
+    pub until: Option<u32>,
+}
+
+impl Filters {
+    /// Every record passes.
+    pub fn new(alloc: Global) -> Filters
+        ensures { result ≡ no_filters }
+    {
+        Filters {
+            sensor_type: None,
+            entity: None,
+            ids: None,
+            excluded: Words::new(alloc),
+            since: None,
+            until: None,
+        }
+    }
+
+    /// Whether they leave out entries of the event log.
+    pub(crate) fn choose_entries(&self) -> bool
+        ensures { result ≡ choose_entries self.now }
+    {
+        self.sensor_type.is_some()
+            || self.ids.is_some()
+            || self.since.is_some()
+            || self.until.is_some()
+    }
+}
+
+/// The number from 0 to `high`.
+fn byte_of(text: &str, high: u8) -> Option<u8>
+    ensures { result ≡ byte_of high text.now }
+{
+    match number(text, 0, u16::from(high)) {
+        Some(n) => Some(n as u8),
+        None => None,
+    }
+}
+
+/// The sensor type with this name or number.
+fn sensor_type_of(text: &str) -> Option<u8>
+    ensures { result ≡ sensor_type_of text.now }
+{
+    match SensorType::named(text) {
+        Some(kind) => Some(kind.0),
+        None => byte_of(text, u8::MAX),
+    }
+}
+
+/// The largest instance of an entity.
+const LAST_INSTANCE: u8 = 127;
+
+/// The entity `ID`, or its instance `ID.INSTANCE`.
+fn entity_of(text: &str) -> Option<EntityFilter>
+    ensures { result ≡ entity_of text.now }
+{
+    let Some((id, instance)) = text.split_once('.') else {
+        let instance = None;
+        return byte_of(text, u8::MAX).map(|id| EntityFilter { id, instance });
+    };
+    match (byte_of(id, u8::MAX), byte_of(instance, LAST_INSTANCE)) {
+        (Some(id), Some(instance)) => Some(EntityFilter {
+            id,
+            instance: Some(instance),
+        }),
+        _ => None,
+    }
+}
+
+/// The id `ID`, or the ids `FIRST-LAST`.
+fn id_range(text: &str) -> Option<IdRange>
+    ensures { result ≡ id_range text.now }
+{
+    let Some((first, last)) = text.split_once('-') else {
+        return hex_id(text, 0).map(|id| IdRange {
+            first: id,
+            last: id,
+        });
+    };
+    match (hex_id(first, 0), hex_id(last, 0)) {
+        (Some(first), Some(last)) if first <= last => Some(IdRange { first, last }),
+        _ => None,
+    }
+}
+
+/// The texts between commas.
+fn parts_of<'a>(alloc: Global, text: &'a str) -> Result<Vec<&'a str>, AllocError>
+    ensures { IfOk result (λ parts. texts parts.items ≡ slice_split (λ b. b == 44) text.now) }
+{
+    text.split(',').collect(alloc)
+}
+
+/// Whether each text is an id or a range of ids.
+fn are_ranges(parts: &[&str]) -> bool
+    ensures { result ≡ list_all (λ part. is_id_range part.now) parts.now }
+{
+    parts.iter().all(|part| id_range(part).is_some())
+}
+
+/// The ids and ranges of ids.
+fn ranges_of(alloc: Global, parts: &[&str]) -> Result<Vec<IdRange>, AllocError>
+    ensures { IfOk result (λ ranges. ranges.items ≡ filter_map (λ part. id_range part.now) parts.now) }
+{
+    parts
+        .iter()
+        .filter_map(|part| id_range(part))
+        .collect(alloc)
+}
+
+/// The ids and ranges of ids between commas.
+fn ids_of(alloc: Global, text: &str) -> Result<Option<Ids>, AllocError>
+    ensures { IfOk result (λ ids. ids ≡ ids_of text.now) }
+{
+    let parts = parts_of(alloc, text)?;
+    if !are_ranges(parts.as_slice()) {
+        return Ok(None);
+    }
+    let ranges = ranges_of(alloc, parts.as_slice())?;
+    Ok(Some(Ids { ranges }))
+}
+
+/// A date as the text of the moment at which it begins in UTC. Another text as it is.
+fn full_time(alloc: Global, text: &str) -> Result<String, AllocError>
+    ensures { IfOk result (λ full. string_bytes full ≡ full_time text.now) }
+{
+    let rest = if text.len() == DATE_LEN {
+        "T00:00:00Z"
+    } else {
+        ""
+    };
+    format!(in alloc; "{text}{rest}")
+}
+
+/// The number of bytes of a date, such as `2026-11-30`.
+const DATE_LEN: usize = 10;
+
+/// The seconds, if a time stamp can hold them.
+fn stamp_of(second: i64) -> Option<u32>
+    ensures { result ≡ stamp_of second }
+{
+    match u32::try_from(second) {
+        Ok(stamp) => Some(stamp),
+        Err(_) => None,
+    }
+}
+
+/// The seconds since 1970 of a date, or of a moment in ISO 8601 with `Z` or an offset.
+fn time_of(alloc: Global, text: &str) -> Result<Option<u32>, AllocError>
+    ensures { IfOk result (λ time. time ≡ time_of text.now) }
+{
+    let full = full_time(alloc, text)?;
+    match full.as_str().parse::<Timestamp>() {
+        Ok(moment) => Ok(stamp_of(moment.as_second())),
+        Err(_) => Ok(None),
+    }
+}
+
+// ---- the options
+
+/// The sensor type of the command `sdr type`, or of `--type`.
+fn type_text<'a>(verb: Verb, words: &[&'a str], matches: &ArgMatches<'a>) -> Option<&'a str>
+    ensures { option_map (λ text. text.now) result ≡ type_text verb (texts words.now) (rows_of (found_of matches.now)) }
+{
+    match verb {
+        Verb::ListOfType => words.get(2).copied(),
+        _ => value(matches, "type"),
+    }
+}
+
+/// The entity of the command `sdr entity`, or of `--entity`.
+fn entity_text<'a>(verb: Verb, words: &[&'a str], matches: &ArgMatches<'a>) -> Option<&'a str>
+    ensures { option_map (λ text. text.now) result ≡ entity_text verb (texts words.now) (rows_of (found_of matches.now)) }
+{
+    match verb {
+        Verb::ListOfEntity => words.get(2).copied(),
+        _ => value(matches, "entity"),
+    }
+}
+
+/// The ids of `--id`, which of `sel get` is no filter.
+fn ids_text<'a>(verb: Verb, matches: &ArgMatches<'a>) -> Option<&'a str>
+    ensures { option_map (λ text. text.now) result ≡ ids_text verb (rows_of (found_of matches.now)) }
+{
+    match verb {
+        Verb::GetEntry => None,
+        _ => value(matches, "id"),
+    }
+}
+
+/// The sensor type.
+fn type_in<'a>(alloc: Global, text: Option<&'a str>) -> Result<Option<u8>, UsageError<'a>>
+    ensures { let meant = optional sensor_type_of (option_map (λ text. text.now) text.entry) in
+        MatchResult result (λ found. meant ≡ Some found) (λ e. (e ≡ UsageError.Memory) ⊎ (meant ≡ None)) }
+{
+    let Some(text) = text else {
+        return Ok(None);
+    };
+    match sensor_type_of(text) {
+        Some(code) => Ok(Some(code)),
+        None => Err(unknown_type(alloc, text)?),
+    }
+}
+
+/// The entity.
+fn entity_in<'a>(text: Option<&'a str>) -> Result<Option<EntityFilter>, UsageError<'a>>
+    ensures { let meant = optional entity_of (option_map (λ text. text.now) text.entry) in
+        MatchResult result (λ found. meant ≡ Some found) (λ _. meant ≡ None) }
+{
+    let Some(text) = text else {
+        return Ok(None);
+    };
+    match entity_of(text) {
+        Some(entity) => Ok(Some(entity)),
+        None => Err(UsageError::WrongWord(text, Operand::Entity, Hint::None)),
+    }
+}
+
+/// The ids.
+fn ids_in<'a>(alloc: Global, text: Option<&'a str>) -> Result<Option<Ids>, UsageError<'a>>
+    ensures { let meant = optional ids_of (option_map (λ text. text.now) text.entry) in
+        MatchResult result (λ found. meant ≡ Some found) (λ e. (e ≡ UsageError.Memory) ⊎ (meant ≡ None)) }
+{
+    let Some(text) = text else {
+        return Ok(None);
+    };
+    match ids_of(alloc, text)? {
+        Some(ids) => Ok(Some(ids)),
+        None => Err(value_error("id", Some(text))),
+    }
+}
+
+/// The time of this option.
+fn time_in<'a>(
+    alloc: Global,
+    option: &'static str,
+    text: Option<&'a str>,
+) -> Result<Option<u32>, UsageError<'a>>
+    ensures { let meant = optional time_of (option_map (λ text. text.now) text.entry) in
+        MatchResult result (λ found. meant ≡ Some found) (λ e. (e ≡ UsageError.Memory) ⊎ (meant ≡ None)) }
+{
+    let Some(text) = text else {
+        return Ok(None);
+    };
+    match time_of(alloc, text)? {
+        Some(time) => Ok(Some(time)),
+        None => Err(value_error(option, Some(text))),
+    }
+}
+
+/// Whether the first time is not after the second, if both are given.
+fn are_ordered(since: Option<u32>, until: Option<u32>) -> bool
+    ensures { result ≡ are_ordered since until }
+{
+    match (since, until) {
+        (Some(since), Some(until)) => since <= until,
+        _ => true,
+    }
+}
+
+/// Which records a command prints.
+pub(crate) fn filters_of<'a>(
+    alloc: Global,
+    verb: Verb,
+    words: &[&'a str],
+    matches: &ArgMatches<'a>,
+) -> Result<Filters, UsageError<'a>>
+    ensures { let meant = filters_of verb (texts words.now) (rows_of (found_of matches.now)) in
+        MatchResult result (λ filters. meant ≡ Some filters) (λ e. (e ≡ UsageError.Memory) ⊎ (meant ≡ None)) }
+{
+    let sensor_type = type_in(alloc, type_text(verb, words, matches))?;
+    let entity = entity_in(entity_text(verb, words, matches))?;
+    let ids = ids_in(alloc, ids_text(verb, matches))?;
+    let excluded = copies_of(alloc, matches, "exclude")?;
+    let since = time_in(alloc, "since", value(matches, "since"))?;
+    let until = time_in(alloc, "until", value(matches, "until"))?;
+    if !are_ordered(since, until) {
+        return Err(UsageError::SinceAfterUntil);
+    }
+    Ok(Filters {
+        sensor_type,
+        entity,
+        ids,
+        excluded,
+        since,
+        until,
+    })
+}

@@ -1,0 +1,151 @@
+//! Listings of the sensor data records, and of the entries of the event log, that pass filters.
+use super::over_images::over;
+use crate::cases::parts;
+use crate::command_line::lines::command_of_case;
+use crate::writers::assert_written_text;
+use ipmi_command_line::{Command, Filters, Words, request_of};
+use ipmi_commands::{Job, LIVE_PART, RequestLimits, Summary, execute};
+use ipmi_output::Written;
+use ipmi_program::Wording;
+use std::alloc::Global;
+use std::process::Abort;
+
+/// A temperature sensor of entity 3.1, a FRU device of entity 10.1, and a record that is too short. An event of a temperature sensor, one
+/// of a fan 16 seconds later, one of the time before the clock was set, an OEM entry without a time, an event whose time is not known, and one with the last stamp
+/// that counts from the start of the clock.
+const RECORDS: &str = "ipmi-image 1
+sdr 0001 0002 CPU_TEMP
+sdr 0002 0003 020051110f200180000000000a0100c450535531
+sdr 0003 ffff 0300510100
+reading 0 01 2dc00000
+sel 0001 0002 01000201000020200004013001595f5a
+sel 0002 0003 02000211000020200004043101521020
+sel 0003 0004 03000205000000200004013001595f5a
+sel 0004 0005 0400e000000000000000000000000000
+sel 0005 0006 050002ffffffff200004013001595f5a
+sel 0006 ffff 06000200000020200004013001595f5a
+end
+";
+
+/// Asserts the lines of a command over these records, the number of its calls, and how many lines there are and have a fault.
+fn assert_listing(
+    rt: &impl Abort,
+    alloc: Global,
+    command: &Command,
+    filters: &Filters,
+    numbers: &str,
+    lines: &str,
+) {
+    let mut ctl = over(rt, alloc, RECORDS);
+    let limits = RequestLimits::reading_ahead(LIVE_PART, 5);
+    let mut out = Written::new(Vec::new(alloc));
+    let mut summary = Summary::new();
+    let job = Job::of(&Wording::Plain, command.task(), command.from()).expect(rt, lines);
+    let ended = execute(
+        alloc,
+        &mut ctl,
+        limits,
+        &Wording::Plain,
+        job.choosing(filters),
+        &mut out,
+        &mut summary,
+    );
+    assert!(rt; ended.is_ok(), "{lines}");
+    let (calls, pieces, faults) = (ctl.calls, summary.pieces(), summary.faults());
+    let got = format!(in alloc; "{calls} {pieces} {faults}").expect(rt, "memory");
+    assert!(rt; got.as_str() == numbers, "{lines}: got {got}");
+    let out = out.into_inner();
+    assert_written_text(rt, &out, lines);
+    drop(out);
+    drop(ctl);
+}
+
+/// The words of a line after the program's name, split at commas.
+fn words_of(rt: &impl Abort, alloc: Global, line: &str) -> Words {
+    let mut words = Words::new(alloc);
+    words.push("serdimko").expect(rt, "memory");
+    for word in line.split(',') {
+        words.push(word).expect(rt, "memory");
+    }
+    words
+}
+
+/// The same for a case: the words and the numbers, then the lines.
+fn assert_case(rt: &impl Abort, alloc: Global, case: &str) {
+    let (first, lines) = case.split_once('\n').expect(rt, case);
+    let (line, numbers) = parts(rt, first);
+    let words = words_of(rt, alloc, line);
+    let request = request_of(alloc, words.as_slice()).ok().expect(rt, line);
+    let command = command_of_case(rt, alloc, line.split_once(",--").map_or(line, |cut| cut.0));
+    assert_listing(rt, alloc, &command, &request.filters, numbers, lines);
+    drop(command);
+    drop(request);
+    drop(words);
+}
+
+/// `words|calls lines faults`, then the lines. A reservation, each record and each entry are a call, and so is the reading of the sensor,
+/// if that is chosen.
+const LISTED: &str = "sdr,list,all|5 3 1
+CPU Temp         | 45 degrees C      | ok
+PSU1             | FRU 1             | na
+record 0003h: body too short
+====
+sdr,list,all,--type,temperature|5 1 0
+CPU Temp         | 45 degrees C      | ok
+====
+sdr,list,all,--type,2|4 0 0
+====
+sdr,list,all,--entity,10|4 1 0
+PSU1             | FRU 1             | na
+====
+sdr,list,all,--entity,3.1|5 1 0
+CPU Temp         | 45 degrees C      | ok
+====
+sdr,list,all,--entity,3.2|4 0 0
+====
+sdr,list,all,--id,0003,--exclude,PSU1|4 1 1
+record 0003h: body too short
+====
+sdr,list,all,--id,0001-0002|5 2 0
+CPU Temp         | 45 degrees C      | ok
+PSU1             | FRU 1             | na
+====
+sdr,list,all,--exclude,PSU1|5 2 1
+CPU Temp         | 45 degrees C      | ok
+record 0003h: body too short
+====
+sdr,list,all,--exclude,CPU Temp,--exclude,PSU1|4 1 1
+record 0003h: body too short
+====
+sdr,list,fru,--type,1|4 0 0
+====
+sdr,list,full,--entity,3|5 1 0
+CPU Temp         | 45 degrees C      | ok
+====
+sel,list,--type,fan|7 1 0
+0002 | 1987-01-05 18:48:49 | Fan #0x31 | Lower Critical going low | Asserted
+====
+sel,list,--since,1970-01-01|7 2 0
+0001 | 1987-01-05 18:48:33 | Temperature #0x30 | Upper Critical going high | Asserted
+0002 | 1987-01-05 18:48:49 | Fan #0x31 | Lower Critical going low | Asserted
+====
+sel,list,--since,1987-01-05T18:48:34Z,--until,1987-01-05T18:48:49Z|7 1 0
+0002 | 1987-01-05 18:48:49 | Fan #0x31 | Lower Critical going low | Asserted
+====
+sel,list,--until,1987-01-05T18:48:33Z|7 1 0
+0001 | 1987-01-05 18:48:33 | Temperature #0x30 | Upper Critical going high | Asserted
+====
+sel,list,--until,1987-01-05|7 0 0
+====
+sel,list,--type,1,--id,0002-0003|7 1 0
+0003 | +5 s | Temperature #0x30 | Upper Critical going high | Asserted
+====
+sel,list,--id,0007|7 0 0
+";
+
+#[test]
+fn only_what_passes_is_listed(rt: HostRuntime) {
+    for case in LISTED.split("====\n") {
+        assert_case(&rt, rt.alloc(), case);
+    }
+}
