@@ -99,7 +99,10 @@ def generated_line(rng, images):
 
 # ---- comparing the two programs
 
-OWN = {"-h", "--help", "-V", "--version", "--strict", "--json", "--label", "--id", "help", "sensor"}
+OWN = {
+    "-h", "--help", "-V", "--version", "--strict", "--json", "--csv", "--label", "--id", "--type", "--entity", "--exclude", "--since",
+    "--until", "help", "sensor",
+}
 USAGE = b"usage: ipmitool [--image FILE] [--from HEX4] [--part N] [--tries N] fru|sdr|sel WORDS\n"
 WHY_NOT_READ = b": (no such file|is a directory|part of its path is not a directory|too many symbolic links|file name too long|permission denied|longer than 64 MiB|input/output error)"
 EXPLANATION = rb" \([^\n]+\)"
@@ -109,11 +112,35 @@ WHY_NO_HEADER = (
 )
 
 
+def free_words(words):
+    """The words that belong to no option."""
+    free = []
+    rest = iter(words)
+    for word in rest:
+        if word == "--":
+            return free + list(rest)
+        if word == "--image" or word in OPTIONS:
+            next(rest, "")
+        elif word == "-" or not word.startswith("-"):
+            free.append(word)
+    return free
+
+
 def is_own(words):
-    """Whether the line uses an option or a word that only serdimko has."""
+    """Whether the line uses an option or a word that only serdimko has, or several names."""
     names = [word.split("=")[0] for word in words]
     has = lambda command, word: word in names[names.index(command) :] if command in names else False
-    return not OWN.isdisjoint(names) or names.count("--image") > 1 or has("sel", "elist") or has("sel", "tail") or has("fru", "list")
+    free = free_words(words)
+    return (
+        not OWN.isdisjoint(names)
+        or names.count("--image") > 1
+        or has("sel", "elist")
+        or has("sel", "tail")
+        or has("fru", "list")
+        or has("sdr", "type")
+        or has("sdr", "entity")
+        or (free[:2] == ["sdr", "get"] and len(free) > 3)
+    )
 
 
 def image_of(words):
