@@ -88,7 +88,7 @@ abbrev pub entity_in : Result SdrView SdrFault → Option Entity
 entity_in (Ok view) = entity_of view
 entity_in (Err fault) = None
 
--- the id is that of the entity, and so is the instance, if one is wanted
+-- the id is that of the entity, and so is the instance, if the filter has one
 abbrev pub is_entity : EntityFilter → Entity → Bool
 is_entity wanted entity = (wanted.id == entity.id) && is_wanted is_number wanted.instance (Some entity.instance)
 

@@ -91,7 +91,7 @@ impl<'a> EntryText<'a> {
         }
     }
 
-    /// The same text of those entries alone that pass these filters.
+    /// The same text, only of the entries that pass these filters.
     fn choosing(self, filters: &'a Filters) -> EntryText<'a>
         ensures { result ≡ choosing_entries filters.now self.entry }
     {

@@ -223,7 +223,7 @@ fn is_among(ranges: &[IdRange], id: u16) -> bool
         .any(|range| range.first <= id && id <= range.last)
 }
 
-/// Whether a record with this id is wanted.
+/// Whether the filter lets a record with this id pass.
 fn has_id(wanted: &Option<Ids>, id: u16) -> bool
     ensures { result ≡ is_wanted is_among wanted.now (Some id) }
 {
