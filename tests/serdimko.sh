@@ -54,6 +54,9 @@ cp examples/*.image "$tests"/images/*.image "$work/files" || exit 1
 cd "$work/files" || exit 1
 : > empty
 gzip -k server.image
+# An event of this moment.
+printf 'ipmi-image 1\nsel 0001 ffff 010002%s200004010401575250\nend\n' \
+  "$(printf %08x "$(date +%s)" | sed 's/\(..\)\(..\)\(..\)\(..\)/\4\3\2\1/')" > now.image
 # python3 can write these two even if their programs are not installed.
 python3 -c '
 import bz2, lzma

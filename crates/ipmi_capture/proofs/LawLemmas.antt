@@ -10,11 +10,12 @@ use Rattle.ipmi_capture.specs.Laws.{AreOfCapture, CapturesPrintTheSame, Captures
 use Rattle.ipmi_capture.specs.Left.{EndIsNoted, LacksInfo, LacksInventory, LacksReading, LacksRecords, SameOrLeft}
 use Rattle.ipmi_capture.specs.declared.left.Left.{Left}
 use Rattle.ipmi_records.specs.Prelude.{known}
-use Rattle.ipmi_commands.specs.Prelude.{SelectedEntries, of_kind, after_names, after_points, AtInventory, AtRecord, bytes_of_rows, devices_job, events_job, named_entries, has_last, IfChosen, info_plan, inventories_plan, inventory_plan, is_name, IsBlockOfName, IsDevicePiece, IsLocatorPiece, IsRecordText, IsRowText, IsTextOfRecord, Texts, Item, last_plan, last_rows, listing, listing_plan, OfInventory, OnEntries, OnTail, OnTailFrom, OnTried, OnWalk, OnWhole, Plan, points_of_walk, reading_by, reading_for, row_is_of_kind, row_items, ReadPoint, tail_from, walk_call_bound, points_before, view_has_name, with_first_points}
-use Rattle.ipmi_commands.specs.Selection.{in_detail}
+use Rattle.ipmi_commands.specs.Prelude.{first_rows, SelectedEntries, of_kind, after_names, after_points, AtInventory, AtRecord, bytes_of_rows, devices_job, events_job, named_entries, has_last, IfChosen, info_plan, inventories_plan, inventory_plan, is_name, IsBlockOfName, IsDevicePiece, IsLocatorPiece, IsRecordText, IsRowText, IsTextOfRecord, Texts, Item, kept_items, kept_plan, last_rows, listing, listing_plan, OfInventory, OnEntries, OnTail, OnTailFrom, OnTried, OnWalk, OnWhole, Plan, points_of_walk, reading_by, reading_for, row_is_of_kind, row_items, ReadPoint, tail_from, walk_call_bound, points_before, view_has_name, with_first_points}
+use Rattle.ipmi_commands.specs.Selection.{chosen, in_detail}
 use Rattle.ipmi_commands.specs.declared.format.Detail.{Detail}
 use Rattle.ipmi_commands.specs.declared.job.EntryText.{EntryText}
 use Rattle.ipmi_commands.specs.declared.job.Form.{Form}
+use Rattle.ipmi_commands.specs.declared.job.Job.{Job}
 use Rattle.ipmi_commands.specs.declared.limits.Tries.{Tries}
 use Rattle.ipmi_command_line.specs.declared.task.Count.{Count}
 use Rattle.ipmi_command_line.specs.declared.task.Kind.{Kind}
@@ -34,10 +35,10 @@ Same P Q = (text : List ℕ) → (P text → Q text) × (Q text → P text)
 itself : (P : List ℕ → Type 0) → Same P P
 itself P text = (λ is. is, λ is. is)
 
-chosen : (P Q : List ℕ → Type 0) (b : Bool) → (b ≡ true → Same P Q)
+if_chosen : (P Q : List ℕ → Type 0) (b : Bool) → (b ≡ true → Same P Q)
     → Same (λ text. IfChosen b P text) (λ text. IfChosen b Q text)
-chosen P Q true same = same refl
-chosen P Q false same = itself (λ text. text ≡ [])
+if_chosen P Q true same = same refl
+if_chosen P Q false same = itself (λ text. text ≡ [])
 
 module _ (x : Texts) (a b : Store) where
   -- the reading requested for a record is the same in both stores
@@ -54,7 +55,7 @@ module _ (x : Texts) (a b : Store) where
   block : (name : List ℕ) (id : ℕ) (r : Result SdrView SdrFault) → (view_has_name name r ≡ true → SameFor r)
       → Same (λ text. IsBlockOfName x name a id r text) (λ text. IsBlockOfName x name b id r text)
   block name id (Ok view) same =
-      chosen _ _ (is_name name (sdr.name_of view)) (λ has.
+      if_chosen _ _ (is_name name (sdr.name_of view)) (λ has.
       subst (λ (o : Option Reading). Same (λ text. IsTextOfRecord x Detail.Block id view (known (reading_for a view)) text) (λ text. IsTextOfRecord x Detail.Block id view (known o) text)) (same has) (itself _))
   block name id (Err fault) same = itself _
 
@@ -66,7 +67,7 @@ module _ (x : Texts) (a b : Store) where
   device : (name : List ℕ) (o : Option ℕ) → ((id : ℕ) → o ≡ Some id → inventory_of id a ≡ inventory_of id b)
       → Same (λ text. IsDevicePiece x a name o text) (λ text. IsDevicePiece x b name o text)
   device name None same = itself _
-  device name (Some id) same = chosen _ _ _ (λ other. piece Detail.Line id (Some name) (same id refl))
+  device name (Some id) same = if_chosen _ _ _ (λ other. piece Detail.Line id (Some name) (same id refl))
 
   locator : (r : Result SdrView SdrFault) → ((id : ℕ) → device_named r ≡ Some id → inventory_of id a ≡ inventory_of id b)
       → Same (λ text. IsLocatorPiece x a r text) (λ text. IsLocatorPiece x b r text)
@@ -87,6 +88,10 @@ module _ (x : Texts) (a b : Store) where
   rows_same form start [] same = All-nil (SameText x a b)
   rows_same form start (row ∷ rows) same =
       All-cons (SameText x a b) _ _ (same row (inl refl)) (rows_same form (place_after row.next) rows (λ r among. same r (inr among)))
+
+  kept_same : (entries : EntryText) (rows : List Row) → All (SameText x a b) (kept_items entries rows)
+  kept_same entries [] = All-nil (SameText x a b)
+  kept_same entries (row ∷ rows) = All-cons (SameText x a b) _ _ (itself _) (kept_same entries rows)
 
   -- the inventory of a device, and other items
   inventory_same : (detail : Detail) (id : ℕ) (name : Option (List ℕ)) (items : List Item) (points : List ReadPoint)
@@ -355,7 +360,7 @@ module _ (x : Texts) (exists : WalkExists) (unique : WalkIsUnique) (found : Foun
       → (row : Row) → Among image.sdr row
       → Same (λ text. IsRowText x image (Form.Record detail (of_kind kind)) row text) (λ text. IsRowText x store (Form.Record detail (of_kind kind)) row text)
   record_same detail kind readings row among =
-      chosen _ _ (row_is_of_kind kind row) (λ passes. record_text x image store detail row (sdr_view_of row.bytes)
+      if_chosen _ _ (row_is_of_kind kind row) (λ passes. record_text x image store detail row (sdr_view_of row.bytes)
       (row_reads (row_is_of_kind kind) readings row among passes))
 
   -- the block of a record with the name
@@ -374,9 +379,9 @@ module _ (x : Texts) (exists : WalkExists) (unique : WalkIsUnique) (found : Foun
     Agree plan plan' = (plan' ≡ plan) × All (SameText x image store) plan.items
 
     last_agree : (points : List ReadPoint) (start : Place) (walk : List Row) (end : WalkEnd)
-        → All (SameText x image store) (after_points points (last_plan entries n start walk end)).items
+        → All (SameText x image store) (after_points points (kept_plan entries n start walk end)).items
     last_agree points start walk end =
-        first_texts x image store _ _ (first_texts x image store _ _ (rows_same x image store _ (place_after_rows start (take (length walk - n) walk)) (last_rows n walk end) (λ row among. itself _)))
+        first_texts x image store _ _ (first_texts x image store _ _ (kept_same x image store entries (last_rows n (chosen entries.selection walk) end)))
 
     whole_same : (points : List ReadPoint) (calls calls' : ℕ) → OnWhole points calls entries n tries store (λ plan c.
         OnWhole points calls' entries n tries' image (λ plan' c'. Agree plan plan'))
@@ -387,30 +392,31 @@ module _ (x : Texts) (exists : WalkExists) (unique : WalkIsUnique) (found : Foun
     -- or of one from a known id
     module _ (id : ℕ) (known : IsKnownPlace Sel image (Id id)) (tail : List Row) (end : WalkEnd)
         (is : IsWalk (rows_of Sel store) (Id id) tail) (ends : EndsBy (rows_of Sel store) (Id id) tail end) where
-      moved : (P : Plan → ℕ → Type 0) (tail' : List Row) (end' : WalkEnd) → tail' ≡ tail → end' ≡ end → (has : Bool) → has_last n tail end ≡ has
-          → OnTried has id tail end entries n tries' image P → OnTried (has_last n tail' end') id tail' end' entries n tries' image P
+      moved : (P : Plan → ℕ → Type 0) (tail' : List Row) (end' : WalkEnd) → tail' ≡ tail → end' ≡ end → (has : Bool)
+          → has_last n (chosen entries.selection tail) end ≡ has
+          → OnTried has id tail end entries n tries' image P → OnTried (has_last n (chosen entries.selection tail') end') id tail' end' entries n tries' image P
       moved P tail' end' a b has all on =
-          subst (λ (e : WalkEnd). OnTried (has_last n tail' e) id tail' e entries n tries' image P) (sym b)
-          (subst (λ (l : List Row). OnTried (has_last n l end) id l end entries n tries' image P) (sym a)
+          subst (λ (e : WalkEnd). OnTried (has_last n (chosen entries.selection tail') e) id tail' e entries n tries' image P) (sym b)
+          (subst (λ (l : List Row). OnTried (has_last n (chosen entries.selection l) end) id l end entries n tries' image P) (sym a)
           (subst (λ (h : Bool). OnTried h id tail end entries n tries' image P) (sym all) on))
 
-      tried_same : (has : Bool) → has_last n tail end ≡ has → OnTried has id tail end entries n tries store (λ plan c.
+      tried_same : (has : Bool) → has_last n (chosen entries.selection tail) end ≡ has → OnTried has id tail end entries n tries store (λ plan c.
           OnTailFrom (Some id) entries n tries' image (λ plan' c'. Agree plan plan'))
       tried_same true all = λ tail' end' is' ends'.
           let one = one_walk Sel (Id id) walks known tail tail' end end' is ends is' ends' in
-          let plan = after_points (AtRecord 0 ∷ []) (last_plan entries n (Id id) tail end) in
+          let plan = after_points (AtRecord 0 ∷ []) (kept_plan entries n (Id id) tail end) in
           moved (λ plan' c'. Agree plan plan') tail' end' one.0 one.1 true all (refl, last_agree (AtRecord 0 ∷ []) (Id id) tail end)
       tried_same false all = λ walk at w e tail' end' is' ends'.
           let one = one_walk Sel (Id id) walks known tail tail' end end' is ends is' ends' in
           let points = AtRecord 0 ∷ points_of_walk (Id id) tail end in
-          let plan = after_points points (last_plan entries n First walk at) in
+          let plan = after_points points (kept_plan entries n First walk at) in
           moved (λ plan' c'. Agree plan plan') tail' end' one.0 one.1 false all
           (whole_same points (tries.count + 1 + walk_call_bound Form.Skipped store tries tail) (tries'.count + 1 + walk_call_bound Form.Skipped image tries' tail) walk at w e)
 
     tail_same : (start : Option ℕ) → IsKnownPlace Sel image (start_of start) → OnTailFrom start entries n tries store (λ plan c.
         OnTailFrom start entries n tries' image (λ plan' c'. Agree plan plan'))
     tail_same None known = whole_same (AtRecord 0 ∷ []) (tries.count + 1) (tries'.count + 1)
-    tail_same (Some id) known = λ tail end is ends. tried_same id known tail end is ends (has_last n tail end) refl
+    tail_same (Some id) known = λ tail end is ends. tried_same id known tail end is ends (has_last n (chosen entries.selection tail) end) refl
 
   -- the info is the same, if it says where the entries begin
   abbrev SameStart : Count → Type 0
@@ -434,17 +440,26 @@ module _ (x : Texts) (exists : WalkExists) (unique : WalkIsUnique) (found : Foun
       (rw (one.0, one.1) refl, rows_same x image store _ (start_of from) walk (λ row among. itself _))
   lines_same entries (Count.First n) from walks start known = λ tries tries' walk end is ends walk' end' is' ends'.
       let one = one_walk Sel (start_of from) walks known walk walk' end end' is ends is' ends' in
-      (rw (one.0, one.1) refl, rows_same x image store _ (start_of from) (take n walk) (λ row among. itself _))
+      (rw (one.0, one.1) refl, rows_same x image store _ (start_of from) (first_rows (Form.Entry entries) (Some n) walk) (λ row among. itself _))
   lines_same entries (Count.Last n) from walks start known = λ tries tries' walk end is ends walk' end' is' ends'.
+      let one = one_walk Sel (start_of from) walks known walk walk' end end' is ends is' ends' in (
+        rw (one.0, one.1) refl,
+        first_texts x image store _ _ (kept_same x image store entries (last_rows n (chosen entries.selection walk) end)),
+      )
+  lines_same entries (Count.Tail n) from walks start known = λ tries tries'.
+      subst (λ (o : Option ℕ). OnTailFrom o entries n tries store (λ plan c. OnTail entries n tries' image (λ plan' c'. Agree entries n walks tries tries' plan plan')))
+      (ap (tail_from n) start) (tail_same entries n walks tries tries' (tail_from n (info_of Sel image)) known)
+
+  -- the last entries, counted on one walk and listed on another
+  last_same : (entries : EntryText) (n : ℕ) (from : Option ℕ) → SameWalk Sel image store → IsKnownPlace Sel image (start_of from)
+      → SamePlan x (Some (Job.Last entries n from)) image store
+  last_same entries n from walks known = λ tries tries' walk end is ends walk' end' is' ends'.
       let place = start_of from in
       let one = one_walk Sel place walks known walk walk' end end' is ends is' ends' in
       let at = place_after_rows place (take (length walk - n) walk) in (
         rw (one.0, one.1) refl,
         first_texts x image store _ _ (rows_same x image store _ at (last_rows n walk end) (λ row among. itself _)),
       )
-  lines_same entries (Count.Tail n) from walks start known = λ tries tries'.
-      subst (λ (o : Option ℕ). OnTailFrom o entries n tries store (λ plan c. OnTail entries n tries' image (λ plan' c'. Agree entries n walks tries tries' plan plan')))
-      (ap (tail_from n) start) (tail_same entries n walks tries tries' (tail_from n (info_of Sel image)) known)
 
   -- events with the names of their sensors: the sensor data records are walked first
   events_same : (detail : SelectedEntries) (count : Count) (from : Option ℕ) → SameWalk Sdr image store → SameWalk Sel image store
@@ -522,6 +537,9 @@ module _ (x : Texts) (exists : WalkExists) (unique : WalkIsUnique) (found : Foun
   info_asked Sdr = refl
   info_asked Sel = refl
 
+  abbrev unnamed : Detail → EntryText
+  unnamed detail = record { selection = in_detail detail; sensors = None }
+
   -- entries, with names or without
   entries_same : (has : Bool) (detail : Detail) (count : Count) (from : Option ℕ) → (has ≡ true → SameWalk Sdr image store)
       → SameWalk Sel image store → SameStart count → AreOfCapture image count from
@@ -530,10 +548,10 @@ module _ (x : Texts) (exists : WalkExists) (unique : WalkIsUnique) (found : Foun
   entries_same true detail (Count.First n) from records entries start known = events_same (in_detail detail) (Count.First n) from (records refl) entries start known
   entries_same true detail (Count.Last n) from records entries start known = events_same (in_detail detail) (Count.Last n) from (records refl) entries start known
   entries_same true detail (Count.Tail n) from records entries start known = events_same (in_detail detail) (Count.Tail n) from (records refl) entries start known
-  entries_same false detail Count.All from records entries start known = lines_same _ Count.All from entries start known
-  entries_same false detail (Count.First n) from records entries start known = lines_same _ (Count.First n) from entries start known
-  entries_same false detail (Count.Last n) from records entries start known = lines_same _ (Count.Last n) from entries start known
-  entries_same false detail (Count.Tail n) from records entries start known = lines_same _ (Count.Tail n) from entries start known
+  entries_same false detail Count.All from records entries start known = lines_same (unnamed detail) Count.All from entries start known
+  entries_same false detail (Count.First n) from records entries start known = lines_same (unnamed detail) (Count.First n) from entries start known
+  entries_same false detail (Count.Last n) from records entries start known = last_same (unnamed detail) n from entries known
+  entries_same false detail (Count.Tail n) from records entries start known = lines_same (unnamed detail) (Count.Tail n) from entries start known
 
   -- all devices, with the name of device 0 or without
   all_same : (has : Bool) → SameWalk Sdr image store → All (SameInventory image store) (0 ∷ devices_of image.sdr)

@@ -24,7 +24,7 @@ use Rattle.ipmi_command_line.specs.declared.request.Source.{Source}
 use Rattle.ipmi_command_line.specs.Command.{CommandState, command_of_task, meaning_of, number_or, start_of_text, with_options}
 use Rattle.ipmi_command_line.specs.Commands.{RowState, commands, row_of}
 use Rattle.ipmi_command_line.specs.Number.{digits_of, number_of, within}
-use Rattle.ipmi_command_line.specs.Request.{counts_entries, entry_of, fitting, format_of, has_option, limits_of, misplaced, part_of_text, printed_of, records_named, records_of, request_of, request_of_found, request_of_words, rewrite_of, source_of, text_format, with_parts}
+use Rattle.ipmi_command_line.specs.Request.{entry_of, format_of, has_option, limits_of, misplaced, part_of_text, printed_of, records_named, records_of, request_of, request_of_found, request_of_words, rewrite_of, source_of, text_format, with_parts}
 use Rattle.ipmi_command_line.specs.Table.{are, entries_of, newest, oldest, task_of, task_of_four, task_of_one, task_of_three, task_of_two}
 use Rattle.ipmi_command_line.specs.declared.commands.Verb.{Verb}
 use Rattle.ipmi_command_line.specs.declared.task.Task.{Task}
@@ -157,6 +157,7 @@ record Alone (rows : List Row) : Type 0 where
   exclude : has_value (codes "exclude") rows ≡ false
   since : has_value (codes "since") rows ≡ false
   until : has_value (codes "until") rows ≡ false
+  now : has_value (codes "now") rows ≡ false
   output : has_value (codes "output") rows ≡ false
   strict : is_given (codes "strict") rows ≡ false
   json : is_given (codes "json") rows ≡ false
@@ -181,7 +182,8 @@ alone rows is =
     let entity = none_or (has_value (codes "entity") rows) _ type.1 in
     let exclude = none_or (has_value (codes "exclude") rows) _ entity.1 in
     let since = none_or (has_value (codes "since") rows) _ exclude.1 in
-    let until = none_or (has_value (codes "until") rows) (has_value (codes "output") rows) since.1 in
+    let until = none_or (has_value (codes "until") rows) _ since.1 in
+    let now = none_or (has_value (codes "now") rows) (has_value (codes "output") rows) until.1 in
     let strict = none_or (is_given (codes "strict") rows) _ (not_true _ rest.0) in
     let json = none_or (is_given (codes "json") rows) _ strict.1 in
     let csv = none_or (is_given (codes "csv") rows) _ json.1 in
@@ -199,7 +201,8 @@ alone rows is =
       exclude = exclude.0;
       since = since.0;
       until = until.0;
-      output = until.1;
+      now = now.0;
+      output = now.1;
       strict = strict.0;
       json = json.0;
       csv = csv.0;
@@ -218,7 +221,7 @@ no_value (Some text) is = absurd (true≢false is)
 all_placed : (options : List Text) (rows : List Row) → Alone rows → has_option options (codes "image") ≡ true
     → misplaced options rows ≡ None
 unfolding misplaced
-all_placed options rows h takes = grind (arith, takes, h.label, h.live, h.records, h.id, h.separator, h.type, h.entity, h.exclude, h.since, h.until, h.output, h.strict, h.json, h.csv, h.quiet, h.partial)
+all_placed options rows h takes = grind (arith, takes, h.label, h.live, h.records, h.id, h.separator, h.type, h.entity, h.exclude, h.since, h.until, h.now, h.output, h.strict, h.json, h.csv, h.quiet, h.partial)
 
 -- ---- the images
 
@@ -265,35 +268,29 @@ AsksAll Verb.ListOfType = ⊥
 AsksAll Verb.ListOfEntity = ⊥
 AsksAll verb = ⊤
 
-all_pass : (verb : Verb) (words : List Text) (rows : List Row) → AsksAll verb → Alone rows → filters_of verb words rows ≡ Some no_filters
-all_pass Verb.ListOfType words rows asks h = absurd asks
-all_pass Verb.ListOfEntity words rows asks h = absurd asks
-all_pass Verb.GetEntry words rows asks h =
+all_pass : (clock : ℕ) (verb : Verb) (words : List Text) (rows : List Row) → AsksAll verb → Alone rows
+    → filters_of clock verb words rows ≡ Some no_filters
+all_pass clock Verb.ListOfType words rows asks h = absurd asks
+all_pass clock Verb.ListOfEntity words rows asks h = absurd asks
+all_pass clock Verb.GetEntry words rows asks h =
     rw (
       no_value (first_of (codes "type") rows) h.type,
       no_value (first_of (codes "entity") rows) h.entity,
       no_excluded rows h,
+      no_value (first_of (codes "now") rows) h.now,
       no_value (first_of (codes "since") rows) h.since,
       no_value (first_of (codes "until") rows) h.until,
     ) refl
-all_pass verb words rows asks h =
+all_pass clock verb words rows asks h =
     rw (
       no_value (first_of (codes "type") rows) h.type,
       no_value (first_of (codes "entity") rows) h.entity,
       no_value (first_of (codes "id") rows) h.id,
       no_excluded rows h,
+      no_value (first_of (codes "now") rows) h.now,
       no_value (first_of (codes "since") rows) h.since,
       no_value (first_of (codes "until") rows) h.until,
     ) refl
-
--- no filters fit each command
-fits : (action : Option Action) (filters : Option Filters) → filters ≡ Some no_filters → fitting action filters ≡ Some no_filters
-fits None filters is = is
-fits (Some action) filters is = rw is (by (counts_entries action))
-  where
-    by : (b : Bool) → (if b && false then None else Some no_filters) ≡ Some no_filters
-    by true = refl
-    by false = refl
 
 no_records : (rows : List Row) → Alone rows → records_of rows ≡ Some None
 no_records rows h = rw (h.records, no_value (first_of (codes "records") rows) h.records) refl
@@ -371,9 +368,9 @@ abbrev Options : List Row → Task → CommandState → Type 0
 Options rows task command = Parts (first_of (codes "image") rows) task (start_of_text (first_of (codes "from") rows))
     (number_or 32 1 254 (first_of (codes "part") rows)) (number_or 5 0 255 (first_of (codes "tries") rows)) command
 
-abbrev IsSame : RowState → List Text → List Row → CommandState → Type 0
-IsSame row words rows command = (part : Option ℕ) × (unwrap_or part 32 ≡ command.part)
-    × (request_of_found (Some row) words rows ≡ Some (same_request part command))
+abbrev IsSame : ℕ → RowState → List Text → List Row → CommandState → Type 0
+IsSame clock row words rows command = (part : Option ℕ) × (unwrap_or part 32 ≡ command.part)
+    × (request_of_found clock (Some row) words rows ≡ Some (same_request part command))
 
 getting : (words : List Text) (rows : List Row) (task : Task) (from : Option ℕ) → Reads Verb.GetRecords words task
     → start_of_text (first_of (codes "from") rows) ≡ Some from → records_named words rows ≡ Some (action_of_task task from)
@@ -387,51 +384,51 @@ rewriting words rows task from h two is start taken =
     let unset = no_start (first_of (codes "from") rows) (start ∙ ap (λ o. Some o) none) in
     rw (two, is, unset, h.images) refl
 
-same : (w : List Text) (v : Verb) (o words : List Text) (rows : List Row) (task : Task) (command : CommandState) → Alone rows
+same : (clock : ℕ) (w : List Text) (v : Verb) (o words : List Text) (rows : List Row) (task : Task) (command : CommandState) → Alone rows
     → Reads v words task → has_option o (codes "image") ≡ true → task_of words ≡ Some task → Options rows task command
-    → IsSame (record { words = w; verb = v; options = o }) words rows command
-same w Verb.Task o words rows task command h reads takes is parts =
+    → IsSame clock (record { words = w; verb = v; options = o }) words rows command
+same clock w Verb.Task o words rows task command h reads takes is parts =
     let part = part_is (first_of (codes "part") rows) parts.n parts.part_is in
     let action = printed _ _ task parts.from parts.start_is is parts.taken ∙ ap (λ a. Some a) (plain_action task parts.from reads) in (
       part.0,
       part.2 ∙ ap (λ c. c.part) parts.command_is,
-      assembled _ _ _ _ _ _ _ _ _ _ _ (all_placed o rows h takes) action (fits _ _ (all_pass Verb.Task words rows tt h)) (sources rows h) (no_records rows h) (limits_are rows part.0 parts.t part.1 parts.tries_is)
+      assembled _ _ _ _ _ _ _ _ _ _ _ (all_placed o rows h takes) action (all_pass clock Verb.Task words rows tt h) (sources rows h) (no_records rows h) (limits_are rows part.0 parts.t part.1 parts.tries_is)
           (plain_format rows Verb.Task h refl) h.strict ∙ ap (λ c. Some (same_request part.0 c)) parts.command_is,
     )
-same w Verb.GetEntry o words rows task command h reads takes is parts =
+same clock w Verb.GetEntry o words rows task command h reads takes is parts =
     let part = part_is (first_of (codes "part") rows) parts.n parts.part_is in
     let entry = ap (entry_of words) (no_value (first_of (codes "id") rows) h.id) ∙ is in
     let action = printed _ _ task parts.from parts.start_is entry parts.taken ∙ ap (λ a. Some a) (plain_action task parts.from reads) in (
       part.0,
       part.2 ∙ ap (λ c. c.part) parts.command_is,
-      assembled _ _ _ _ _ _ _ _ _ _ _ (all_placed o rows h takes) action (fits _ _ (all_pass Verb.GetEntry words rows tt h)) (sources rows h) (no_records rows h) (limits_are rows part.0 parts.t part.1 parts.tries_is)
+      assembled _ _ _ _ _ _ _ _ _ _ _ (all_placed o rows h takes) action (all_pass clock Verb.GetEntry words rows tt h) (sources rows h) (no_records rows h) (limits_are rows part.0 parts.t part.1 parts.tries_is)
           (plain_format rows Verb.GetEntry h refl) h.strict ∙ ap (λ c. Some (same_request part.0 c)) parts.command_is,
     )
-same w Verb.GetRecords o words rows task command h reads takes is parts =
+same clock w Verb.GetRecords o words rows task command h reads takes is parts =
     let part = part_is (first_of (codes "part") rows) parts.n parts.part_is in (
       part.0,
       part.2 ∙ ap (λ c. c.part) parts.command_is,
       assembled _ _ _ _ _ _ _ _ _ _ _ (all_placed o rows h takes) (getting words rows task parts.from reads parts.start_is)
-          (fits _ _ (all_pass Verb.GetRecords words rows tt h)) (sources rows h) (no_records rows h) (limits_are rows part.0 parts.t part.1 parts.tries_is)
+          (all_pass clock Verb.GetRecords words rows tt h) (sources rows h) (no_records rows h) (limits_are rows part.0 parts.t part.1 parts.tries_is)
           (plain_format rows Verb.GetRecords h refl) h.strict ∙ ap (λ c. Some (same_request part.0 c)) parts.command_is,
     )
-same w Verb.Rewrite o words rows task command h reads takes is parts =
+same clock w Verb.Rewrite o words rows task command h reads takes is parts =
     let part = part_is (first_of (codes "part") rows) parts.n parts.part_is in (
       part.0,
       part.2 ∙ ap (λ c. c.part) parts.command_is,
       assembled _ _ _ _ _ _ _ _ _ _ _ (all_placed o rows h takes)
-          (rewriting words rows task parts.from h reads.0 reads.1 parts.start_is parts.taken) (fits _ _ (all_pass Verb.Rewrite words rows tt h)) (sources rows h) (no_records rows h)
+          (rewriting words rows task parts.from h reads.0 reads.1 parts.start_is parts.taken) (all_pass clock Verb.Rewrite words rows tt h) (sources rows h) (no_records rows h)
           (limits_are rows part.0 parts.t part.1 parts.tries_is)
           (plain_format rows Verb.Rewrite h refl) h.strict ∙ ap (λ c. Some (same_request part.0 c)) parts.command_is,
     )
-same w v o words rows task command h reads takes is parts = absurd reads
+same clock w v o words rows task command h reads takes is parts = absurd reads
 
-same_of : (r : Option RowState) (words : List Text) (rows : List Row) (task : Task) (command : CommandState) → Alone rows
+same_of : (clock : ℕ) (r : Option RowState) (words : List Text) (rows : List Row) (task : Task) (command : CommandState) → Alone rows
     → IsFound r words task → task_of words ≡ Some task → Options rows task command
-    → (part : Option ℕ) × (unwrap_or part 32 ≡ command.part) × (request_of_found r words rows ≡ Some (same_request part command))
-same_of None words rows task command h reads is parts = absurd reads
-same_of (Some row) words rows task command h reads is parts =
-    same row.words row.verb row.options words rows task command h reads.0 reads.1 is parts
+    → (part : Option ℕ) × (unwrap_or part 32 ≡ command.part) × (request_of_found clock r words rows ≡ Some (same_request part command))
+same_of clock None words rows task command h reads is parts = absurd reads
+same_of clock (Some row) words rows task command h reads is parts =
+    same clock row.words row.verb row.options words rows task command h reads.0 reads.1 is parts
 
 tasked : (rows : List Row) (o : Option Task) (command : CommandState) → command_of_task rows o ≡ Ok command
     → (task : Task) × (o ≡ Some task) × Options rows task command
@@ -443,19 +440,19 @@ taken_of : (b : Bool) (x : Result CommandState UsageFault) (command : CommandSta
 taken_of true x command is = (refl, is)
 taken_of false x command is = absurd (err-ok is)
 
-request_is : (words : List Text) (request : Request) → is_taken words ≡ true → Alone (rows_of_words words)
-    → request_of_found (row_of (free_words (rows_of_words words))) (free_words (rows_of_words words)) (rows_of_words words) ≡ Some request
-    → request_of words ≡ Some request
+request_is : (clock : ℕ) (words : List Text) (request : Request) → is_taken words ≡ true → Alone (rows_of_words words)
+    → request_of_found clock (row_of (free_words (rows_of_words words))) (free_words (rows_of_words words)) (rows_of_words words) ≡ Some request
+    → request_of clock words ≡ Some request
 unfolding request_of request_of_words
-request_is words request taken h is = rw (taken, h.help, h.version) is
+request_is clock words request taken h is = rw (taken, h.help, h.version) is
 
 pub commands_are_requests : CommandsAreRequests
 unfolding meaning_of
-commands_are_requests words command is =
+commands_are_requests clock words command is =
     let rows = rows_of_words words in
     let line = taken_of (is_taken words && is_reference rows) _ command is in
     let both = and_parts (is_taken words) (is_reference rows) line.0 in
     let task = tasked rows (task_of (free_words rows)) command line.1 in
     let h = alone rows both.1 in
-    let part = same_of (row_of (free_words rows)) (free_words rows) rows task.0 command h (found (free_words rows) task.0 task.1) task.1 task.2 in
-    (part.0, part.1, request_is words (same_request part.0 command) both.0 h part.2)
+    let part = same_of clock (row_of (free_words rows)) (free_words rows) rows task.0 command h (found (free_words rows) task.0 task.1) task.1 task.2 in
+    (part.0, part.1, request_is clock words (same_request part.0 command) both.0 h part.2)

@@ -1,12 +1,13 @@
--- Which records of a listing are printed: a function of the options and words that `clap` found. None if one of them can't be read.
+-- Which records of a listing are printed: a function of the options and words that `clap` found, and of the clock. None if one of
+-- them can't be read, or if the times are out of order.
 use Rattle.jiff.specs.Words.{parse_timestamp}
-use Rattle.std.specs.Prelude.{ℕ, ◌==◌, ◌||◌, ◌++◌, ℤ, pos, negsuc, int_div, Result, Ok, Err, Bool, true, List, [], Option, Some, None, option_map, codes, is_some, length, nat_le, nat_lt, slice_get, if◌then◌else◌}
+use Rattle.std.specs.Prelude.{ℕ, ◌-◌, ◌*◌, ◌==◌, ◌&&◌, ◌++◌, ℤ, pos, negsuc, int_div, Result, Ok, Err, Bool, true, List, [], Option, Some, None, option_map, codes, is_some, length, nat_le, nat_lt, slice_get, if◌then◌else◌}
 use Rattle.std.specs.List.{after_first, before_first, filter_map, list_all, position_or_len, slice_split}
 use Rattle.std.specs.Option.{option_or}
 use Rattle.ipmi_text.specs.SensorTypes.{sensor_type_named}
 use Rattle.clap.specs.Words.{Row, Text, first_of}
 use Rattle.ipmi_command_line.specs.Arguments.{values_of}
-use Rattle.ipmi_command_line.specs.Number.{hex_id_of, number_of, within}
+use Rattle.ipmi_command_line.specs.Number.{decimal_of, hex_id_of, number_of, within}
 use Rattle.ipmi_command_line.specs.declared.commands.Verb.{Verb}
 use Rattle.ipmi_command_line.specs.declared.filters.EntityFilter.{EntityFilter}
 use Rattle.ipmi_command_line.specs.declared.filters.Filters.{Filters}
@@ -15,10 +16,6 @@ use Rattle.ipmi_command_line.specs.declared.filters.IdRange.{IdRange}
 -- every record passes
 abbrev pub no_filters : Filters
 no_filters = record { sensor_type = None; entity = None; ids = None; excluded = []; since = None; until = None }
-
--- entries of the event log may be left out
-abbrev pub choose_entries : Filters → Bool
-choose_entries filters = is_some filters.sensor_type || (is_some filters.ids || (is_some filters.since || is_some filters.until))
 
 -- ---- values
 
@@ -86,6 +83,31 @@ seconds_of (Err error) = None
 abbrev pub time_of : Text → Option ℕ
 time_of text = seconds_of (parse_timestamp (full_time text))
 
+-- a number of these units, whose letter ends the text, in seconds
+abbrev pub units_of : ℕ → ℕ → Text → Option ℕ
+units_of letter seconds text =
+    if has_byte letter text && (length (after_byte letter text) == 0)
+    then option_map (λ n. n * seconds) (within 0 65535 (decimal_of (before_byte letter text)))
+    else None
+
+-- days, as 3d
+abbrev pub days_of : Text → Option ℕ
+days_of text = units_of 100 86400 text
+
+-- hours, as 2h, or days
+abbrev pub ago_of : Text → Option ℕ
+ago_of text =
+    if has_byte 104 text && (length (after_byte 104 text) == 0) then units_of 104 3600 text else days_of text
+
+-- so long before now, or a time
+abbrev pub time_from : ℕ → Text → Option ℕ
+time_from now text = option_or (option_map (λ ago. now - ago) (ago_of text)) (time_of text)
+
+-- `--now`, or else the clock
+abbrev pub now_of : ℕ → Option Text → Option ℕ
+now_of clock None = Some clock
+now_of clock (Some text) = time_of text
+
 -- a value that may be left out; the outer None: it can't be read
 abbrev pub optional : {T : Type 0} → (Text → Option T) → Option Text → Option (Option T)
 optional value_of None = Some None
@@ -125,7 +147,13 @@ with_filters (Some sensor_type) (Some entity) (Some ids) excluded (Some since) (
     }) else None
 with_filters sensor_type entity ids excluded since until = None
 
-abbrev pub filters_of : Verb → List Text → List Row → Option Filters
-filters_of verb words rows = with_filters (optional sensor_type_of (type_text verb words rows))
+abbrev pub times_of : Option ℕ → Option Text → Option (Option ℕ)
+times_of None text = None
+times_of (Some now) text = optional (time_from now) text
+
+-- `clock`: the seconds since 1970
+abbrev pub filters_of : ℕ → Verb → List Text → List Row → Option Filters
+filters_of clock verb words rows = with_filters (optional sensor_type_of (type_text verb words rows))
     (optional entity_of (entity_text verb words rows)) (optional ids_of (ids_text verb rows)) (values_of (codes "exclude") rows)
-    (optional time_of (first_of (codes "since") rows)) (optional time_of (first_of (codes "until") rows))
+    (times_of (now_of clock (first_of (codes "now") rows)) (first_of (codes "since") rows))
+    (times_of (now_of clock (first_of (codes "now") rows)) (first_of (codes "until") rows))

@@ -32,5 +32,5 @@ same_request part command = record {
 
 -- a line that the reference program takes is the same request
 abbrev pub CommandsAreRequests : Type 0
-CommandsAreRequests = (words : List Text) (command : CommandState) → meaning_of words ≡ Ok command
-    → (part : Option ℕ) × (unwrap_or part 32 ≡ command.part) × (request_of words ≡ Some (same_request part command))
+CommandsAreRequests = (clock : ℕ) (words : List Text) (command : CommandState) → meaning_of words ≡ Ok command
+    → (part : Option ℕ) × (unwrap_or part 32 ≡ command.part) × (request_of clock words ≡ Some (same_request part command))

@@ -7,7 +7,7 @@ use Rattle.clap.specs.Words.{Row, Text, first_of}
 use Rattle.ipmi_command_line.specs.Arguments.{free_words, has_value, is_given, is_taken, rows_of_words, values_of}
 use Rattle.ipmi_command_line.specs.Command.{IsTask, number_or, start_of_text}
 use Rattle.ipmi_command_line.specs.Commands.{RowState, row_of}
-use Rattle.ipmi_command_line.specs.Filters.{after_byte, before_byte, choose_entries, filters_of, has_byte, no_filters, optional}
+use Rattle.ipmi_command_line.specs.Filters.{after_byte, before_byte, filters_of, has_byte, no_filters, optional}
 use Rattle.ipmi_command_line.specs.Number.{decimal_of, hex_id_of, number_of, within}
 use Rattle.ipmi_command_line.specs.Table.{entries_of, oldest, task_of, task_of_four}
 use Rattle.ipmi_command_line.specs.Task.{takes_from}
@@ -269,22 +269,11 @@ with_parts (Some action) (Some filters) (Some source) (Some records) (Some limit
 })
 with_parts action filters source records limits format strict = None
 
--- a number of entries is to be printed
-abbrev pub counts_entries : Action → Bool
-counts_entries (Action.Print (Task.SelList Count.All) from) = false
-counts_entries (Action.Print (Task.SelList count) from) = true
-counts_entries action = false
-
--- a number of entries has no filters
-abbrev pub fitting : Option Action → Option Filters → Option Filters
-fitting (Some action) (Some filters) = if counts_entries action && choose_entries filters then None else Some filters
-fitting action filters = filters
-
 -- each option that is given goes with the command
-abbrev pub request_of_row : RowState → List Text → List Row → Option Request
-request_of_row row words rows =
+abbrev pub request_of_row : ℕ → RowState → List Text → List Row → Option Request
+request_of_row clock row words rows =
     if is_some (misplaced row.options rows) then None
-    else with_parts (action_of row words rows) (fitting (action_of row words rows) (filters_of row.verb words rows))
+    else with_parts (action_of row words rows) (filters_of clock row.verb words rows)
     (source_of (values_of (codes "image") rows) (first_of (codes "live") rows)) (records_of rows) (limits_of rows)
     (format_of row.verb rows) (is_given (codes "strict") rows)
 
@@ -303,29 +292,29 @@ types_request rows =
     if is_some (misplaced (map (λ name. name.now) BESIDE_TYPES) rows) then None
     else Some (short_request (Action.Help Topic.SensorTypes))
 
-abbrev pub request_of_verb : Verb → RowState → List Text → List Row → Option Request
-request_of_verb Verb.Help row words rows = request_of_help words
-request_of_verb Verb.ListOfType row words rows =
-    if asks_for_types words then types_request rows else request_of_row row words rows
-request_of_verb verb row words rows = request_of_row row words rows
+abbrev pub request_of_verb : ℕ → Verb → RowState → List Text → List Row → Option Request
+request_of_verb clock Verb.Help row words rows = request_of_help words
+request_of_verb clock Verb.ListOfType row words rows =
+    if asks_for_types words then types_request rows else request_of_row clock row words rows
+request_of_verb clock verb row words rows = request_of_row clock row words rows
 
-abbrev pub request_of_command : RowState → List Text → List Row → Option Request
-request_of_command row words rows = request_of_verb row.verb row words rows
+abbrev pub request_of_command : ℕ → RowState → List Text → List Row → Option Request
+request_of_command clock row words rows = request_of_verb clock row.verb row words rows
 
-abbrev pub request_of_found : Option RowState → List Text → List Row → Option Request
-request_of_found None words rows = None
-request_of_found (Some row) words rows = request_of_command row words rows
+abbrev pub request_of_found : ℕ → Option RowState → List Text → List Row → Option Request
+request_of_found clock None words rows = None
+request_of_found clock (Some row) words rows = request_of_command clock row words rows
 
-unfoldable pub request_of_words : List Text → List Row → Option Request
-request_of_words words rows = request_of_found (row_of words) words rows
+unfoldable pub request_of_words : ℕ → List Text → List Row → Option Request
+request_of_words clock words rows = request_of_found clock (row_of words) words rows
 
 -- help, then the version, then the command
-abbrev pub request_of_rows : List Row → Option Request
-request_of_rows rows =
+abbrev pub request_of_rows : ℕ → List Row → Option Request
+request_of_rows clock rows =
     if is_given (codes "help") rows then Some (short_request (Action.Help (topic_of (free_words rows))))
     else (if is_given (codes "version") rows then Some (short_request Action.Version)
-    else request_of_words (free_words rows) rows)
+    else request_of_words clock (free_words rows) rows)
 
--- the first word is the program's name
-unfoldable pub request_of : List Text → Option Request
-request_of words = if is_taken words then request_of_rows (rows_of_words words) else None
+-- The first word is the program's name. `clock`: the seconds since 1970.
+unfoldable pub request_of : ℕ → List Text → Option Request
+request_of clock words = if is_taken words then request_of_rows clock (rows_of_words words) else None

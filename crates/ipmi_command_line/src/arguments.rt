@@ -95,6 +95,7 @@ fn valued_options<'a>(alloc: Global) -> Result<Command<'a>, AllocError>
         .arg(list_rule(alloc, "exclude"))?
         .arg(option_rule(alloc, "since"))?
         .arg(option_rule(alloc, "until"))?
+        .arg(option_rule(alloc, "now"))?
         .arg(output_rule(alloc))
 }
 
@@ -171,6 +172,7 @@ fn has_other_value(matches: &ArgMatches<'_>) -> bool
         || has_value(matches, "exclude")
         || has_value(matches, "since")
         || has_value(matches, "until")
+        || has_value(matches, "now")
         || has_value(matches, "output")
 }
 

@@ -141,6 +141,7 @@ const LISTING_ENTRIES: &[&str] = &[
     "id",
     "since",
     "until",
+    "now",
 ];
 
 /// The options of the command that prints one entry.

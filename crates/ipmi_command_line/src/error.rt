@@ -78,8 +78,6 @@ pub enum UsageError<'a> {
     JsonAndCsv,
     /// There is `--separator` without `--csv`.
     SeparatorWithoutCsv,
-    /// There are both a number of entries and a filter.
-    CountAndFilter,
     /// The time of `--since` is after that of `--until`.
     SinceAfterUntil,
 }
@@ -252,6 +250,9 @@ fn rule_of(option: &str) -> &'static str {
             "a hex id from 1 to FFFE; a listing also takes ascending ranges and commas, as 0001-0005,000A"
         }
         "since" | "until" => {
+            "a date, a time with Z or an offset, from 1970 to 2106, or hours or days ago: 2026-11-30, 2026-11-30T12:00Z, 2h or 3d"
+        }
+        "now" => {
             "a date, or a time with Z or an offset, from 1970 to 2106: 2026-11-30 or 2026-11-30T12:00Z"
         }
         "live" => "TOOL:FOLDER, which serdimko-live gives",
@@ -335,8 +336,6 @@ impl UsageError<'_> {
             UsageError::LabelInText => "--label goes only with --json or --csv",
             UsageError::JsonAndCsv => "--json does not go with --csv",
             UsageError::SinceAfterUntil => "--since is later than --until",
-            UsageError::CountAndFilter =>
-                "a number of entries does not go with --type, --id, --since or --until",
             UsageError::SeparatorWithoutCsv => "--separator goes only with --csv",
             _ => "the command line can't be read: see serdimko --help",
         }

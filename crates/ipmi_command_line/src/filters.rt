@@ -1,17 +1,17 @@
 //! Which records of a listing are printed.
-ghost use Rattle.std.specs.Prelude.{◌≡◌, ◌⊎◌, ◌==◌, codes, IfOk, map, MatchResult, None, option_map, Some, string_bytes};
+ghost use Rattle.std.specs.Prelude.{◌≡◌, ◌⊎◌, ◌-◌, ◌==◌, codes, IfOk, map, MatchResult, None, option_map, Some, string_bytes};
 ghost use Rattle.std.specs.List.{filter_map, list_all, slice_split};
 ghost use Rattle.clap.specs.Words.{first_of, found_of, rows_of};
 ghost use Rattle.ipmi_command_line.specs.Arguments.{values_of};
 ghost use Rattle.ipmi_command_line.specs.Commands.{texts};
-ghost use Rattle.ipmi_command_line.specs.Filters.{are_ordered, byte_of, choose_entries, entity_of, entity_text, filters_of, full_time, id_range, ids_of, ids_text, is_id_range, no_filters, optional, sensor_type_of, stamp_of, time_of, type_text};
+ghost use Rattle.ipmi_command_line.specs.Filters.{ago_of, are_ordered, byte_of, days_of, entity_of, entity_text, filters_of, full_time, id_range, ids_of, ids_text, is_id_range, no_filters, now_of, optional, sensor_type_of, stamp_of, time_from, time_of, type_text};
 ghost use Rattle.ipmi_command_line.specs.declared.error.UsageError.{UsageError};
 
 use crate::arguments::value;
 use crate::commands::{Operand, Verb};
 use crate::error::{Hint, UsageError};
 use crate::mistake::{unknown_type, value_error};
-use crate::number::{hex_id, number};
+use crate::number::{decimal, hex_id, number};
 use crate::request::copies_of;
 use crate::words::Words;
 use clap::ArgMatches;
@@ -92,16 +92,6 @@ impl Filters {
             since: None,
             until: None,
         }
-    }
-
-    /// Whether they leave out entries of the event log.
-    pub(crate) fn choose_entries(&self) -> bool
-        ensures { result ≡ choose_entries self.now }
-    {
-        self.sensor_type.is_some()
-            || self.ids.is_some()
-            || self.since.is_some()
-            || self.until.is_some()
     }
 }
 
@@ -233,6 +223,47 @@ fn time_of(alloc: Global, text: &str) -> Result<Option<u32>, AllocError>
     }
 }
 
+/// The seconds in so many hours, as `2h`, or days, as `3d`.
+fn ago_of(text: &str) -> Option<u64>
+    ensures value { result ≡ ago_of text.now }
+{
+    match text.split_once('h') {
+        Some((count, rest)) if rest.is_empty() => {
+            decimal(count, 0, u16::MAX).map(|hours| u64::from(hours) * 3600)
+        }
+        _ => days_of(text),
+    }
+}
+
+/// The seconds in so many days, as `3d`.
+fn days_of(text: &str) -> Option<u64>
+    ensures value { result ≡ days_of text.now }
+{
+    match text.split_once('d') {
+        Some((count, rest)) if rest.is_empty() => {
+            decimal(count, 0, u16::MAX).map(|days| u64::from(days) * 86_400)
+        }
+        _ => None,
+    }
+}
+
+/// The seconds since 1970 so many seconds before `now`, or 0 if that is before 1970.
+fn before(now: u32, ago: u64) -> u32
+    ensures { result ≡ now - ago }
+{
+    u64::from(now).saturating_sub(ago) as u32
+}
+
+/// The seconds since 1970 of a time, or of hours or days before `now`.
+fn time_from(alloc: Global, now: u32, text: &str) -> Result<Option<u32>, AllocError>
+    ensures { IfOk result (λ time. time ≡ time_from now text.now) }
+{
+    match ago_of(text) {
+        Some(ago) => Ok(Some(before(now, ago))),
+        None => time_of(alloc, text),
+    }
+}
+
 // ---- the options
 
 /// The sensor type of the command `sdr type`, or of `--type`.
@@ -307,19 +338,34 @@ fn ids_in<'a>(alloc: Global, text: Option<&'a str>) -> Result<Option<Ids>, Usage
     }
 }
 
+/// The time before which hours and days are counted: that of `--now`, or else of the clock.
+fn now_in<'a>(alloc: Global, clock: u32, text: Option<&'a str>) -> Result<u32, UsageError<'a>>
+    ensures { let meant = now_of clock (option_map (λ text. text.now) text.entry) in
+        MatchResult result (λ now. meant ≡ Some now) (λ e. (e ≡ UsageError.Memory) ⊎ (meant ≡ None)) }
+{
+    let Some(text) = text else {
+        return Ok(clock);
+    };
+    match time_of(alloc, text)? {
+        Some(now) => Ok(now),
+        None => Err(value_error("now", Some(text))),
+    }
+}
+
 /// The time of this option.
 fn time_in<'a>(
     alloc: Global,
     option: &'static str,
+    now: u32,
     text: Option<&'a str>,
 ) -> Result<Option<u32>, UsageError<'a>>
-    ensures { let meant = optional time_of (option_map (λ text. text.now) text.entry) in
+    ensures { let meant = optional (time_from now) (option_map (λ text. text.now) text.entry) in
         MatchResult result (λ found. meant ≡ Some found) (λ e. (e ≡ UsageError.Memory) ⊎ (meant ≡ None)) }
 {
     let Some(text) = text else {
         return Ok(None);
     };
-    match time_of(alloc, text)? {
+    match time_from(alloc, now, text)? {
         Some(time) => Ok(Some(time)),
         None => Err(value_error(option, Some(text))),
     }
@@ -335,22 +381,24 @@ fn are_ordered(since: Option<u32>, until: Option<u32>) -> bool
     }
 }
 
-/// Which records a command prints.
+/// Which records a command prints. `clock` has the seconds since 1970.
 pub(crate) fn filters_of<'a>(
     alloc: Global,
+    clock: u32,
     verb: Verb,
     words: &[&'a str],
     matches: &ArgMatches<'a>,
 ) -> Result<Filters, UsageError<'a>>
-    ensures { let meant = filters_of verb (texts words.now) (rows_of (found_of matches.now)) in
+    ensures { let meant = filters_of clock verb (texts words.now) (rows_of (found_of matches.now)) in
         MatchResult result (λ filters. meant ≡ Some filters) (λ e. (e ≡ UsageError.Memory) ⊎ (meant ≡ None)) }
 {
     let sensor_type = type_in(alloc, type_text(verb, words, matches))?;
     let entity = entity_in(entity_text(verb, words, matches))?;
     let ids = ids_in(alloc, ids_text(verb, matches))?;
     let excluded = copies_of(alloc, matches, "exclude")?;
-    let since = time_in(alloc, "since", value(matches, "since"))?;
-    let until = time_in(alloc, "until", value(matches, "until"))?;
+    let now = now_in(alloc, clock, value(matches, "now"))?;
+    let since = time_in(alloc, "since", now, value(matches, "since"))?;
+    let until = time_in(alloc, "until", now, value(matches, "until"))?;
     if !are_ordered(since, until) {
         return Err(UsageError::SinceAfterUntil);
     }

@@ -4,7 +4,7 @@ ghost use Rattle.clap.specs.Words.{first_of, found_of, rows_of};
 ghost use Rattle.ipmi_command_line.specs.Arguments.{values_of};
 ghost use Rattle.ipmi_command_line.specs.Command.{IsTask, number_or, start_of_text};
 ghost use Rattle.ipmi_command_line.specs.Commands.{row_of, row_state, texts};
-ghost use Rattle.ipmi_command_line.specs.Request.{action_of, among_flags, among_values, capture_of, entry_of, events_of, format_of, help_of, IsRequest, IsAction, has_option, limits_of, live_at, live_of, misplaced, named_of, part_of_text, printed_of, records_named, records_of, request_of, request_of_command, request_of_help, request_of_row, request_of_rows, request_of_words, rewrite_of, separator_of, short_request, asks_for_types, counts_entries, fitting, types_request, source_of, standard_inputs, start_of, tail_of, task_of_row, text_format, tool_of, topic_named, topic_of};
+ghost use Rattle.ipmi_command_line.specs.Request.{action_of, among_flags, among_values, capture_of, entry_of, events_of, format_of, help_of, IsRequest, IsAction, has_option, limits_of, live_at, live_of, misplaced, named_of, part_of_text, printed_of, records_named, records_of, request_of, request_of_command, request_of_help, request_of_row, request_of_rows, request_of_words, rewrite_of, separator_of, short_request, asks_for_types, types_request, source_of, standard_inputs, start_of, tail_of, task_of_row, text_format, tool_of, topic_named, topic_of};
 ghost use Rattle.ipmi_command_line.specs.declared.error.UsageError.{UsageError};
 
 use crate::arguments::{arguments, has_value, is_given, value, value_count};
@@ -549,7 +549,7 @@ fn action_of<'a>(
 // ---- options
 
 /// The options with a value that go with some commands only.
-pub const VALUED: [&str; 12] = [
+pub const VALUED: [&str; 13] = [
     "image",
     "label",
     "live",
@@ -561,6 +561,7 @@ pub const VALUED: [&str; 12] = [
     "exclude",
     "since",
     "until",
+    "now",
     "output",
 ];
 
@@ -693,36 +694,15 @@ fn short_request(alloc: Global, action: Action) -> Request
     }
 }
 
-/// Whether a number of entries is to be printed.
-fn counts_entries(action: &Action) -> bool
-    ensures { result ≡ counts_entries action.now }
-{
-    match action {
-        Action::Print(Task::SelList(Count::All), _) => false,
-        Action::Print(Task::SelList(_), _) => true,
-        _ => false,
-    }
-}
-
-/// The filters of a command that does this. A number of entries has none, as it would count what they leave out.
-fn fitting<'a>(action: &Action, filters: Filters) -> Result<Filters, UsageError<'a>>
-    ensures { MatchResult result (λ fits. fitting (Some action.now) (Some filters) ≡ Some fits)
-        (λ _. fitting (Some action.now) (Some filters) ≡ None) }
-{
-    if counts_entries(action) && filters.choose_entries() {
-        return Err(UsageError::CountAndFilter);
-    }
-    Ok(filters)
-}
-
 /// The request of a command that reads records.
 fn request_of_row<'a>(
     alloc: Global,
+    clock: u32,
     row: &CommandRow,
     words: &[&'a str],
     matches: &ArgMatches<'a>,
 ) -> Result<Request, UsageError<'a>>
-    ensures value { let meant = request_of_row (row_state row.now) (texts words.now) (rows_of (found_of matches.now)) in
+    ensures value { let meant = request_of_row clock (row_state row.now) (texts words.now) (rows_of (found_of matches.now)) in
         MatchResult result (λ request. meant ≡ Some request) (λ e. (e ≡ UsageError.Memory) ⊎ (meant ≡ None)) }
     ensures range { IfOk result IsRequest }
 {
@@ -730,7 +710,7 @@ fn request_of_row<'a>(
         return Err(misplaced_option(row, name));
     }
     let action = action_of(alloc, row, words, matches)?;
-    let filters = fitting(&action, filters_of(alloc, row.1, words, matches)?)?;
+    let filters = filters_of(alloc, clock, row.1, words, matches)?;
     let source = source_of(alloc, matches)?;
     let records = records_of(alloc, matches)?;
     let limits = limits_of(matches)?;
@@ -793,18 +773,19 @@ fn types_request<'a>(
 /// The request of a command.
 fn request_of_command<'a>(
     alloc: Global,
+    clock: u32,
     row: &CommandRow,
     words: &[&'a str],
     matches: &ArgMatches<'a>,
 ) -> Result<Request, UsageError<'a>>
-    ensures value { let meant = request_of_command (row_state row.now) (texts words.now) (rows_of (found_of matches.now)) in
+    ensures value { let meant = request_of_command clock (row_state row.now) (texts words.now) (rows_of (found_of matches.now)) in
         MatchResult result (λ request. meant ≡ Some request) (λ e. (e ≡ UsageError.Memory) ⊎ (meant ≡ None)) }
     ensures range { IfOk result IsRequest }
 {
     match row.1 {
         Verb::Help => request_of_help(alloc, words),
         Verb::ListOfType if asks_for_types(words) => types_request(alloc, row, matches),
-        _ => request_of_row(alloc, row, words, matches),
+        _ => request_of_row(alloc, clock, row, words, matches),
     }
 }
 
@@ -812,15 +793,16 @@ fn request_of_command<'a>(
 #[tactic(auto, unfolding(crate::specs::Request::request_of_words))]
 fn request_of_words<'a>(
     alloc: Global,
+    clock: u32,
     words: &[&'a str],
     matches: &ArgMatches<'a>,
 ) -> Result<Request, UsageError<'a>>
-    ensures value { let meant = request_of_words (texts words.now) (rows_of (found_of matches.now)) in
+    ensures value { let meant = request_of_words clock (texts words.now) (rows_of (found_of matches.now)) in
         MatchResult result (λ request. meant ≡ Some request) (λ e. (e ≡ UsageError.Memory) ⊎ (meant ≡ None)) }
     ensures range { IfOk result IsRequest }
 {
     match row_of(words) {
-        Some(row) => request_of_command(alloc, row, words, matches),
+        Some(row) => request_of_command(alloc, clock, row, words, matches),
         None => Err(unknown_word(alloc, words)?),
     }
 }
@@ -829,9 +811,10 @@ fn request_of_words<'a>(
 #[tactic(auto, using(crate::proofs::ArgumentLemmas::values_are))]
 fn request_of_matches<'a>(
     alloc: Global,
+    clock: u32,
     matches: &ArgMatches<'a>,
 ) -> Result<Request, UsageError<'a>>
-    ensures value { let meant = request_of_rows (rows_of (found_of matches.now)) in
+    ensures value { let meant = request_of_rows clock (rows_of (found_of matches.now)) in
         MatchResult result (λ request. meant ≡ Some request) (λ e. (e ≡ UsageError.Memory) ⊎ (meant ≡ None)) }
     ensures range { IfOk result IsRequest }
 {
@@ -842,19 +825,24 @@ fn request_of_matches<'a>(
     if is_given(matches, "version") {
         return Ok(short_request(alloc, Action::Version));
     }
-    request_of_words(alloc, words, matches)
+    request_of_words(alloc, clock, words, matches)
 }
 
 /// What the words of a command line ask for. The first is the program's name. Each option that is given is used or refused,
-/// except beside help and the version. At Err a line has no request, or memory ran out.
+/// except beside help and the version. `clock` has the seconds since 1970: `2h` is so long before it. At Err a line has no
+/// request, or memory ran out.
 #[tactic(auto, unfolding(crate::specs::Request::request_of))]
-pub fn request_of<'a, S: AsStr>(alloc: Global, words: &'a [S]) -> Result<Request, UsageError<'a>>
-    ensures value { MatchResult result (λ request. request_of (map S.text words.entry.now) ≡ Some request)
-        (λ e. (e ≡ UsageError.Memory) ⊎ (request_of (map S.text words.entry.now) ≡ None)) }
+pub fn request_of<'a, S: AsStr>(
+    alloc: Global,
+    clock: u32,
+    words: &'a [S],
+) -> Result<Request, UsageError<'a>>
+    ensures value { MatchResult result (λ request. request_of clock (map S.text words.entry.now) ≡ Some request)
+        (λ e. (e ≡ UsageError.Memory) ⊎ (request_of clock (map S.text words.entry.now) ≡ None)) }
     ensures range { IfOk result IsRequest }
 {
     match arguments(alloc, words) {
-        Ok(matches) => request_of_matches(alloc, &matches),
+        Ok(matches) => request_of_matches(alloc, clock, &matches),
         Err(error) => match error.kind() {
             ErrorKind::OutOfMemory => Err(UsageError::Memory),
             _ => Err(refused(alloc, &error, words)?),

@@ -1,14 +1,13 @@
--- The number of calls of a listing, and the rows of a walk within its limit.
-use Rattle.std.proofs.Common.{◌≡◌, inl, inr, ℕ, zero, suc, ◌+◌, ◌*◌, ◌<◌, ◌≤◌, false, true, Option, None, Some, IfOk, Result, Ok, Err, List, [], ◌∷◌, ◌++◌, length, take, drop, refl, sym, ap, ◌∙◌, arith, take-append-drop, take_all, length-drop, length-take}
+-- The number of calls of a listing, and whether its limit is reached.
+use Rattle.std.proofs.Common.{◌≡◌, inl, inr, ℕ, zero, suc, ◌+◌, ◌*◌, ◌<◌, ◌≤◌, false, true, Option, None, Some, IfOk, Result, Ok, Err, List, [], ◌∷◌, ◌++◌, length, take, drop, refl, sym, ap, ◌∙◌, arith, take-add, take-append-drop}
 use Rattle.std.specs.FinSet as set
 use Rattle.std.specs.FinSet.{len-insert}
 use Rattle.std.specs.Cmp.{nat_cmp_total}
 use Rattle.std.proofs.lemmas.Bool.Decides.{nat_tests}
 use Rattle.std.proofs.lemmas.List.{drop-drop}
 use Rattle.std.proofs.lemmas.Nat.{mul-le}
-use Rattle.std.proofs.Math.Seq.{take-nil}
-use Rattle.ipmi_commands.specs.Below.{step_call_bound, digits, Shelf, Ended, Row, first_row, len_of, largest_len, place_after, Place, place_after_rows, Seen, CursorState, IsStep, StepLeaves, HandsOut, Store, WalkEnd, Done, Failure}
-use Rattle.ipmi_commands.specs.Prelude.{calls_for, Form, is_reached, IsWithin, IsPlace, KeepsListing, ListingCalls, first_end, first_rows}
+use Rattle.ipmi_commands.specs.Below.{step_call_bound, digits, Shelf, Ended, Row, first_row, len_of, largest_len, place_after, Place, place_after_rows, Seen, CursorState, IsStep, StepLeaves, HandsOut, Store, Failure}
+use Rattle.ipmi_commands.specs.Prelude.{calls_for, Form, is_reached, IsWithin, IsPlace, KeepsListing, ListingCalls}
 use Rattle.ipmi_commands.specs.declared.limits.Tries.{Tries}
 
 -- ---- digits
@@ -31,39 +30,6 @@ not_at_limit most count more is = grind (arith, nat_tests)
 pub within_more : (most : Option ℕ) (count : ℕ) → IsWithin most count
     → is_reached most count ≡ false → IsWithin most (count + 1)
 within_more most count within more = grind (arith, nat_tests)
-
--- if the limit is above the number of rows, all rows are listed
-pub first_rows-all : (most : Option ℕ) (rows : List Row) → IsWithin most (length rows + 1)
-    → first_rows most rows ≡ rows
-first_rows-all most rows below = grind (arith, take_all)
-
-pub first_end-all : (most : Option ℕ) (rows : List Row) (end : WalkEnd)
-    → IsWithin most (length rows + 1)
-    → first_end most rows end ≡ end
-first_end-all most rows end below = grind (arith, nat_tests)
-
--- if the limit is within the rows, the listing ends with `Done`
-pub first_end-none : (count : ℕ) (rows : List Row) (end : WalkEnd) → count ≤ length rows
-    → first_end (Some count) rows end ≡ Done
-first_end-none count rows end within = grind (arith, nat_tests)
-
--- if no row within the limit remains, the count is the number of rows
-pub none_left : (most : Option ℕ) (count : ℕ) (rows : List Row) → IsWithin most (count + 1)
-    → drop count (first_rows most rows) ≡ [] → length rows ≤ count
-none_left most count rows below none = grind (arith, length-drop, length-take, ap length none)
-
--- the next row is listed if the limit is not reached
-pub first_row-first_rows : (most : Option ℕ) (k : ℕ) (walk : List Row) → IsWithin most (k + 1)
-    → first_row (drop k (first_rows most walk)) ≡ first_row (drop k walk)
-first_row-first_rows None k walk below = refl
-first_row-first_rows (Some n) k walk below = fewer n k walk below
-  where
-    fewer : (n k : ℕ) (walk : List Row) → k + 1 ≤ n
-        → first_row (drop k (take n walk)) ≡ first_row (drop k walk)
-    fewer n k [] below = rw (take-nil n) refl
-    fewer zero k (first ∷ walk) below = absurd (omega (arith, below))
-    fewer (suc n) zero (first ∷ walk) below = refl
-    fewer (suc n) (suc k) (first ∷ walk) below = fewer n k walk (omega (arith, below))
 
 -- ---- over any controller
 
@@ -194,6 +160,11 @@ place_after_rows-append start (d ∷ done) rest = place_after_rows-append (place
 -- the first of some rows, and those after it
 first_is : (rows : List Row) (row : Row) → first_row rows ≡ Some row → rows ≡ row ∷ drop 1 rows
 first_is rows row is = grind arith
+
+-- the first k rows and the next one
+pub next_taken : (rows : List Row) (k : ℕ) (row : Row) → first_row (drop k rows) ≡ Some row
+    → take (k + 1) rows ≡ take k rows ++ row ∷ []
+next_taken rows k row next = take-add k 1 rows ∙ ap (λ (l : List Row). take k rows ++ take 1 l) (first_is (drop k rows) row next)
 
 pub next_one : (rows : List Row) (k : ℕ) (row : Row) → first_row (drop k rows) ≡ Some row
     → drop k rows ≡ row ∷ drop (k + 1) rows

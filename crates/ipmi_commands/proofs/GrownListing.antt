@@ -1,16 +1,17 @@
 -- What a listing prints of a walk that only grew.
-use Rattle.std.proofs.Common.{◌≡◌, ◌≢◌, ℕ, ◌+◌, ◌≤◌, Option, None, Some, IfOk, Result, Ok, Err, List, [], ◌∷◌, ◌++◌, inl, inr, length, take, drop, refl, sym, ap, subst, ◌∙◌, arith, take_all, take-add, append_assoc, length-append, length-take-le, take-append-drop}
+use Rattle.std.proofs.Common.{◌≡◌, ◌≢◌, ℕ, ◌+◌, ◌≤◌, Option, None, Some, IfOk, Result, Ok, Err, List, [], ◌∷◌, ◌++◌, inl, inr, length, take, drop, refl, sym, ap, subst, ◌∙◌, arith, take-add, append-nil, append_assoc, length-append, length-take, length-take-le, take-append-drop}
 use Rattle.std.proofs.Math.Seq.{drop-append_seam, take-append_seam}
 use Rattle.ipmi_bus.proofs.GrowthLaws.{growth, Moment, moment, steps_stay}
 use Rattle.ipmi_commands.specs.Below.{AllFollowOrStop, WasLog, AreSteps, asked_at, cursor_after, CursorState, Done, End, Ended, EndsBy, Ending, FailsAt, Failure, First, FollowsOrStops, handed_out, Id, IsHonest, IsLog, IsStep, last_next, OnlyGrew, place_after, Place, place_after_rows, Row, rows_of, Seen, seen_after, Shelf, StandsAt, start_of, StepLeaves, StaysHonest, Stepped, stays_refl, stays_trans, WalkEnd, with_handed}
 use Rattle.ipmi_commands.specs.Meanwhile.{IsTextWhile, KeepsFor, OnGrowingListing}
-use Rattle.ipmi_commands.specs.Traced.{EndsTrace, IsListed, IsWithin, PrintsSteps, ReturnsLast, Traces, TracesListing}
+use Rattle.ipmi_commands.specs.Traced.{EndsTrace, AreWithin, IsListed, IsWithin, PrintsSteps, ReturnsLast, Traces, TracesListing}
 use Rattle.ipmi_commands.specs.declared.limits.RequestLimits.{RequestLimits}
-use Rattle.ipmi_commands.specs.Prelude.{AtEnd, AtRecord, cause_of, Change, ending_of, first_end, first_rows, Form, HasFirstItems, IsAllowed, IsAmong, IsFresh, Item, listing, listing_plan, next_points, Plan, Printed, row_items, rows_end, shelf_of, ReadPoint, points_at_walk_end, StopsAt, Subject}
+use Rattle.ipmi_commands.specs.Prelude.{AtEnd, AtRecord, cause_of, Change, counted, ending_of, first_end, first_rows, Form, HasFirstItems, IsAllowed, IsAmong, IsFresh, Item, listing, listing_plan, next_points, Plan, Printed, row_items, rows_end, shelf_of, ReadPoint, points_at_walk_end, StopsAt, Subject}
 use Rattle.ipmi_commands.specs.Output.{Output}
-use Rattle.ipmi_commands.proofs.CallLemmas.{none_left, place_after_rows-append}
+use Rattle.ipmi_commands.proofs.CallLemmas.{place_after_rows-append}
 use Rattle.ipmi_commands.proofs.ItemLemmas.{cut_after, row_item, row_items-append, row_items-split, stops_after}
-use Rattle.ipmi_commands.proofs.ListingLemmas.{may_later, take_used}
+use Rattle.ipmi_commands.proofs.LimitLemmas.{drop_used, full_used, none_left, take_used}
+use Rattle.ipmi_commands.proofs.ListingLemmas.{may_later}
 use Rattle.ipmi_commands.proofs.MeanwhileLemmas.{steps_printed, text_while}
 use Rattle.ipmi_commands.proofs.NameLemmas.{while_found, while_none}
 use Rattle.ipmi_commands.proofs.PointLemmas.{asked_first, points_at_walk_end-joined}
@@ -73,13 +74,8 @@ before_log rows First [] ends open_ = inl refl
 before_log rows (Id n) [] ends open_ = absurd ends
 before_log rows End [] ends open_ = absurd (open_ refl)
 
-pub first_end-done : (most : Option ℕ) (rows : List Row) → first_end most rows Done ≡ Done
-first_end-done most rows = grind arith
-
--- all rows within the limit
-whole_used : (most : Option ℕ) (rows : List Row) → IsWithin most (length rows) → first_rows most rows ≡ rows
-whole_used None rows within = refl
-whole_used (Some n) rows within = take_all n rows within
+pub first_end-done : (form : Form) (most : Option ℕ) (rows : List Row) → first_end form most rows Done ≡ Done
+first_end-done form most rows = grind arith
 
 -- ---- a listing that begins after these steps
 
@@ -160,7 +156,13 @@ module _ (x : Texts) (begun : CursorState) (s : Seen) (start : Place) (first : L
   place = place_after_rows start hp
 
   abbrev used : List Row
-  used = first_rows most left
+  used = first_rows form most left
+
+  few_hs : length hs ≤ length left
+  few_hs = omega (arith, ap (length {A = Row}) hs_is, length-take (length hs) left)
+
+  within_left : AreWithin form most hs → AreWithin form most (take (length hs) left)
+  within_left within = subst (AreWithin form most) hs_is within
 
   abbrev p : Plan
   p = listing_plan (listing form place most) left Done
@@ -171,8 +173,8 @@ module _ (x : Texts) (begun : CursorState) (s : Seen) (start : Place) (first : L
   abbrev Allowed : Type 0
   Allowed = IsAllowed W p c.old c.new (ending_of result)
 
-  hs_used : IsWithin most (length hs) → hs ≡ take (length hs) used
-  hs_used within = hs_is ∙ sym (take_used most (length hs) left within)
+  hs_used : AreWithin form most hs → hs ≡ take (length hs) used
+  hs_used within = hs_is ∙ sym (take_used form most (length hs) left few_hs (within_left within))
 
   abbrev rest : List Row
   rest = drop (length hs) used
@@ -181,11 +183,11 @@ module _ (x : Texts) (begun : CursorState) (s : Seen) (start : Place) (first : L
 
   all_used : (count : ℕ) → IsListed x form most now trace.steps c count → used ≡ hs
   all_used count listed = elim listed.done [
-    | inl limit ↦ ap (λ (o : Option ℕ). first_rows o left) limit ∙ ap (λ (n : ℕ). take n left) listed.count_is ∙ sym hs_is
+    | inl limit ↦ full_used form most (length hs) left few_hs (within_left listed.within) (limit ∙ ap Some (listed.count_is ∙ ap (counted form) hs_is)) ∙ sym hs_is
     | inr at_end ↦
         let whole : hp ++ hs ≡ m.rows = sym handed_is ∙ m.whole (ap (λ (x' : CursorState). x'.place) now_is ∙ at_end) in
         let left_is : left ≡ hs = ap (drop (length hp)) (sym whole) ∙ drop-append_seam hp hs in
-        ap (first_rows most) left_is ∙ whole_used most hs (subst (IsWithin most) listed.count_is listed.within)
+        ap (first_rows form most) left_is ∙ listed.within
   ]
 
   stays : StaysHonest c.seen c.seen'
@@ -199,12 +201,12 @@ module _ (x : Texts) (begun : CursorState) (s : Seen) (start : Place) (first : L
       → cause_of ending ≡ AtEnd → ending ≡ rows_end form hs Done → IsAllowed W p c.old c.new ending
   whole_allowed count listed ending cause is =
       let same = all_used count listed in
-      let end_is : p.end ≡ rows_end form hs Done = ap (λ (e : WalkEnd). rows_end form used e) (first_end-done most left) ∙ ap (λ (l : List Row). rows_end form l Done) same in
+      let end_is : p.end ≡ rows_end form hs Done = ap (λ (e : WalkEnd). rows_end form used e) (first_end-done form most left) ∙ ap (λ (l : List Row). rows_end form l Done) same in
       rw cause (subst (λ (l : List Row). Printed W (row_items form place l) c.old c.new) (sym same) (printed_hs listed.printed), is ∙ sym end_is)
 
   -- ---- a step failed
 
-  items_hs : IsWithin most (length hs) → p.items ≡ row_items form place hs ++ row_items form (place_after_rows place hs) rest
+  items_hs : AreWithin form most hs → p.items ≡ row_items form place hs ++ row_items form (place_after_rows place hs) rest
   items_hs within = subst (λ (l : List Row). row_items form place used ≡ row_items form place l ++ row_items form (place_after_rows place l) rest) (sym (hs_used within))
       (row_items-split form place used (length hs))
 
@@ -217,33 +219,29 @@ module _ (x : Texts) (begun : CursorState) (s : Seen) (start : Place) (first : L
   rows_are = ap (λ (l : List Row). l ++ left) hp_is ∙ take-append-drop (length hp) m.rows
 
   -- all rows of the log were returned, and the cursor is not at the end: the log is empty
-  at_last : IsWithin most (length hs + 1) → now.place ≢ End → rest ≡ []
+  at_last : AreWithin form most hs → IsWithin most (counted form hs + 1) → now.place ≢ End → rest ≡ []
       → IsAmong p.end_points (AtRecord (asked_at (place_after_rows place hs)))
-  at_last within open_ none =
-      let whole : hs ≡ left = hs_is ∙ take_all (length hs) left (none_left most (length hs) left within none) in
+  at_last within below open_ none =
+      let taken = take (length hs) left in
+      let under = subst (λ (n : ℕ). IsWithin most (n + 1)) (ap (counted form) hs_is) below in
+      let over : drop (length hs) left ≡ [] = none_left form most (counted form taken) (drop (length hs) left) under (sym (drop_used form most (length hs) left few_hs (within_left within)) ∙ none) in
+      let whole : hs ≡ left = hs_is ∙ sym (append-nil taken) ∙ ap (λ (l : List Row). taken ++ l) (sym over) ∙ take-append-drop (length hs) left in
       let there : place_after_rows place hs ≡ place_after_rows start m.rows =
       sym (place_after_rows-append start hp hs) ∙ ap (λ (l : List Row). place_after_rows start (hp ++ l)) whole ∙ ap (place_after_rows start) rows_are in
       let points : p.end_points ≡ points_at_walk_end start m.rows Done =
-      ap (points_at_walk_end place left) (first_end-done most left) ∙ points_at_walk_end-joined start hp left Done ∙ ap (λ (l : List Row). points_at_walk_end start l Done) rows_are in
+      ap (points_at_walk_end place left) (first_end-done form most left) ∙ points_at_walk_end-joined start hp left Done ∙ ap (λ (l : List Row). points_at_walk_end start l Done) rows_are in
       subst (λ (l : List ReadPoint). IsAmong l (AtRecord (asked_at (place_after_rows place hs)))) (sym points)
       (subst (λ (q : Place). IsAmong (points_at_walk_end start m.rows Done) (AtRecord (asked_at q))) (sym there)
       (before_log m.ends.0 start m.rows m.ends.1 (λ e. open_ (now_place open_ ∙ there ∙ e))))
 
-  less : IsWithin most (length hs + 1) → IsWithin most (length hs)
-  less within = by most within
-    where
-      by : (o : Option ℕ) → IsWithin o (length hs + 1) → IsWithin o (length hs)
-      by None w = tt
-      by (Some n) w = omega (arith, w)
-
-  stops : IsWithin most (length hs + 1) → PrintsSteps x form trace.steps c.seen' c.old c.new → (n : ℕ)
+  stops : AreWithin form most hs → IsWithin most (counted form hs + 1) → PrintsSteps x form trace.steps c.seen' c.old c.new → (n : ℕ)
       → (n ≡ asked_at now.place) × (now.place ≢ End) → StopsAt (AtRecord n) W p c.old c.new
-  stops within printed n at = record {
-    first = record { done = row_items form place hs; rest = row_items form (place_after_rows place hs) rest; items_are = items_hs (less within); printed = printed_hs printed };
+  stops within below printed n at = record {
+    first = record { done = row_items form place hs; rest = row_items form (place_after_rows place hs) rest; items_are = items_hs within; printed = printed_hs printed };
     there =
         let asked : AtRecord n ≡ AtRecord (asked_at (place_after_rows place hs)) = ap AtRecord (at.0 ∙ ap asked_at (now_place at.1)) in
         subst (IsAmong (next_points (row_items form (place_after_rows place hs) rest) p.end_points)) (sym asked)
-        (asked_first form (place_after_rows place hs) rest p.end_points (at_last within at.1));
+        (asked_first form (place_after_rows place hs) rest p.end_points (at_last within below at.1));
   }
 
   never : (done : List Stepped) (step : Stepped) (ended : Ended) → trace.steps ≡ done ++ step ∷ [] → step.result ≡ Err ended
@@ -263,18 +261,18 @@ module _ (x : Texts) (begun : CursorState) (s : Seen) (start : Place) (first : L
       let leaves = subst (λ (r : Result (Option Row) Ended). StepLeaves (cursor_after begun_here done) step.cursor r) is made.2.leaves in
       subst (λ (x' : CursorState). (n ≡ asked_at x'.place) × (x'.place ≢ End)) at (stops_there (cursor_after begun_here done) step.cursor n (fails (cursor_after begun_here done) leaves))
 
-  step_fails : (done : List Stepped) (step : Stepped) (ended : Ended) → IsWithin most (length hs + 1) → PrintsSteps x form trace.steps c.seen' c.old c.new
+  step_fails : (done : List Stepped) (step : Stepped) (ended : Ended) → AreWithin form most hs → IsWithin most (counted form hs + 1) → PrintsSteps x form trace.steps c.seen' c.old c.new
       → trace.steps ≡ done ++ step ∷ [] → step.result ≡ Err ended → IsAllowed W p c.old c.new (Err (Failure.Ended ended))
-  step_fails done step (Ended.GaveUp n) within printed are is = stops within printed n (failed_there done step n (Ended.GaveUp n) are is (λ old leaves. leaves.1))
-  step_fails done step (Ended.Refused n code) within printed are is = stops within printed n (failed_there done step n (Ended.Refused n code) are is (λ old leaves. leaves.1))
-  step_fails done step (Ended.Cycle n) within printed are is = absurd (never done step (Ended.Cycle n) are is)
-  step_fails done step (Ended.Missing n) within printed are is = absurd (never done step (Ended.Missing n) are is)
-  step_fails done step (Ended.Stalled n) within printed are is = absurd (never done step (Ended.Stalled n) are is)
-  step_fails done step (Ended.Malformed n) within printed are is = absurd (never done step (Ended.Malformed n) are is)
+  step_fails done step (Ended.GaveUp n) within below printed are is = stops within below printed n (failed_there done step n (Ended.GaveUp n) are is (λ old leaves. leaves.1))
+  step_fails done step (Ended.Refused n code) within below printed are is = stops within below printed n (failed_there done step n (Ended.Refused n code) are is (λ old leaves. leaves.1))
+  step_fails done step (Ended.Cycle n) within below printed are is = absurd (never done step (Ended.Cycle n) are is)
+  step_fails done step (Ended.Missing n) within below printed are is = absurd (never done step (Ended.Missing n) are is)
+  step_fails done step (Ended.Stalled n) within below printed are is = absurd (never done step (Ended.Stalled n) are is)
+  step_fails done step (Ended.Malformed n) within below printed are is = absurd (never done step (Ended.Malformed n) are is)
 
   -- ---- the text of the last record failed
 
-  module _ (done : List Stepped) (step : Stepped) (row : Row) (last : ReturnsLast most trace.steps done step row) where
+  module _ (done : List Stepped) (step : Stepped) (row : Row) (last : ReturnsLast form most trace.steps done step row) where
     abbrev hd : List Row
     hd = handed_out done
 
@@ -315,7 +313,7 @@ module _ (x : Texts) (begun : CursorState) (s : Seen) (start : Place) (first : L
   prints : (r : Result ℕ Failure) → EndsTrace x form most now trace.steps c r → IsAllowed W p c.old c.new (ending_of r)
   prints (Ok count) ends = whole_allowed count ends.0 (Ok tt) refl (while_found x form c.seen c.seen' place hs c.old c.new (printed_hs ends.0.printed) ends.1)
   prints (Err failure) (inl fails) =
-      subst (λ (f : Failure). IsAllowed W p c.old c.new (Err f)) (sym fails.is) (step_fails fails.done fails.step fails.ended fails.within fails.printed fails.are fails.returned)
+      subst (λ (f : Failure). IsAllowed W p c.old c.new (Err f)) (sym fails.is) (step_fails fails.done fails.step fails.ended fails.within fails.below fails.printed fails.are fails.returned)
   prints (Err failure) (inr (inl lost)) =
       stops_after W p c.old c.new (Err failure) (cause_of (Err failure)) (before_it lost.done lost.step lost.row lost.last c.new lost.printed)
       (may_later _ _ (cause_of (Err failure)) lost.there)

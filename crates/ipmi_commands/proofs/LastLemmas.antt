@@ -1,17 +1,19 @@
 -- The last entries of a shelf: one walk counts the entries, a second one skips those before the last.
-use Rattle.std.proofs.Common.{◌≡◌, false, ℕ, ◌+◌, ◌-◌, ◌<◌, ◌≤◌, Option, None, Some, IfOk, Result, Ok, Err, List, [], ◌∷◌, ◌++◌, inl, inr, length, subst, take, drop, refl, sym, ap, ◌∙◌, append_assoc, append-nil, arith, length-append, length-drop, length-take-le, take-append-drop}
+use Rattle.std.proofs.Common.{◌≡◌, false, ℕ, ◌+◌, ◌-◌, ◌<◌, ◌≤◌, Option, None, Some, IfOk, Result, Ok, Err, List, [], ◌∷◌, ◌++◌, inl, inr, length, subst, take, drop, refl, sym, ap, ◌∙◌, append_assoc, append-nil, arith, length-append, length-drop, length-take, length-take-le, take-append-drop}
 use Rattle.std.proofs.lemmas.List.{nil_from_length}
 use Rattle.std.proofs.Math.Seq.{drop-nil}
 use Rattle.ipmi_commands.specs.Below.{handed_out, IsLog, OnlyGrew, Shelf, stays_refl, WasLog, Place, Sel, Row, Store, rows_of, WalkEnd, Done, place_after, place_after_rows, Seen, IsHonest, StaysHonest, CursorState, StandsAt, start_of, Ending, Failure}
 use Rattle.ipmi_commands.specs.Traced.{EndsTrace}
 use Rattle.ipmi_commands.specs.declared.limits.RequestLimits.{RequestLimits}
-use Rattle.ipmi_commands.specs.Prelude.{AreTexts, calls_for, Cause, cause_of, Change, change, Counted, CountsEntries, points_at_walk_end, end_points_of_last, ending_of, EndsListing, EntryText, first_end, first_rows, Form, IsAllowed, IsAmong, IsFresh, IsPieceOver, IsTextWhile, OfRow, OnGrowingLast, TracesListing, Item, Job, last_plan, Leaves, listing, listing_plan, ListsAfter, ListsHonestly, ListsAlong, Plan, Printed, Prints, row_items, rows_end, second_walk_bound, ReadPoint, points_of_rows, next_points, points_of_walk, Subject, walk_call_bound, with_first_points}
+use Rattle.ipmi_commands.specs.Prelude.{AreTexts, calls_for, Cause, cause_of, Change, change, Counted, CountsEntries, points_at_walk_end, end_points_of_last, ending_of, EndsListing, EntryText, first_end, first_rows, Form, IsAllowed, IsAmong, IsFresh, IsPieceOver, IsTextWhile, OfRow, OnGrowingLast, TracesListing, Item, Job, kept_items, kept_plan, last_items, last_plan, last_rows, Leaves, listing, listing_plan, ListsAfter, ListsHonestly, ListsAlong, Plan, Printed, Prints, PrintsAll, row_items, rows_end, second_walk_bound, ReadPoint, points_of_rows, next_points, points_of_walk, Subject, walk_call_bound, with_first_points}
 use Rattle.ipmi_commands.specs.Output.{and_then, no_output, Output}
+use Rattle.ipmi_commands.specs.Selection.{chosen}
 use Rattle.ipmi_commands.specs.declared.limits.Tries.{Tries}
 use Rattle.ipmi_commands.proofs.CallLemmas.{calls_split}
 use Rattle.ipmi_commands.proofs.CountLemmas.{between, ends_here, ends_since}
 use Rattle.ipmi_bus.proofs.HeldLemmas.{begins_length, grew_first, grew_second}
 use Rattle.ipmi_commands.proofs.GrownListing.{first_end-done, fresh_grown, grown_listing, ListsGrown}
+use Rattle.ipmi_commands.proofs.LimitLemmas.{counted_skipped, skipped_rows}
 use Rattle.ipmi_commands.proofs.MeanwhileLemmas.{log_again, log_first, log_later, log_now, log_second, while_second}
 use Rattle.ipmi_commands.proofs.ItemLemmas.{IsCarried, leaves_carried, leaves_map, no_items, none_printed, row_item, texts_joined}
 use Rattle.ipmi_commands.proofs.ListingLemmas.{fresh_along, fresh_ends, holds_none}
@@ -96,10 +98,10 @@ calls_for-named entries store tries (row ∷ rows) = rw (calls_for-named entries
 abbrev AreNoTexts : (Subject → Output → Type 0) → Type 0
 AreNoTexts IsText = (row : Row) (text : Output) → IsText (OfRow Form.Skipped row) text → text ≡ no_output
 
-none_over : (x : Texts) → (store : Store) → AreNoTexts (IsPieceOver x store)
+pub none_over : (x : Texts) → (store : Store) → AreNoTexts (IsPieceOver x store)
 none_over x store row text is = is.counted ∙ nothing_in text.bytes false is.is_text
 
-none_while : (x : Texts) → (s s' : Seen) → AreNoTexts (IsTextWhile x s s')
+pub none_while : (x : Texts) → (s s' : Seen) → AreNoTexts (IsTextWhile x s s')
 none_while x s s' row text is = none_over x is.store row text is.is
 
 -- nothing is printed for skipped entries
@@ -116,29 +118,42 @@ no_text IsText none (row ∷ rows) start (d ∷ done) rest text is are =
 -- the first entries were skipped
 nothing : (IsText : Subject → Output → Type 0) → AreNoTexts IsText → (most : Option ℕ) (start : Place) (walk : List Row)
     (done rest : List Item) (old new : Output)
-    → row_items Form.Skipped start (first_rows most walk) ≡ done ++ rest
+    → row_items Form.Skipped start (first_rows Form.Skipped most walk) ≡ done ++ rest
     → Printed IsText done old new → new ≡ old
-nothing IsText none most start walk done rest old new is printed = printed.new_is ∙ rw (no_text IsText none (first_rows most walk) start done rest printed.text is printed.are) (then_nothing old)
+nothing IsText none most start walk done rest old new is printed = printed.new_is ∙ rw (no_text IsText none (first_rows Form.Skipped most walk) start done rest printed.text is printed.are) (then_nothing old)
 
--- a run that ends while entries are skipped
-module _ (IsText : Subject → Output → Type 0) (none : AreNoTexts IsText) (entries : EntryText) (n : ℕ) (most : Option ℕ) (start : Place)
-    (walk : List Row) (end : WalkEnd) (end_is : first_end most walk end ≡ end) (old new : Output) (failure : Failure) where
+-- a run that ends while entries are skipped, for a plan that may stop at the points of the walk before its first item
+module _ (IsText : Subject → Output → Type 0) (none : AreNoTexts IsText) (most : Option ℕ) (start : Place)
+    (walk : List Row) (end : WalkEnd) (end_is : first_end Form.Skipped most walk end ≡ end) (old new : Output) (failure : Failure) where
   abbrev passing : Plan
   passing = listing_plan (listing Form.Skipped start most) walk end
 
-  passing_failed : (cause : Cause) → Leaves IsText passing old new (Err failure) cause
-      → Leaves IsText (last_plan entries n start walk end) old new (Err failure) cause
-  passing_failed cause leaves = leaves_carried IsText passing (last_plan entries n start walk end) old old new (Err failure) (Err failure) cause
+  skipping_failed : (q : Plan) → next_points q.items q.end_points ≡ points_of_walk start walk end
+      → (new ≡ old → Err failure ≡ rows_end Form.Skipped (first_rows Form.Skipped most walk) end → PrintsAll IsText q old new (Err failure))
+      → (cause : Cause) → Leaves IsText passing old new (Err failure) cause → Leaves IsText q old new (Err failure) cause
+  skipping_failed q points_are ends cause leaves = leaves_carried IsText passing q old old new (Err failure) (Err failure) cause
       (λ whole first. record {
-        first = no_items IsText (last_plan entries n start walk end) old whole (nothing IsText none most start walk first.done first.rest old whole first.items_are first.printed);
-        points = λ point among. grind (arith, quiet_there Form.Skipped (λ row. refl) most start walk first.done first.rest (points_at_walk_end start walk end) point first.items_are (rw end_is at among));
+        first = no_items IsText q old whole (nothing IsText none most start walk first.done first.rest old whole first.items_are first.printed);
+        points = λ point among. rw points_are (quiet_there Form.Skipped (λ row. refl) most start walk first.done first.rest (points_at_walk_end start walk end) point first.items_are (rw end_is at among));
         next = λ item later text next is_text some.
-            let is : row_items Form.Skipped start (first_rows most walk) ≡ (first.done ++ item ∷ []) ++ later = first.items_are ∙ rw next (sym (append_assoc first.done (item ∷ []) later)) in
+            let is : row_items Form.Skipped start (first_rows Form.Skipped most walk) ≡ (first.done ++ item ∷ []) ++ later = first.items_are ∙ rw next (sym (append_assoc first.done (item ∷ []) later)) in
             let one : AreTexts IsText (item ∷ []) text = record { first = text; rest = no_output; is_first = is_text; is_rest = refl; joined = sym (then_nothing text) } in
-            let empty = no_text IsText none (first_rows most walk) start (first.done ++ item ∷ []) later (and_then first.printed.text text) is (texts_joined IsText first.done (item ∷ []) first.printed.text text first.printed.are one) in
+            let empty = no_text IsText none (first_rows Form.Skipped most walk) start (first.done ++ item ∷ []) later (and_then first.printed.text text) is (texts_joined IsText first.done (item ∷ []) first.printed.text text first.printed.are one) in
             absurd (omega (arith, some, ap (λ (o : Output). length o.bytes) empty, length-append first.printed.text.bytes text.bytes));
       })
-      (λ is all. grind (arith, none_printed, rw end_is at all.1, nothing IsText none most start walk _ [] old new (sym (append-nil _)) all.0)) leaves
+      (λ is all. ends (nothing IsText none most start walk _ [] old new (sym (append-nil _)) all.0) (rw end_is at all.1)) leaves
+
+  passing_failed : (entries : EntryText) (n : ℕ) (cause : Cause) → Leaves IsText passing old new (Err failure) cause
+      → Leaves IsText (last_plan entries n start walk end) old new (Err failure) cause
+  passing_failed entries n = skipping_failed (last_plan entries n start walk end)
+      (next_points-first (points_of_walk start walk end) (last_items entries n start walk end) (points_at_walk_end start walk end))
+      (λ same fails. grind (arith, none_printed, same, fails))
+
+  pub keeping_failed : (entries : EntryText) (n : ℕ) (cause : Cause) → Leaves IsText passing old new (Err failure) cause
+      → Leaves IsText (kept_plan entries n start walk end) old new (Err failure) cause
+  keeping_failed entries n = skipping_failed (kept_plan entries n start walk end)
+      (next_points-first (points_of_walk start walk end) (kept_items entries (last_rows n (chosen entries.selection walk) end)) [])
+      (λ same fails. grind (arith, none_printed, same, fails))
 
 -- ---- counting entries
 
@@ -148,12 +163,12 @@ pub counts_grown : (x : Texts) → (from : Option ℕ) {begun now : CursorState}
     → EndsTrace x Form.Skipped None now trace.steps c result
     → Counted (IsTextWhile x c.seen c.seen') (start_of from) g.log Done c.old c.new result
 counts_grown x from {begun} {now} {c} (Ok count) trace first g ends = (
-  ends.0.count_is ∙ ap (length {A = Row}) (g.whole (elim ends.0.done [ inl limit ↦ cc limit | inr at_end ↦ at_end ])),
+  ends.0.count_is ∙ counted_skipped (handed_out trace.steps) ∙ ap (length {A = Row}) (g.whole (elim ends.0.done [ inl limit ↦ cc limit | inr at_end ↦ at_end ])),
   refl,
   nothing (IsTextWhile x c.seen c.seen') (none_while x c.seen c.seen') None (start_of from) g.log _ [] c.old c.new (sym (append-nil _)) g.allowed.0,
 )
 counts_grown x from {begun} {now} {c} (Err failure) trace first g ends = λ entries n.
-    passing_failed (IsTextWhile x c.seen c.seen') (none_while x c.seen c.seen') entries n None (start_of from) g.log Done refl c.old c.new failure (cause_of (Err failure)) g.allowed
+    passing_failed (IsTextWhile x c.seen c.seen') (none_while x c.seen c.seen') None (start_of from) g.log Done refl c.old c.new failure entries n (cause_of (Err failure)) g.allowed
 
 module _ (x : Texts) {limits : RequestLimits} {from : Option ℕ} {tries : Tries} {begun now : CursorState}
     {c : Change}
@@ -161,8 +176,8 @@ module _ (x : Texts) {limits : RequestLimits} {from : Option ℕ} {tries : Tries
   pub counts : (result : Result ℕ Failure) (walk : List Row) (end : WalkEnd)
       → ListsAlong x Form.Skipped tries None begun now c result (start_of from) walk end 0
       → Counted (IsPieceOver x c.seen.store) (start_of from) walk end c.old c.new result
-  counts (Ok count) walk end along = (along.all.count_is, grind (arith, along.leaves.1), nothing (IsPieceOver x c.seen.store) (none_over x c.seen.store) None (start_of from) walk _ [] c.old c.new (sym (append-nil _)) along.leaves.0)
-  counts (Err failure) walk end along = λ entries n. passing_failed (IsPieceOver x c.seen.store) (none_over x c.seen.store) entries n None (start_of from) walk end refl c.old c.new failure (cause_of (Err failure)) along.leaves
+  counts (Ok count) walk end along = (along.all.count_is ∙ counted_skipped walk, grind (arith, along.leaves.1), nothing (IsPieceOver x c.seen.store) (none_over x c.seen.store) None (start_of from) walk _ [] c.old c.new (sym (append-nil _)) along.leaves.0)
+  counts (Err failure) walk end along = λ entries n. passing_failed (IsPieceOver x c.seen.store) (none_over x c.seen.store) None (start_of from) walk end refl c.old c.new failure entries n (cause_of (Err failure)) along.leaves
 
   pub counted : (result : Result ℕ Failure) → IsHonest c.seen
       → ListsHonestly x Form.Skipped tries None begun now c result
@@ -211,15 +226,15 @@ module _ (x : Texts) (entries : EntryText) {limits : RequestLimits} {from : Opti
     ends = fresh_ends x fresh lists;
     along = λ same walk end w ends n done is.
         let along = fresh_along x fresh lists same walk end w ends in (
-          passing_failed (IsPieceOver x s.store) (none_over x s.store) entries n (Some passed) (start_of from) walk end (grind (arith, done)) old text failure (cause_of (Err failure)) along.0.leaves,
-          omega (arith, along.1, calls_split Form.Skipped s.store tries passed walk),
+          passing_failed (IsPieceOver x s.store) (none_over x s.store) (Some passed) (start_of from) walk end (grind (arith, done)) old text failure entries n (cause_of (Err failure)) along.0.leaves,
+          omega (arith, rw (skipped_rows passed walk) at along.1, calls_split Form.Skipped s.store tries passed walk),
         );
     grows = λ first few log grew.
         let g = fresh_grown x fresh lists.traces honest first log grew tt in (
           g.log,
           g.was,
-          passing_failed (IsTextWhile x s s') (none_while x s s') entries (length g.log - passed) (Some passed) (start_of from) g.log Done (first_end-done (Some passed) g.log)
-              old text failure (cause_of (Err failure)) g.allowed,
+          passing_failed (IsTextWhile x s s') (none_while x s s') (Some passed) (start_of from) g.log Done (first_end-done Form.Skipped (Some passed) g.log)
+              old text failure entries (length g.log - passed) (cause_of (Err failure)) g.allowed,
         );
   }
 
@@ -230,15 +245,19 @@ module _ (x : Texts) (entries : EntryText) {limits : RequestLimits} {from : Opti
   after_fewer count fewer honest lists = record {
     ends = fresh_ends x fresh lists;
     along = λ same walk end w ends n done is.
-        absurd (fewer ((fresh_along x fresh lists same walk end w ends).0.all.count_is ∙ length-take-le passed walk (omega (arith, is))));
+        let first = first_rows Form.Skipped (Some passed) walk in
+        absurd (fewer ((fresh_along x fresh lists same walk end w ends).0.all.count_is ∙ counted_skipped first
+        ∙ ap (length {A = Row}) (skipped_rows passed walk) ∙ length-take-le passed walk (omega (arith, is))));
     grows = λ first few log grew.
         let g = fresh_grown x fresh lists.traces honest first log grew tt in
         let listed = lists.traces.ends.0 in
         elim listed.done [
           | inl limit ↦ absurd (fewer (sym (cc limit)))
           | inr at_end ↦
+              let rows = handed_out lists.traces.steps in
               let all = ap (length {A = Row}) (g.whole at_end) in
-              absurd (fewer (omega (arith, listed.count_is, listed.within, few, all, begins_length first g.log g.was.grown)))
+              let within = ap (length {A = Row}) (sym (skipped_rows passed rows) ∙ listed.within) in
+              absurd (fewer (omega (arith, listed.count_is ∙ counted_skipped rows, within, length-take passed rows, few, all, begins_length first g.log g.was.grown)))
         ];
   }
 
@@ -255,7 +274,7 @@ module _ (x : Texts) (entries : EntryText) {limits : RequestLimits} {from : Opti
       let pre = passes.traces in
       let skipped = fresh_grown x fresh pre honest first log (grew_first Sel (start_of from) s s' s'' a b grew) tt in
       let nothing_yet : text ≡ old = nothing (IsTextWhile x s s') (none_while x s s') (Some passed) (start_of from) skipped.log _ [] old text (sym (append-nil _)) skipped.allowed.0 in
-      let count : length (handed_out pre.steps) ≡ passed = sym pre.ends.0.count_is in
+      let count : length (handed_out pre.steps) ≡ passed = sym (pre.ends.0.count_is ∙ counted_skipped (handed_out pre.steps)) in
       let shelf_is : begun.shelf ≡ Sel = ap (λ (x' : CursorState). x'.shelf) fresh.is in
       let trace = subst (λ (x' : CursorState). TracesListing x (Form.Entry entries) None x' now (change s' s'' text new) result) (sym pre.traced.cursor) lists.traces in
       let g = grown_listing x begun s (start_of from) first honest (subst (λ (x' : Shelf). IsLog x' (start_of from) s.store first) (sym shelf_is) log)
@@ -285,12 +304,13 @@ module _ (x : Texts) (entries : EntryText) {limits : RequestLimits} {from : Opti
         let since = between s s' s'' passes.ends.stays lists.ends.stays same in
         let first = (fresh_along x fresh passes since.0 walk end w ends).0 in
         let stays = passes.ends.stays.store.stays since.0 in
-        let here : 0 + passed ≡ passed = omega arith in
+        let rows = first_rows Form.Skipped (Some passed) walk in
+        let here : 0 + length rows ≡ passed = omega (arith, first.all.count_is ∙ counted_skipped rows) in
         let stands : StandsAt (rows_of Sel s.store) (start_of from) walk passed mid = rw here at first.all.stands in
         let later = (rw stays at (lists.along since.1 (start_of from) walk end passed)) (record { walks = w; ends = ends; stands = stands }) in
         let none = nothing (IsPieceOver x s.store) (none_over x s.store) (Some passed) (start_of from) walk _ [] old text (sym (append-nil _)) first.leaves.0 in (
           rw done (last_leaves (IsPieceOver x s.store) entries n passed (start_of from) walk old new (ending_of result) is (rw (done, none) at later.leaves)),
-          omega (arith, rw (calls_for-named entries s.store tries (drop passed walk)) at (later.calls some), first.all.calls refl, fresh.falls, calls_split Form.Skipped s.store tries passed walk),
+          omega (arith, rw (calls_for-named entries s.store tries (drop passed walk)) at (later.calls some), rw (skipped_rows passed walk) at (first.all.calls refl), fresh.falls, calls_split Form.Skipped s.store tries passed walk),
         );
     grows = λ first few log grew. after_grown now s'' new result honest passes lists first log grew;
   }

@@ -8,6 +8,7 @@ mod ExistenceLemmas
 mod GrownListing
 mod ItemLemmas
 mod KeptLemmas
+mod LimitLemmas
 mod LastLemmas
 mod ListingLemmas
 mod MeanwhileLemmas

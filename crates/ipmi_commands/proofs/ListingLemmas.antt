@@ -1,19 +1,19 @@
 -- A listing, step by step of its cursor, with the piece of each record.
-use Rattle.std.proofs.Common.{◌≡◌, ◌≢◌, ◌⊎◌, ℕ, ◌+◌, ◌<◌, ◌≤◌, true, false, IsTrue, Option, None, Some, IfOk, Result, Ok, Err, List, [], ◌∷◌, ◌++◌, ◌==◌, ◌||◌, not, length, take, drop, refl, sym, ap, ◌∙◌, arith, take_all, length-drop, length-take-le, take-add, take-append-drop, Bool}
-use Rattle.std.proofs.lemmas.List.{take-take}
+use Rattle.std.proofs.Common.{◌≡◌, ◌≢◌, ◌⊎◌, ℕ, ◌+◌, ◌<◌, ◌≤◌, true, false, IsTrue, Option, None, Some, IfOk, Result, Ok, Err, List, [], ◌∷◌, ◌++◌, ◌==◌, ◌||◌, not, length, take, drop, refl, sym, ap, subst, ◌∙◌, arith, take_all, length-drop, length-take-le, take-add, take-append-drop, Bool}
 use Rattle.std.specs.FinSet as set
 use Rattle.std.specs.FinSet.{len-empty}
 use Rattle.std.specs.Ordering.{nat_cmp}
-use Rattle.ipmi_commands.specs.Below.{End, First, first_row, handed_out, KeepsReservations, Shelf, current, Place, Ended, Row, Store, rows_of, MayFail, WalkEnd, Done, CycleAt, MissingAt, place_after, place_after_rows, Seen, IsHonest, CursorState, CursorHoldsCurrent, FailsAt, IsStep, NotGivenUpOrRefused, StepAnswers, StepIsHonest, asked_at, Ending, Failure, start_of}
+use Rattle.ipmi_commands.specs.Below.{End, First, first_row, handed_out, KeepsReservations, Shelf, current, Place, Ended, Row, StandsAt, Store, rows_of, MayFail, WalkEnd, Done, CycleAt, MissingAt, place_after, place_after_rows, Seen, IsHonest, CursorState, CursorHoldsCurrent, FailsAt, IsStep, NotGivenUpOrRefused, StepAnswers, StepIsHonest, asked_at, Ending, Failure, start_of}
 use Rattle.ipmi_commands.specs.declared.limits.RequestLimits.{RequestLimits}
-use Rattle.ipmi_commands.specs.Prelude.{AsksAt, AtEnd, AtRecord, Cause, cause_of, cause_of_unread, Change, change, CountsSo, end_of, points_at_walk_end, ending_of, EndsFor, failure_of, FindsIt, FindsNone, first_end, first_rows, Form, HasFirstItems, IsAllowed, IsAmong, IsFine, IsFresh, IsOnWalk, is_reached, OnWalk, walk_call_bound, IsPieceOver, listing, listing_plan, Lists, ListsAlong, ListsHonestly, Item, IsStopAmong, most_after, most_for_one, IsWithin, OnEachWalk, Plan, Printed, row_items, rows_end, OfRow, shelf_of, ReadPoint, points_because_of, StopsAt, TracesListing, ReadError}
+use Rattle.ipmi_commands.specs.Prelude.{AreWithin, AsksAt, AtEnd, AtRecord, Cause, cause_of, cause_of_unread, Change, change, counted, CountsSo, end_of, points_at_walk_end, ending_of, EndsFor, failure_of, FindsIt, FindsNone, first_end, first_rows, Form, HasFirstItems, IsAllowed, IsAmong, IsFine, IsFresh, IsOnWalk, is_reached, OnWalk, walk_call_bound, IsPieceOver, listing, listing_plan, Lists, ListsAlong, ListsHonestly, Item, IsStopAmong, most_after, most_for_one, IsWithin, OnEachWalk, Plan, Printed, row_items, rows_end, OfRow, shelf_of, ReadPoint, points_because_of, StopsAt, TracesListing, ReadError}
 use Rattle.ipmi_commands.specs.Output.{and_then, IsCut, Output, piece_of}
 use Rattle.ipmi_commands.specs.declared.limits.Tries.{Tries}
-use Rattle.ipmi_commands.proofs.AlongLemmas.{in_all, IsAlong, left_rows, one_more, row_is, stepped, StepsAlong, stopped_along, used}
+use Rattle.ipmi_commands.proofs.AlongLemmas.{fits, in_all, IsAlong, left_rows, one_more, row_is, stepped, StepsAlong, stopped_along, used}
 use Rattle.ipmi_commands.proofs.AskLemmas.{asks_as}
-use Rattle.ipmi_commands.proofs.CallLemmas.{HasCalled, at_limit, called_ended, called_more, called_stopped, calls_ended, first_end-all, first_end-none, first_rows-all, none_left, not_at_limit, place_after_rows-append, within_more}
+use Rattle.ipmi_commands.proofs.CallLemmas.{HasCalled, at_limit, called_ended, called_more, called_stopped, calls_ended, not_at_limit, place_after_rows-append, within_more}
 use Rattle.ipmi_commands.proofs.CountLemmas.{between, ends_since}
 use Rattle.ipmi_commands.proofs.ItemLemmas.{cut_after, one_printed, printed_joined, row_item, row_items-next, row_items-split, stops_after}
+use Rattle.ipmi_commands.proofs.LimitLemmas.{at_most_one, counted_split, counts_as, drop_used, first_end-below, first_end-reached, full_used, none_left, take_used, within_as}
 use Rattle.ipmi_commands.proofs.MeanwhileLemmas.{keeps_at_same}
 use Rattle.ipmi_commands.proofs.TraceLemmas.{traced_cut, traced_done, traced_done-handed, traced_ended, traced_full, traced_lost, traced_more, traced_more-handed, Tracing}
 use Rattle.ipmi_commands.proofs.NameLemmas.{end_of-wrote, Wrote, wrote_more}
@@ -26,48 +26,45 @@ use Rattle.ipmi_commands.specs.Format.{Texts}
 abbrev from_here : Place → List Row → ℕ → Place
 from_here start walk k = place_after_rows start (take k walk)
 
--- the first of them
-pub take_used : (most : Option ℕ) (count : ℕ) (rows : List Row) → IsWithin most count
-    → take count (first_rows most rows) ≡ take count rows
-take_used None count rows within = refl
-take_used (Some n) count rows within = take-take count n rows within
-
--- the place after them
-place_here : (most : Option ℕ) (count : ℕ) (start : Place) (walk : List Row) (k : ℕ)
-    → IsWithin most count → place_after_rows (from_here start walk k) (take count (used most walk k))
-    ≡ place_after_rows start (take (k + count) walk)
-place_here most count start walk k within =
-    rw (take_used most count (drop k walk) within, take-add k count walk) (sym (place_after_rows-append start (take k walk) (take count (drop k walk))))
+-- the place after the first of them
+place_here : (form : Form) (most : Option ℕ) (size : ℕ) (start : Place) (walk : List Row) (k : ℕ)
+    → size ≤ length (drop k walk) → AreWithin form most (take size (drop k walk))
+    → place_after_rows (from_here start walk k) (take size (used form most walk k))
+    ≡ place_after_rows start (take (k + size) walk)
+place_here form most size start walk k few within =
+    rw (take_used form most size (drop k walk) few within, take-add k size walk) (sym (place_after_rows-append start (take k walk) (take size (drop k walk))))
 
 -- ---- the state so far
 
 -- along a walk: the cursor, and the rows printed
-pub record WentAlong (x : Texts) (form : Form) (tries : Tries) (most : Option ℕ) (count : ℕ) (begun now : CursorState)
+pub record WentAlong (x : Texts) (form : Form) (tries : Tries) (most : Option ℕ) (size count : ℕ) (begun now : CursorState)
     (c : Change) (start : Place) (walk : List Row) (k : ℕ) : Type 0 where
-  pub along : IsAlong form tries most count begun now c.seen c.seen' start walk k
+  pub along : IsAlong form tries most size count begun now c.seen c.seen' start walk k
   pub are_printed : Printed (IsPieceOver x c.seen.store)
-      (row_items form (from_here start walk k) (take count (used most walk k))) c.old c.new
+      (row_items form (from_here start walk k) (take size (used form most walk k))) c.old c.new
 
 -- over an honest controller
-pub record Went (x : Texts) (form : Form) (tries : Tries) (most : Option ℕ) (count : ℕ) (begun now : CursorState)
+pub record Went (x : Texts) (form : Form) (tries : Tries) (most : Option ℕ) (size count : ℕ) (begun now : CursorState)
     (c : Change) : Type 0 where
   pub ends : EndsFor tries (IsTrue c.seen.plain
       × CursorHoldsCurrent begun c.seen) c.seen c.seen' AtEnd
   pub holds : IsTrue c.seen.plain → CursorHoldsCurrent begun c.seen → CursorHoldsCurrent now c.seen'
   pub along : c.seen'.stores_added ≡ c.seen.stores_added
       → OnEachWalk (shelf_of form) begun c.seen.store
-      (λ start walk end k. WentAlong x form tries most count begun now c start walk k)
-  pub tracing : Tracing x form count begun now c
+      (λ start walk end k. WentAlong x form tries most size count begun now c start walk k)
+  pub tracing : Tracing x form most count begun now c
 
--- a listing that continues
+-- a listing that continues: of `size` records that the cursor returned the limit counted `count`
 pub record Listed (x : Texts) (form : Form) (tries : Tries) (most : Option ℕ) (count : ℕ) (wrote : Bool)
     (begun now : CursorState) (c : Change) : Type 0 where
   pub shelf : now.shelf ≡ shelf_of form
   pub tries_are : now.tries ≡ tries.count
-  pub called : HasCalled (most_for_one form tries) count begun now c.seen c.seen'
+  pub size : ℕ
+  pub called : HasCalled (most_for_one form tries) size begun now c.seen c.seen'
+  pub fewer : count ≤ size
   pub within : IsWithin most count
   pub has_written : Wrote wrote c.old c.new
-  pub went : IsHonest c.seen → Went x form tries most count begun now c
+  pub went : IsHonest c.seen → Went x form tries most size count begun now c
 
 -- ---- a step
 
@@ -119,19 +116,19 @@ abbrev LeavesHere : (x : Texts) → Store → Form → Option ℕ → Place → 
     → Type 0
 LeavesHere x store form most start walk end k old new ending = IsAllowed (IsPieceOver x store) (plan_here form most start walk end k) old new ending
 
--- the first `count` rows were printed
+-- the first `size` rows were printed
 abbrev PrintsFirst : (x : Texts) → Store → Form → Option ℕ → ℕ → Place → List Row → ℕ → Output → Output → Type 0
-PrintsFirst x store form most count start walk k old new = Printed (IsPieceOver x store) (row_items form (from_here start walk k) (take count (used most walk k))) old new
+PrintsFirst x store form most size start walk k old new = Printed (IsPieceOver x store) (row_items form (from_here start walk k) (take size (used form most walk k))) old new
 
 -- the items of the first rows, and those of the other rows
-abbrev first_items : (x : Texts) → (form : Form) (store : Store) (most : Option ℕ) (count : ℕ) (start : Place)
+abbrev first_items : (x : Texts) → (form : Form) (store : Store) (most : Option ℕ) (size : ℕ) (start : Place)
     (walk : List Row) (end : WalkEnd) (k : ℕ) (old new : Output)
-    → PrintsFirst x store form most count start walk k old new
+    → PrintsFirst x store form most size start walk k old new
     → HasFirstItems (IsPieceOver x store) (plan_here form most start walk end k) old new
-first_items x form store most count start walk end k old new printed = record {
-  done = row_items form (from_here start walk k) (take count (used most walk k));
-  rest = row_items form (place_after_rows (from_here start walk k) (take count (used most walk k))) (left_rows most count walk k);
-  items_are = row_items-split form (from_here start walk k) (used most walk k) count;
+first_items x form store most size start walk end k old new printed = record {
+  done = row_items form (from_here start walk k) (take size (used form most walk k));
+  rest = row_items form (place_after_rows (from_here start walk k) (take size (used form most walk k))) (left_rows form most size walk k);
+  items_are = row_items-split form (from_here start walk k) (used form most walk k) size;
   printed = printed;
 }
 
@@ -149,16 +146,16 @@ module _ (x : Texts) {form : Form} {tries : Tries} {most : Option ℕ} {count : 
   -- all rows within the limit were listed
   all_listed : (store : Store) (start : Place) (walk : List Row) (end : WalkEnd) (k : ℕ)
       (e : WalkEnd)
-      (result : Result ℕ Failure) → count ≡ length (used most walk k)
-      → first_end most (drop k walk) end ≡ e
+      (result : Result ℕ Failure) → kept.size ≡ length (used form most walk k)
+      → first_end form most (drop k walk) end ≡ e
       → cause_of (ending_of result) ≡ AtEnd
       → ((rows : List Row)
       → Printed (IsPieceOver x store) (row_items form (from_here start walk k) rows) old new
       → ending_of result ≡ rows_end form rows e)
-      → PrintsFirst x store form most count start walk k old new
+      → PrintsFirst x store form most kept.size start walk k old new
       → LeavesHere x store form most start walk end k old new (ending_of result)
-  all_listed store start walk end k e result count_is end_is cause ends_so printed =
-      let all = rw (take_all count (used most walk k) (omega (arith, count_is))) at printed in rw (cause, end_is) (all, ends_so (used most walk k) all)
+  all_listed store start walk end k e result size_is end_is cause ends_so printed =
+      let all = rw (take_all kept.size (used form most walk k) (omega (arith, size_is))) at printed in rw (cause, end_is) (all, ends_so (used form most walk k) all)
 
   ends_by_name : (store : Store) (start : Place) (rows : List Row)
       → Printed (IsPieceOver x store) (row_items form start rows) old new
@@ -172,21 +169,23 @@ module _ (x : Texts) {form : Form} {tries : Tries} {most : Option ℕ} {count : 
       let limit = at_limit most count full in
       record {
         keeps = kept.called.keeps;
-        calls = called_stopped _ count most begun now s s' (end_of form wrote count) kept.called;
+        calls = called_stopped _ kept.size most begun now s s' (end_of form wrote count) kept.called;
         honest = λ h. let went = kept.went h in record {
           ends = rw (end_cause form wrote count) went.ends;
           holds = ok_end _ form wrote count went.holds;
           along = λ same start walk end k on.
               let there = went.along same start walk end k on in
-              let fits : count ≤ length (drop k walk) = omega (arith, there.along.stands.within, length-drop k walk) in
-              let count_is : count ≡ length (used most walk k) = rw limit (sym (length-take-le count (drop k walk) fits)) in
-              let end_is : first_end most (drop k walk) end ≡ Done = rw limit (first_end-none count (drop k walk) end fits) in
+              let rest = drop k walk in
+              let all : used form most walk k ≡ take kept.size rest = full_used form most kept.size rest (fits there.along) there.along.within (limit ∙ ap Some there.along.count_is) in
+              let size_is : kept.size ≡ length (used form most walk k) = sym (ap (length {A = Row}) all ∙ length-take-le kept.size rest (fits there.along)) in
+              let reached : count ≤ counted form rest = omega (arith, there.along.count_is, counted_split form kept.size rest) in
+              let end_is : first_end form most rest end ≡ Done = first_end-reached form most count rest end limit reached in
               record {
-                leaves = all_listed s.store start walk end k Done (end_of form wrote count) count_is end_is (end_cause form wrote count) (ends_by_name s.store (from_here start walk k)) there.are_printed;
+                leaves = all_listed s.store start walk end k Done (end_of form wrote count) size_is end_is (end_cause form wrote count) (ends_by_name s.store (from_here start walk k)) there.are_printed;
                 calls = λ part. stopped_along there.along (kept.called.keeps.part part) part;
-                all = ok_end _ form wrote count (record { count_is = count_is; stands = there.along.stands; calls = λ limited. omega (arith, there.along.calls) });
+                all = ok_end _ form wrote count (record { count_is = there.along.count_is ∙ ap (counted form) (sym all); stands = subst (λ (n : ℕ). StandsAt (rows_of (shelf_of form) s.store) start walk (k + n) now) size_is there.along.stands; calls = λ limited. omega (arith, there.along.calls) });
               };
-          traces = traced_full x wrote most went.tracing limit kept.within kept.has_written;
+          traces = traced_full x wrote went.tracing limit kept.has_written;
         };
       }
 
@@ -214,11 +213,11 @@ module _ (x : Texts) {form : Form} {tries : Tries} {most : Option ℕ} {count : 
       parts : (s'.stores_added ≡ s.stores_added) × (s''.stores_added ≡ s'.stores_added)
       parts = between s s' s'' (kept.went h).ends.stays (honest_step h).stays same
 
-      there : WentAlong x form tries most count begun now (change s s' old new) start walk k
+      there : WentAlong x form tries most kept.size count begun now (change s s' old new) start walk k
       there = (kept.went h).along parts.0 start walk end k on
 
       -- the step along the walk
-      here : StepsAlong form tries most count begun now next s s' s'' result start walk end k
+      here : StepsAlong form tries most kept.size count begun now next s s' s'' result start walk end k
       here = record {
         shelf = kept.shelf;
         tries_are = kept.tries_are;
@@ -233,39 +232,54 @@ module _ (x : Texts) {form : Form} {tries : Tries} {most : Option ℕ} {count : 
       }
 
       -- at the end of the walk
-      count_all : k + count ≡ length walk → count ≡ length (used most walk k)
-      count_all all = let rest : length (drop k walk) ≡ count = omega (arith, length-drop k walk, all) in rw (first_rows-all most (drop k walk) (rw rest below)) (sym rest)
+      whole : k + kept.size ≡ length walk → take kept.size (drop k walk) ≡ drop k walk
+      whole all = take_all kept.size (drop k walk) (omega (arith, length-drop k walk, all))
 
-      at_its_end : (e : WalkEnd) (listed : Result ℕ Failure) → k + count ≡ length walk → end ≡ e
+      used_all : k + kept.size ≡ length walk → used form most walk k ≡ drop k walk
+      used_all all = subst (AreWithin form most) (whole all) there.along.within
+
+      size_all : k + kept.size ≡ length walk → kept.size ≡ length (used form most walk k)
+      size_all all = omega (arith, length-drop k walk, all, ap (length {A = Row}) (used_all all))
+
+      below_all : k + kept.size ≡ length walk → IsWithin most (counted form (drop k walk) + 1)
+      below_all all = subst (λ (n : ℕ). IsWithin most (n + 1)) (there.along.count_is ∙ ap (counted form) (whole all)) below
+
+      at_its_end : (e : WalkEnd) (listed : Result ℕ Failure) → k + kept.size ≡ length walk → end ≡ e
           → cause_of (ending_of listed) ≡ AtEnd
           → ((rows : List Row)
           → Printed (IsPieceOver x s.store) (row_items form (from_here start walk k) rows) old new
           → ending_of listed ≡ rows_end form rows e)
           → LeavesHere x s.store form most start walk end k old new (ending_of listed)
       at_its_end e listed all is cause ends_so =
-          let rest : length (drop k walk) ≡ count = omega (arith, length-drop k walk, all) in
-          all_listed s.store start walk end k e listed (count_all all) (first_end-all most (drop k walk) end (rw rest below) ∙ is) cause ends_so there.are_printed
+          all_listed s.store start walk end k e listed (size_all all) (first_end-below form most (drop k walk) end (below_all all) ∙ is) cause ends_so there.are_printed
+
+      -- if no row within the limit is left, the walk is at its end
+      at_last : left_rows form most kept.size walk k ≡ [] → k + kept.size ≡ length walk
+      at_last none =
+          let rest = drop k walk in
+          let left = sym (drop_used form most kept.size rest (fits there.along) there.along.within) ∙ none in
+          let under : IsWithin most (counted form (take kept.size rest) + 1) = subst (λ (n : ℕ). IsWithin most (n + 1)) there.along.count_is below in
+          let over : drop kept.size rest ≡ [] = none_left form most (counted form (take kept.size rest)) (drop kept.size rest) under left in
+          omega (arith, ap (length {A = Row}) over, length-drop kept.size rest, there.along.stands.within, length-drop k walk)
 
       -- the step returned no record
-      where_asked : (n : ℕ) → FailsAt n now next → (k + count ≡ length walk → MayFail end now.place)
+      where_asked : (n : ℕ) → FailsAt n now next → (k + kept.size ≡ length walk → MayFail end now.place)
           → StopsAt (AtRecord n) (IsPieceOver x s.store) (plan_here form most start walk end k) old new
       where_asked n fails may =
           let rows = rows_of (shelf_of form) s.store in
           let at = from_here start walk k in
           let rest = drop k walk in
-          let now_is = on_walk rows start now.place (place_after_rows start (take (k + count) walk)) there.along.stands.place fails.not_at_end in
-          let place = place_here most count start walk k kept.within in
-          let past : left_rows most count walk k ≡ [] → IsAmong (points_at_walk_end at rest (first_end most rest end)) (AtRecord (asked_at (place_after_rows at (take count (used most walk k))))) = λ none.
-          let least = none_left most count rest below none in
-          let all : k + count ≡ length walk = omega (arith, least, there.along.stands.within, length-drop k walk) in
-          let beyond : IsWithin most (length rest + 1) = let size : length rest ≡ count = omega (arith, all, length-drop k walk) in rw size below in
-          let whole = take_all (k + count) walk (omega (arith, all)) in
+          let now_is = on_walk rows start now.place (place_after_rows start (take (k + kept.size) walk)) there.along.stands.place fails.not_at_end in
+          let place = place_here form most kept.size start walk k (fits there.along) there.along.within in
+          let past : left_rows form most kept.size walk k ≡ [] → IsAmong (points_at_walk_end at rest (first_end form most rest end)) (AtRecord (asked_at (place_after_rows at (take kept.size (used form most walk k))))) = λ none.
+          let all : k + kept.size ≡ length walk = at_last none in
+          let over = take_all (k + kept.size) walk (omega (arith, all)) in
           let joined : points_at_walk_end at rest end ≡ points_at_walk_end start walk end = points_at_walk_end-joined start (take k walk) rest end ∙ ap (λ (l : List Row). points_at_walk_end start l end) (take-append-drop k walk) in
-          rw (first_end-all most rest end beyond, joined, place, whole) (end_point rows start walk end on.ends (rw (now_is, whole) at (may all))) in
-          let asked : AtRecord n ≡ AtRecord (asked_at (place_after_rows at (take count (used most walk k)))) = ap AtRecord (fails.asked ∙ ap asked_at (now_is ∙ sym place)) in
+          rw (first_end-below form most rest end (below_all all), joined, place, over) (end_point rows start walk end on.ends (rw (now_is, over) at (may all))) in
+          let asked : AtRecord n ≡ AtRecord (asked_at (place_after_rows at (take kept.size (used form most walk k)))) = ap AtRecord (fails.asked ∙ ap asked_at (now_is ∙ sym place)) in
           record {
-            first = first_items x form s.store most count start walk end k old new there.are_printed;
-            there = rw asked (asked_first form (place_after_rows at (take count (used most walk k))) (left_rows most count walk k) (points_at_walk_end at rest (first_end most rest end)) past);
+            first = first_items x form s.store most kept.size start walk end k old new there.are_printed;
+            there = rw asked (asked_first form (place_after_rows at (take kept.size (used form most walk k))) (left_rows form most kept.size walk k) (points_at_walk_end at rest (first_end form most rest end)) past);
           }
 
   module _ {next : CursorState} {s'' : Seen} (wanted : is_reached most count ≡ false) where
@@ -279,7 +293,7 @@ module _ (x : Texts) {form : Form} {tries : Tries} {most : Option ℕ} {count : 
         ends = all_ends wanted step h;
         holds = tt;
         along = λ same start walk end k on. record { leaves = leaves h same on ended step; calls = in_all (here wanted step h same on); all = tt };
-        traces = traced_ended x most (kept.went h).tracing ended step (kept.went h).ends.stays.honest (below wanted step);
+        traces = traced_ended x (kept.went h).tracing ended step (kept.went h).ends.stays.honest (below wanted step);
       };
     }
       where
@@ -307,22 +321,26 @@ module _ (x : Texts) {form : Form} {tries : Tries} {most : Option ℕ} {count : 
             record {
               leaves = at_its_end wanted step h same on Done (end_of form wrote count) at.0 at.1 (end_cause form wrote count) (ends_by_name s.store (from_here start walk k));
               calls = in_all (here wanted step h same on);
-              all = ok_end _ form wrote count (record { count_is = count_all wanted step h same on at.0; stands = at.2; calls = λ limit. absurd (not_at_limit most count wanted limit) });
+              all = ok_end _ form wrote count (record {
+                count_is = (there wanted step h same on).along.count_is ∙ ap (counted form) (whole wanted step h same on at.0 ∙ sym (used_all wanted step h same on at.0));
+                stands = subst (λ (n : ℕ). StandsAt (rows_of (shelf_of form) s.store) start walk (k + n) next) (size_all wanted step h same on at.0) at.2;
+                calls = λ limit. absurd (not_at_limit most count wanted limit);
+              });
             };
-        traces = traced_done x wrote most (kept.went h).tracing step (kept.went h).ends.stays.honest kept.within kept.has_written;
+        traces = traced_done x wrote (kept.went h).tracing step (kept.went h).ends.stays.honest kept.has_written;
       };
     }
 
     pub listing_done-handed : (step : IsStep now next s' s'' (Ok None)) (h : IsHonest s)
         → handed_out ((listing_done step).honest h).traces.steps ≡ handed_out (kept.went h).tracing.steps
     unfolding listing_done
-    listing_done-handed step h = traced_done-handed x wrote most (kept.went h).tracing step (kept.went h).ends.stays.honest kept.within kept.has_written
+    listing_done-handed step h = traced_done-handed x wrote (kept.went h).tracing step (kept.went h).ends.stays.honest kept.has_written
 
     -- ---- a record was returned, and its piece was requested
 
     module _ {row : Row} {last : Seen} (step : IsStep now next s' s'' (Ok (Some row)))
         (asked : last.calls ≤ s''.calls + most_after form tries) where
-      more_called : HasCalled (most_for_one form tries) (count + 1) begun next s last
+      more_called : HasCalled (most_for_one form tries) (kept.size + 1) begun next s last
       more_called = called_more (most_after form tries) refl kept.shelf kept.tries_are kept.called step last refl asked
 
       module _ {cause : Cause} (asks : IsHonest s''
@@ -343,20 +361,20 @@ module _ (x : Texts) {form : Form} {tries : Tries} {most : Option ℕ} {count : 
         module _ (same : last.stores_added ≡ s.stores_added) {start : Place} {walk : List Row}
             {end : WalkEnd}
             {k : ℕ} (on : IsOnWalk (rows_of (shelf_of form) s.store) start walk end k begun) where
-          from_row : StepsAlong form tries most count begun now next s s' s'' (Ok (Some row)) start walk end k
+          from_row : StepsAlong form tries most kept.size count begun now next s s' s'' (Ok (Some row)) start walk end k
           from_row = here wanted step h (apart same).0 on
 
-          on_more : IsAlong form tries most (count + 1) begun next s last start walk k
+          on_more : IsAlong form tries most (kept.size + 1) (count + counts_as form row) begun next s last start walk k
           on_more = one_more from_row last (rw (store_is same) at (piece_asked.calls (keeps_at_same (points_because_of form row) s'' last piece_asked.ends.stays.store (apart same).1)))
 
           -- the output before it
           abbrev before : HasFirstItems (IsPieceOver x s.store)
               (plan_here form most start walk end k) old new
-          before = first_items x form s.store most count start walk end k old new (there wanted step h (apart same).0 on).are_printed
+          before = first_items x form s.store most kept.size start walk end k old new (there wanted step h (apart same).0 on).are_printed
 
           at_item : before.rest ≡ row_item form
-              (place_after_rows (from_here start walk k) (take count (used most walk k))) row
-              ∷ row_items form (place_after row.next) (left_rows most (count + 1) walk k)
+              (place_after_rows (from_here start walk k) (take kept.size (used form most walk k))) row
+              ∷ row_items form (place_after row.next) (left_rows form most (kept.size + 1) walk k)
           at_item = rw (row_is from_row) refl
 
       -- the listing stops at it
@@ -370,13 +388,13 @@ module _ (x : Texts) {form : Form} {tries : Tries} {most : Option ℕ} {count : 
           → Lists x form tries most begun next (change s last old text) (Err failure)
       stopped failure text asks leaves traces = record {
         keeps = more_called.keeps;
-        calls = called_stopped _ (count + 1) most begun next s last (Err failure) more_called;
+        calls = called_stopped _ (kept.size + 1) most begun next s last (Err failure) more_called;
         honest = λ h. record {
           ends = piece_ends asks h;
           holds = tt;
           along = λ same start walk end k on. record {
-            leaves = leaves h same (plan_here form most start walk end k) (before asks h same on) (place_after_rows (from_here start walk k) (take count (used most walk k)))
-                (row_items form (place_after row.next) (left_rows most (count + 1) walk k)) (at_item asks h same on);
+            leaves = leaves h same (plan_here form most start walk end k) (before asks h same on) (place_after_rows (from_here start walk k) (take kept.size (used form most walk k)))
+                (row_items form (place_after row.next) (left_rows form most (kept.size + 1) walk k)) (at_item asks h same on);
             calls = stopped_along (on_more asks h same on) step.same.part_not_zero;
             all = tt;
           };
@@ -393,7 +411,7 @@ module _ (x : Texts) {form : Form} {tries : Tries} {most : Option ℕ} {count : 
           (rw at (may_later (AtRecord (asked_at place)) (points_because_of form row) (cause_of_unread unread) (none (honest_step wanted step h).stays.honest).there)))
           (λ h.
           let lost = none (honest_step wanted step h).stays.honest in
-          traced_lost x most (kept.went h).tracing step last lost.asks.ends.stays (below wanted step) unread lost.there)
+          traced_lost x (kept.went h).tracing step last lost.asks.ends.stays (below wanted step) unread lost.there)
 
       module _ (bytes : List ℕ) (has_fault : Bool) (finds : IsHonest s''
           → FindsIt (λ store. IsPieceOver x store (OfRow form row) (piece_of bytes has_fault))
@@ -416,17 +434,19 @@ module _ (x : Texts) {form : Form} {tries : Tries} {most : Option ℕ} {count : 
             cut_after (IsPieceOver x s.store) p old new text (Err Failure.WriteFault) first (row_item form place row) later piece_text at (is_text h same) some part)
             (λ h.
             let found = finds (honest_step wanted step h).stays.honest in
-            traced_cut x most (kept.went h).tracing step last found.asks.ends.stays (below wanted step) text piece_text found.is some part)
+            traced_cut x (kept.went h).tracing step last found.asks.ends.stays (below wanted step) text piece_text found.is some part)
 
         -- the piece was written
         pub listing_more : (text : Output) → text ≡ and_then new piece_text
-            → Listed x form tries most (count + 1) (wrote || not (length bytes == 0)) begun next
+            → Listed x form tries most (count + counts_as form row) (wrote || not (length bytes == 0)) begun next
             (change s last old text)
         listing_more text is = record {
           shelf = step.same.shelf ∙ kept.shelf;
           tries_are = step.same.tries ∙ kept.tries_are;
+          size = kept.size + 1;
           called = more_called;
-          within = below wanted step;
+          fewer = omega (arith, kept.fewer, at_most_one form row);
+          within = within_as most count form row (below wanted step);
           has_written = wrote_more wrote old new text bytes has_fault kept.has_written is;
           went = λ h.
               let asks = λ (h' : IsHonest s''). (finds h').asks in
@@ -438,14 +458,14 @@ module _ (x : Texts) {form : Form} {tries : Tries} {most : Option ℕ} {count : 
                     let at = from_here start walk k in
                     record {
                       along = on_more asks h same on;
-                      are_printed = rw (row_items-next form at (used most walk k) count row _ (row_is (from_row asks h same on)))
-                          (printed_joined (IsPieceOver x s.store) (row_items form at (take count (used most walk k))) _ old new text
+                      are_printed = rw (row_items-next form at (used form most walk k) kept.size row _ (row_is (from_row asks h same on)))
+                          (printed_joined (IsPieceOver x s.store) (row_items form at (take kept.size (used form most walk k))) _ old new text
                           (there wanted step h first on).are_printed
-                          (one_printed (IsPieceOver x s.store) (row_item form (place_after_rows at (take count (used most walk k))) row) piece_text new text (is_text h same) is));
+                          (one_printed (IsPieceOver x s.store) (row_item form (place_after_rows at (take kept.size (used form most walk k))) row) piece_text new text (is_text h same) is));
                     };
                 tracing =
                     let found = finds (honest_step wanted step h).stays.honest in
-                    traced_more x most (kept.went h).tracing step last found.asks.ends.stays text piece_text found.is is;
+                    traced_more x (kept.went h).tracing step last found.asks.ends.stays (below wanted step) text piece_text found.is is;
               };
         }
 
@@ -454,7 +474,7 @@ module _ (x : Texts) {form : Form} {tries : Tries} {most : Option ℕ} {count : 
         unfolding listing_more
         listing_more-handed text is h =
             let found = finds (honest_step wanted step h).stays.honest in
-            traced_more-handed x most (kept.went h).tracing step last found.asks.ends.stays text piece_text found.is is
+            traced_more-handed x (kept.went h).tracing step last found.asks.ends.stays (below wanted step) text piece_text found.is is
 
 -- ---- a new cursor
 
@@ -482,7 +502,7 @@ module _ (x : Texts) {limits : RequestLimits} {form : Form} {from : Option ℕ} 
       → OnWalk (shelf_of form) (start_of from) c.seen.store (λ walk end.
       ListsAlong x form tries most begun now c result (start_of from) walk end 0
       × (c.seen'.calls ≤ c.seen.calls
-      + walk_call_bound form c.seen.store tries (first_rows most walk)))
+      + walk_call_bound form c.seen.store tries (first_rows form most walk)))
   fresh_along lists same walk end w ends =
       let along = lists.along same (start_of from) walk end 0 (record { walks = w; ends = ends; stands = fresh.stands _ walk }) in
       (along, omega (arith, along.calls fresh.some, fresh.falls))

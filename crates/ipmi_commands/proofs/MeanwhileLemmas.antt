@@ -7,7 +7,7 @@ use Rattle.ipmi_commands.specs.Below.{AreSteps, BeginsWith, Count, CursorState, 
 use Rattle.ipmi_records.specs.Sdr as sdr
 use Rattle.ipmi_commands.specs.Meanwhile.{IsTextWhile, KeepsAt, KeepsFor, OnGrowingListing}
 use Rattle.ipmi_commands.specs.Traced.{AreTextsOfSteps, IsTextAfter, IsTextOfResult, PrintsSteps, seen_next}
-use Rattle.ipmi_commands.specs.Prelude.{AreTexts, AtInventory, AtRecord, device_points, EntryText, Form, IsPieceOver, named_entries, entries_job, keeping_last, bytes_of_rows, last_plan, Listing, listing, listing_plan, locator_points, NameLookup, named_points, OfRow, OnGrowingEntries, OnGrowingLastKept, OnGrowingNamed, OnGrowingPlan, OnGrowingTail, Plan, Printed, reading_points, row_items, shelf_of, points_because_of, ReadPoint, Subject}
+use Rattle.ipmi_commands.specs.Prelude.{AreTexts, AtInventory, AtRecord, device_points, EntryText, Form, IsPieceOver, named_entries, entries_job, keeping_last, bytes_of_rows, kept_plan, Listing, listing, listing_plan, locator_points, NameLookup, named_points, OfRow, OnGrowingEntries, OnGrowingLastKept, OnGrowingNamed, OnGrowingPlan, OnGrowingTail, Plan, Printed, reading_points, row_items, shelf_of, points_because_of, ReadPoint, Subject}
 use Rattle.ipmi_commands.specs.Output.{and_then, Output}
 use Rattle.ipmi_commands.proofs.OutputLemmas.{nothing_then}
 use Rattle.ipmi_commands.specs.Format.{Texts}
@@ -92,7 +92,7 @@ module _ (a b c : Seen) (first : StaysHonest a b) (then_ : StaysHonest b c) wher
     last_second : (entries : EntryText) (n : ℕ) (from : Option ℕ) → OnGrowingLastKept entries n from b c Holds
         → OnGrowingLastKept entries n from a c More
     last_second entries n from on = growing_second Sel (start_of from) _ _
-        (λ log. keep (last_plan entries n (start_of from) log Done)) on
+        (λ log. keep (kept_plan entries n (start_of from) log Done)) on
 
     tail_second : (entries : EntryText) (n : ℕ) → OnGrowingTail entries n b c Holds → OnGrowingTail entries n a c More
     tail_second entries n on = (
@@ -101,7 +101,7 @@ module _ (a b c : Seen) (first : StaysHonest a b) (then_ : StaysHonest b c) wher
       stays_trans a b on.0 first on.2,
       on.3,
       on.4,
-      λ rows log grew. let g = on.5 rows log grew in (g.0, g.1, keep (last_plan entries n on.1 g.0 Done) g.2),
+      λ rows log grew. let g = on.5 rows log grew in (g.0, g.1, keep (kept_plan entries n on.1 g.0 Done) g.2),
     )
 
     pub entries_second : (entries : EntryText) (count : Count) (from : Option ℕ)

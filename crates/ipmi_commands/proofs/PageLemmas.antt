@@ -1,16 +1,16 @@
 -- Pages of a listing.
 use Rattle.std.specs.FinSet as set
-use Rattle.std.proofs.Common.{◌≡◌, ◌⊎◌, inl, inr, ℕ, Bool, sym, zero, suc, ◌+◌, ◌*◌, ◌<◌, ◌≤◌, ◌==◌, false, Option, None, Some, Result, Ok, Err, List, [], ◌∷◌, length, take, drop, get_or, refl, ap, subst, ◌∙◌, arith, take_all, length-take}
+use Rattle.std.proofs.Common.{◌≡◌, ◌⊎◌, inl, inr, ℕ, Bool, sym, zero, suc, ◌+◌, ◌*◌, ◌<◌, ◌≤◌, ◌==◌, false, Option, None, Some, Result, Ok, Err, List, [], ◌∷◌, length, take, drop, get_or, refl, ap, subst, ◌∙◌, arith}
 use Rattle.std.proofs.lemmas.Grind.{common_steps}
-use Rattle.std.proofs.lemmas.List.{take_min, at_drop_more}
+use Rattle.std.proofs.lemmas.List.{at_drop_more}
 use Rattle.ipmi_commands.specs.Pages.{PageAlong}
 use Rattle.ipmi_commands.specs.Below.{Place, End, Ended, Id, IsLog, Shelf, stays_refl, Store, Row, rows_of, WalkEnd, Done, CycleAt, MissingAt, EndsBy, row_at, IsWalk, place_after_rows, Seen, IsHonest, CursorState, start_of, Ending, Failure}
 use Rattle.ipmi_commands.specs.declared.limits.RequestLimits.{RequestLimits}
-use Rattle.ipmi_commands.specs.Prelude.{ArePages, AtEnd, cause_of, Change, change, end_of, ending_of, first_end, first_rows, Form, IsAllowed, IsFresh, IsPage, IsPieceOver, IsTextWhile, IsWithin, Traces, listing, listing_plan, ListsHonestly, pages_made, shelf_of, Subject}
+use Rattle.ipmi_commands.specs.Prelude.{ArePages, AtEnd, cause_of, Change, change, end_of, ending_of, first_end, first_rows, Form, IsAllowed, IsFresh, IsPage, IsPieceOver, IsTextWhile, Traces, listing, listing_plan, ListsHonestly, pages_made, shelf_of, Subject}
 use Rattle.ipmi_commands.specs.Output.{no_output, Output}
 use Rattle.ipmi_commands.specs.declared.limits.Tries.{Tries}
 use Rattle.ipmi_commands.proofs.OutputLemmas.{then_nothing}
-use Rattle.ipmi_commands.proofs.CallLemmas.{first_end-none}
+use Rattle.ipmi_commands.proofs.LimitLemmas.{first_end-reached, first_rows-take, within_nil}
 use Rattle.ipmi_commands.proofs.CountLemmas.{ends_here}
 use Rattle.ipmi_commands.proofs.GrownListing.{fresh_grows, fresh_traces}
 use Rattle.ipmi_commands.proofs.ItemLemmas.{no_items, none_printed}
@@ -21,18 +21,14 @@ use Rattle.ipmi_commands.specs.Format.{Texts}
 
 -- ---- a page that makes no call
 
-within_none : (most : Option ℕ) → IsWithin most 0
-within_none None = tt
-within_none (Some n) = omega arith
-
 end_same : {A B : Type 0} (form : Form) (wrote : Bool) (a : A) (b : B) → ending_of (end_of form wrote a) ≡ ending_of (end_of form wrote b)
 end_same form wrote a b = grind arith
 
 -- a listing that is at its end before the first step
 no_steps : (x : Texts) → (form : Form) (start : Place) (most : Option ℕ) (s : Seen) (text : Output) → IsHonest s
-    → IsWithin most 0 → (most ≡ Some 0) ⊎ (start ≡ End)
+    → (most ≡ Some 0) ⊎ (start ≡ End)
     → Traces x form start most (change s s text text) (end_of form false start)
-no_steps x form start most s text honest within done =
+no_steps x form start most s text honest done =
     let here : CursorState = record { shelf = shelf_of form; place = start; part = 0; tries = 0; ahead = false; ids = set.empty; reservation = None } in
     inr (record {
       begun = here;
@@ -43,8 +39,8 @@ no_steps x form start most s text honest within done =
       shelf = refl;
       place = refl;
       ids = refl;
-      traces = traced_whole x form false 0 [] (record { are = tt; cursor = refl; stays = stays_refl s honest })
-          (record { count_is = refl; within = within; done = done; printed = record { text = no_output; are = refl; new_is = sym (then_nothing text) } }) refl;
+      traces = traced_whole x form false 0 [] (record { are = tt; cursor = refl; stays = stays_refl s honest }) tt
+          (record { count_is = refl; within = within_nil form most; done = done; printed = record { text = no_output; are = refl; new_is = sym (then_nothing text) } }) refl;
     })
 
 -- a page of size 0
@@ -56,13 +52,13 @@ page_of_none x form place tries s text honest =
       ends = rw cause (ends_here honest refl tt);
       none = λ zero_. refl;
       along = λ same walk end w ends. record {
-        leaves = rw cause (none_printed (IsPieceOver x s.store) text text refl, grind (arith, first_end-none 0 walk end (omega arith)));
+        leaves = rw cause (none_printed (IsPieceOver x s.store) text text refl, grind (arith, first_end-reached form (Some 0) 0 walk end refl (omega arith)));
         calls = omega arith;
         goes_on = grind arith;
       };
       grows = λ keeps first log grew.
-          (first, log_now s s (stays_refl s honest).store honest first log, rw cause (none_printed (IsTextWhile x s s) text text refl, grind (arith, first_end-none 0 first Done (omega arith))));
-      traces = no_steps x form place (Some 0) s text honest (omega arith) (inl refl);
+          (first, log_now s s (stays_refl s honest).store honest first log, rw cause (none_printed (IsTextWhile x s s) text text refl, grind (arith, first_end-reached form (Some 0) 0 first Done refl (omega arith))));
+      traces = no_steps x form place (Some 0) s text honest (inl refl);
     }
 
 -- from a place without a row the walk is empty
@@ -70,17 +66,14 @@ pub no_walk : (rows : List Row) (start : Place) (walk : List Row) → row_at sta
     → IsWalk rows start walk → walk ≡ []
 no_walk rows start walk none w = grind arith
 
-empty_rows : (most : Option ℕ) → first_rows most [] ≡ []
-empty_rows most = grind (arith, common_steps)
-
 -- nothing is printed from the end
 empty_leaves : (IsText : Subject → Output → Type 0) (form : Form) (most : Option ℕ) (text : Output)
     → IsAllowed IsText (listing_plan (listing form End most) [] Done) text text (ending_of (end_of form false End))
 empty_leaves IsText form most text =
     let cause : cause_of (ending_of (end_of form false End)) ≡ AtEnd = grind arith in
-    rw (cause, empty_rows most) (none_printed IsText text text refl, rw (no_end most) (grind arith))
+    rw (cause, within_nil form most) (none_printed IsText text text refl, rw (no_end most) (grind arith))
   where
-    no_end : (most : Option ℕ) → first_end most [] Done ≡ Done
+    no_end : (most : Option ℕ) → first_end form most [] Done ≡ Done
     no_end most = grind arith
 
 -- a page from the end
@@ -95,7 +88,7 @@ page_at_end x form tries most s text honest =
       grows = λ keeps first log grew.
           let empty = no_walk _ End first refl log.walks in
           (first, log_now s s (stays_refl s honest).store honest first log, rw empty (empty_leaves (IsTextWhile x s s) form most text));
-      traces = no_steps x form End most s text honest (within_none most) (inr refl);
+      traces = no_steps x form End most s text honest (inr refl);
     }
   where
     along : (walk : List Row) (end : WalkEnd) → walk ≡ []
@@ -135,12 +128,12 @@ page_of_cycle x form tries most s text honest some = record {
   traces = inl (inr (refl, refl), refl, refl);
 }
   where
-    cycle_left : (most : Option ℕ) → (most ≡ Some 0 → ⊥) → first_end most [] (CycleAt 0) ≡ CycleAt 0
+    cycle_left : (most : Option ℕ) → (most ≡ Some 0 → ⊥) → first_end form most [] (CycleAt 0) ≡ CycleAt 0
     cycle_left most some = grind arith
 
     leaves : (end : WalkEnd) → end ≡ CycleAt 0 → IsAllowed (IsPieceOver x s.store) (listing_plan (listing form (Id 0) most) [] end)
         text text (Err (Failure.Ended (Ended.Cycle 0)))
-    leaves end is = rw (is, empty_rows most, cycle_left most some) (none_printed (IsPieceOver x s.store) text text refl, refl)
+    leaves end is = rw (is, within_nil form most, cycle_left most some) (none_printed (IsPieceOver x s.store) text text refl, refl)
 
     of_cycle : (walk : List Row) (end : WalkEnd) → walk ≡ [] → EndsBy (rows_of (shelf_of form) s.store) (Id 0) walk end
         → PageAlong x form (Id 0) tries most (change s s text text) (Err (Failure.Ended (Ended.Cycle 0))) walk end
@@ -159,13 +152,13 @@ pub page_by_cursor : (x : Texts) → {limits : RequestLimits} {form : Form} {fro
     {begun now : CursorState} {c : Change} (result : Result ℕ Failure) → IsFresh limits form from begun
     → (most ≡ Some 0 → ⊥) → IsHonest c.seen → ListsHonestly x form tries most begun now c result
     → IsPage x form (start_of from) tries most c (page_result now.place result)
-page_by_cursor x {from = from} {most = most} {now = now} (Ok count) fresh some honest lists = record {
+page_by_cursor x {form = form} {from = from} {most = most} {now = now} (Ok count) fresh some honest lists = record {
   ends = fresh_ends x fresh lists;
   none = λ zero_. absurd (some zero_);
   along = λ same walk end w ends.
       let along = fresh_along x fresh lists same walk end w ends in
-      let here : 0 + count ≡ length (first_rows most walk) = omega (arith, along.0.all.count_is) in
-      let first : take (length (first_rows most walk)) walk ≡ first_rows most walk = grind (arith, take_all, length-take, take_min) in
+      let here : 0 + length (first_rows form most walk) ≡ length (first_rows form most walk) = omega arith in
+      let first = sym (first_rows-take form most walk) in
       record {
         leaves = along.0.leaves;
         calls = along.1;

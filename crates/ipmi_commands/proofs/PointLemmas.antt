@@ -1,6 +1,7 @@
 -- The points of a walk and of its rows.
-use Rattle.std.proofs.Common.{◌≡◌, ◌≢◌, inl, inr, ℕ, zero, suc, ◌==◌, Bool, true, false, cond, Option, None, Some, List, [], ◌∷◌, ◌++◌, take, drop, refl, ap, arith, ne_eqb}
+use Rattle.std.proofs.Common.{◌≡◌, ◌≢◌, inl, inr, ℕ, zero, suc, ◌==◌, Bool, true, false, cond, Option, None, Some, List, [], ◌∷◌, ◌++◌, length, take, drop, refl, ap, subst, arith, ne_eqb}
 use Rattle.ipmi_commands.specs.Below.{Place, First, Id, End, Row, WalkEnd, EndsBy, place_after, place_after_rows, last_next, MayFail, asked_at}
+use Rattle.ipmi_commands.proofs.LimitLemmas.{first_rows-take}
 use Rattle.ipmi_commands.specs.Prelude.{AtRecord, first_rows, points_at_walk_end, points_because_of, points_of_rows, Form, IsAmong, Item, row_items, ReadPoint, next_points}
 
 -- the place after a row is not the start
@@ -65,9 +66,10 @@ module _ (form : Form) (quiet : (row : Row) → points_because_of form row ≡ [
 
   pub quiet_there : (most : Option ℕ) (start : Place) (walk : List Row) (done rest : List Item)
       (ends : List ReadPoint)
-      (point : ReadPoint) → row_items form start (first_rows most walk) ≡ done ++ rest
+      (point : ReadPoint) → row_items form start (first_rows form most walk) ≡ done ++ rest
       → IsAmong (next_points rest ends) point → IsAmong (points_of_rows start walk ++ ends) point
-  quiet_there None start walk done rest ends point is among = quiet_point walk start done rest ends ends point is (λ there. there) among
-  quiet_there (Some m) start walk done rest ends point is among =
-      let later = points_of_rows (place_after_rows start (take m walk)) (drop m walk) in
-      rw (points_of_rows-split m start walk ends) (quiet_point (take m walk) start done rest ends (later ++ ends) point is (λ there. among_after later ends point there) among)
+  quiet_there most start walk done rest ends point is among =
+      let size = length (first_rows form most walk) in
+      let later = points_of_rows (place_after_rows start (take size walk)) (drop size walk) in
+      let taken = subst (λ (rows : List Row). row_items form start rows ≡ done ++ rest) (first_rows-take form most walk) is in
+      rw (points_of_rows-split size start walk ends) (quiet_point (take size walk) start done rest ends (later ++ ends) point taken (λ there. among_after later ends point there) among)

@@ -126,7 +126,7 @@ pub record Searched (names : List (List ℕ)) (tries : Tries) (count : ℕ) (beg
   pub traced : IsTraced begun now s s' steps
   pub found : new ≡ old ++ found_by names steps s'
   pub along : s'.stores_added ≡ s.stores_added → OnEachWalk Sdr begun s.store
-      (λ start walk end k. IsAlong with_readings tries None count begun now s s' start walk k)
+      (λ start walk end k. IsAlong with_readings tries None count count begun now s s' start walk k)
 
 pub record Searching (names : List (List ℕ)) (tries : Tries) (begun now : CursorState) (s s' : Seen)
     (old new : List Found) : Type 0 where
@@ -154,7 +154,7 @@ search_begun names tries begun s old shelf tries_are room = record {
     steps = [];
     traced = record { are = tt; cursor = refl; stays = stays_refl s h };
     found = sym (append-nil old);
-    along = λ same start walk end k on. record { stands = let here : k ≡ k + 0 = omega arith in rw here at on.stands; calls = omega arith };
+    along = λ same start walk end k on. record { stands = let here : k ≡ k + 0 = omega arith in rw here at on.stands; calls = omega arith; within = refl; count_is = refl };
   };
 }
 
@@ -197,7 +197,7 @@ module _ {names : List (List ℕ)} {tries : Tries} {begun now : CursorState} {s 
     -- the step along a walk
     from_here : (h : IsHonest s) → s''.stores_added ≡ s.stores_added → {start : Place} {walk : List Row} {end : WalkEnd}
         {k : ℕ} → IsOnWalk (rows_of Sdr s.store) start walk end k begun
-        → StepsAlong with_readings tries None kept.count begun now next s s' s'' result start walk end k
+        → StepsAlong with_readings tries None kept.count kept.count begun now next s s' s'' result start walk end k
     from_here h same {start} {walk} {end} {k} on =
         let stays = (kept.went h).ends.stays in
         let parts = between s s' s'' stays (honest_step h).stays same in
@@ -269,7 +269,7 @@ module _ {names : List (List ℕ)} {tries : Tries} {begun now : CursorState} {s 
     along_more : {cause : Cause} → (h : IsHonest s) → AsksAt (found_points names row) tries s'' last cause
         → last.stores_added ≡ s.stores_added → (start : Place) (walk : List Row) (end : WalkEnd) (k : ℕ)
         → IsOnWalk (rows_of Sdr s.store) start walk end k begun
-        → IsAlong with_readings tries None (kept.count + 1) begun next s last start walk k
+        → IsAlong with_readings tries None (kept.count + 1) (kept.count + 1) begun next s last start walk k
     along_more h asks same start walk end k on =
         let apart = between s s'' last (all_ends step h).stays asks.ends.stays same in
         one_more (from_here step h apart.0 on) last

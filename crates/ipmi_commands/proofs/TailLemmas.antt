@@ -1,13 +1,15 @@
 -- The last entries of the log on a walk that begins where its info suggests.
-use Rattle.std.proofs.Common.{◌≡◌, ◌≢◌, ◌||◌, inl, inr, ℕ, ◌+◌, ◌-◌, ◌==◌, ◌≤◌, Bool, true, false, IsTrue, Option, None, Some, Result, Ok, Err, List, [], ◌∷◌, ◌++◌, length, refl, sym, ap, subst, ◌∙◌, arith, length-append, length-drop, drop, take}
+use Rattle.std.proofs.Common.{◌≡◌, ◌≢◌, ◌||◌, inl, inr, ℕ, ◌+◌, ◌-◌, ◌==◌, ◌≤◌, Bool, true, false, cond, IsTrue, Option, None, Some, Result, Ok, Err, List, [], ◌∷◌, ◌++◌, length, refl, sym, ap, subst, ◌∙◌, arith, length-append, length-drop, drop}
 use Rattle.std.proofs.Math.Seq.{drop-append-add, drop-length}
 use Rattle.std.proofs.lemmas.List.{length-map}
-use Rattle.ipmi_commands.specs.Below.{Done, CycleAt, EndsBy, has_id, IsWalk, MissingAt, RestIsWalk, rows_of, WalkIsUnique, Ended, Ending, Failure, First, Id, info_of, IsHonest, Place, place_after_rows, Row, Seen, Sel, start_of, stays_refl, Store, WalkEnd}
+use Rattle.ipmi_commands.specs.Below.{Done, CycleAt, EndsBy, has_id, IsWalk, MissingAt, RestIsWalk, rows_of, WalkIsUnique, Ended, Ending, Failure, First, Id, info_of, IsHonest, Place, Row, Seen, Sel, sel_view_of, start_of, stays_refl, Store, WalkEnd}
 use Rattle.ipmi_commands.specs.declared.kept.KeptEntry.{KeptEntry}
 use Rattle.ipmi_commands.specs.declared.limits.Tries.{Tries}
 use Rattle.ipmi_commands.specs.Kept.{kept_row, kept_rows, Keeps, KeepsEntries, last_of, PrintsKept}
 use Rattle.ipmi_commands.specs.Output.{Output}
-use Rattle.ipmi_commands.specs.Prelude.{after_points, AtEnd, AtRecord, Cause, cause_of, change, Dishonest, EndsFor, EndsListing, EndsPrinting, end_points_of_last, EntryText, failure_of, Finds, Form, GaveUp, has_last, IsAllowed, IsAmong, IsPieceOver, IsStopAmong, is_tail, IsTailStart, IsTextWhile, Item, Job, LacksValue, last_items, last_plan, last_rows, Leaves, most_calls, most_on_tail, most_on_walk, next_points, NoMemory, NoOutput, OnTail, OnTailFrom, OnTried, OnWhole, Plan, points_at_walk_end, points_of_walk, Prints, ReadError, ReadPoint, Refused, row_items, rows_end, Runs, Subject, tail_from, TailsAreOfTheLog, walk_call_bound, with_first_points}
+use Rattle.ipmi_command_line.specs.declared.filters.Filters.{Filters}
+use Rattle.ipmi_commands.specs.Selection.{chosen, chosen_by, passes_entry}
+use Rattle.ipmi_commands.specs.Prelude.{after_points, AtEnd, AtRecord, Cause, cause_of, change, Dishonest, EndsFor, EndsListing, EndsPrinting, end_points_of_last, EntryText, failure_of, Finds, Form, GaveUp, has_last, IsAllowed, IsAmong, IsPieceOver, IsStopAmong, is_tail, IsTailStart, IsTextWhile, Item, Job, LacksValue, kept_items, kept_plan, last_rows, Leaves, most_calls, most_on_tail, most_on_walk, next_points, NoMemory, NoOutput, OnTail, OnTailFrom, OnTried, OnWhole, Plan, points_of_walk, Prints, ReadError, ReadPoint, Refused, rows_end, Runs, Subject, tail_from, TailsAreOfTheLog, walk_call_bound, with_first_points}
 use Rattle.ipmi_commands.proofs.AskLemmas.{refuses_record}
 use Rattle.ipmi_commands.proofs.CountLemmas.{between, ends_since}
 use Rattle.ipmi_commands.proofs.ItemLemmas.{leaves_map, no_items}
@@ -35,7 +37,7 @@ module _ (entries : EntryText) (n : ℕ) (tries tries' : Tries) (store : Store) 
 
   from_map : (start : Option ℕ) → OnTailFrom start entries n tries store Holds → OnTailFrom start entries n tries' store More
   from_map None on = whole_map (AtRecord 0 ∷ []) (λ t. t.count + 1) on
-  from_map (Some id) on = λ walk end w ends. tried_map (has_last n walk end) id walk end (on walk end w ends)
+  from_map (Some id) on = λ walk end w ends. tried_map (has_last n (chosen entries.selection walk) end) id walk end (on walk end w ends)
 
   pub tail_map : OnTail entries n tries store Holds → OnTail entries n tries' store More
   tail_map on = from_map (tail_from n (info_of Sel store)) on
@@ -44,13 +46,13 @@ module _ (entries : EntryText) (n : ℕ) (tries tries' : Tries) (store : Store) 
 module _ (entries : EntryText) (n : ℕ) (tries : Tries) (store : Store) (Holds : Plan → ℕ → Type 0)
     (holds : (points : List ReadPoint) (plan : Plan) (calls : ℕ) → tries.count + 1 ≤ calls → Holds (after_points (AtRecord 0 ∷ points) plan) calls) where
   tried_all : (has : Bool) (id : ℕ) (walk : List Row) (end : WalkEnd) → OnTried has id walk end entries n tries store Holds
-  tried_all true id walk end = holds [] (last_plan entries n (Id id) walk end) (tries.count + 1 + walk_call_bound Form.Skipped store tries walk) (omega arith)
-  tried_all false id walk end = λ all at w ends. holds (points_of_walk (Id id) walk end) (last_plan entries n First all at)
+  tried_all true id walk end = holds [] (kept_plan entries n (Id id) walk end) (tries.count + 1 + walk_call_bound Form.Skipped store tries walk) (omega arith)
+  tried_all false id walk end = λ all at w ends. holds (points_of_walk (Id id) walk end) (kept_plan entries n First all at)
       (tries.count + 1 + walk_call_bound Form.Skipped store tries walk + walk_call_bound Form.Skipped store tries all) (omega arith)
 
   from_all : (start : Option ℕ) → OnTailFrom start entries n tries store Holds
-  from_all None = λ walk end w ends. holds [] (last_plan entries n First walk end) (tries.count + 1 + walk_call_bound Form.Skipped store tries walk) (omega arith)
-  from_all (Some id) = λ walk end w ends. tried_all (has_last n walk end) id walk end
+  from_all None = λ walk end w ends. holds [] (kept_plan entries n First walk end) (tries.count + 1 + walk_call_bound Form.Skipped store tries walk) (omega arith)
+  from_all (Some id) = λ walk end w ends. tried_all (has_last n (chosen entries.selection walk) end) id walk end
 
   pub tail_all : OnTail entries n tries store Holds
   tail_all = from_all (tail_from n (info_of Sel store))
@@ -88,13 +90,12 @@ none_left : {T : Type 0} (done rest : List T) → [] ≡ done ++ rest → rest �
 none_left [] rest is = sym is
 none_left (d ∷ done) rest is = cc is
 
-no_last : (entries : EntryText) (start : Place) (walk : List Row) (end : WalkEnd) → last_items entries 0 start walk end ≡ []
-no_last entries start walk Done =
-    let all : length walk - 0 ≡ length walk = omega arith in
-    ap (λ (rows : List Row). row_items (Form.Entry entries) (place_after_rows start (take (length walk - 0) walk)) rows)
-    (ap (λ (k : ℕ). drop k walk) all ∙ drop-length walk)
-no_last entries start walk (CycleAt id) = refl
-no_last entries start walk (MissingAt id) = refl
+no_last : (entries : EntryText) (rows : List Row) (end : WalkEnd) → kept_items entries (last_rows 0 rows end) ≡ []
+no_last entries rows Done =
+    let all : length rows - 0 ≡ length rows = omega arith in
+    ap (kept_items entries) (ap (λ (k : ℕ). drop k rows) all ∙ drop-length rows)
+no_last entries rows (CycleAt id) = refl
+no_last entries rows (MissingAt id) = refl
 
 -- it did not end as a walk does
 no_end : (entries : EntryText) (n kept : ℕ) (walk : List Row) (end : WalkEnd) (failure : Failure) → is_tail n kept (Err failure) ≡ Err failure
@@ -131,35 +132,38 @@ module _ (IsText : Subject → Output → Type 0) (entries : EntryText) (n kept 
   stopped NoOutput leaves = cc (sym leaves.next ∙ none_left leaves.first.done leaves.first.rest leaves.first.items_are)
   stopped Dishonest leaves = absurd leaves
 
-  stopped_allowed : IsAllowed IsText (last_plan entries 0 start walk end) text text (Err failure) → IsAllowed IsText vain text text (Err failure)
+  stopped_allowed : IsAllowed IsText (kept_plan entries 0 start walk end) text text (Err failure) → IsAllowed IsText vain text text (Err failure)
   stopped_allowed allowed =
       stopped (cause_of (Err failure)) (subst (λ (items : List Item). Leaves IsText (record {
         items = with_first_points (points_of_walk start walk end) items;
         end = rows_end (Form.Entry entries) walk end;
-        end_points = end_points_of_last (points_of_walk start walk end) items (points_at_walk_end start walk end);
-      }) text text (Err failure) (cause_of (Err failure))) (no_last entries start walk end) allowed)
+        end_points = end_points_of_last (points_of_walk start walk end) items [];
+      }) text text (Err failure) (cause_of (Err failure))) (no_last entries (chosen entries.selection walk) end) allowed)
 
 -- ---- whether a walk has the last entries
 
 module _ (entries : EntryText) (n : ℕ) (IsText : Subject → Output → Type 0) (start : Place) (walk : List Row) (end : WalkEnd) (text : Output) (kept : List KeptEntry) where
-  kept_length : kept ≡ last_of n (kept_rows walk) → length kept ≡ length walk - (length walk - n)
-  kept_length is = ap (length {A = KeptEntry}) is ∙ length-drop (length (kept_rows walk) - n) (kept_rows walk)
-      ∙ ap (λ (size : ℕ). size - (size - n)) (length-map walk kept_row)
+  abbrev rows : List Row
+  rows = chosen entries.selection walk
 
-  has : Keeps n IsText start walk end text kept (Ok tt) → is_tail n (length kept) (Ok tt) ≡ Ok true → has_last n walk end ≡ true
+  kept_length : kept ≡ last_of n (kept_rows rows) → length kept ≡ length rows - (length rows - n)
+  kept_length is = ap (length {A = KeptEntry}) is ∙ length-drop (length (kept_rows rows) - n) (kept_rows rows)
+      ∙ ap (λ (size : ℕ). size - (size - n)) (length-map rows kept_row)
+
+  has : Keeps entries.selection n IsText start walk end text kept (Ok tt) → is_tail n (length kept) (Ok tt) ≡ Ok true → has_last n rows end ≡ true
   has keeps is = rw keeps.0 (grind (arith, kept_length keeps.1))
 
-  has_not : (walked : Ending) → Keeps n IsText start walk end text kept walked → is_tail n (length kept) walked ≡ Ok false → has_last n walk end ≡ false
+  has_not : (walked : Ending) → Keeps entries.selection n IsText start walk end text kept walked → is_tail n (length kept) walked ≡ Ok false → has_last n rows end ≡ false
   has_not (Ok done) keeps is = rw keeps.0 (grind (arith, kept_length keeps.1))
   has_not (Err (Failure.Ended (Ended.Cycle id))) keeps is = ended end (keeps entries n).1
     where
-      ended : (end : WalkEnd) → Err (Failure.Ended (Ended.Cycle id)) ≡ rows_end (Form.Entry entries) walk end → has_last n walk end ≡ false
+      ended : (end : WalkEnd) → Err (Failure.Ended (Ended.Cycle id)) ≡ rows_end (Form.Entry entries) walk end → has_last n rows end ≡ false
       ended Done at = cc at
       ended (CycleAt id) at = refl
       ended (MissingAt id) at = refl
   has_not (Err (Failure.Ended (Ended.Missing id))) keeps is = ended end (keeps entries n).1
     where
-      ended : (end : WalkEnd) → Err (Failure.Ended (Ended.Missing id)) ≡ rows_end (Form.Entry entries) walk end → has_last n walk end ≡ false
+      ended : (end : WalkEnd) → Err (Failure.Ended (Ended.Missing id)) ≡ rows_end (Form.Entry entries) walk end → has_last n rows end ≡ false
       ended Done at = cc at
       ended (CycleAt id) at = refl
       ended (MissingAt id) at = refl
@@ -202,8 +206,20 @@ last_joined n before rest few =
 few : (n : ℕ) (rows : List Row) → has_last n rows Done ≡ true → n ≤ length rows
 few n rows enough = grind arith
 
+chosen_joined : (filters : Option Filters) (before rest : List Row)
+    → chosen_by filters (before ++ rest) ≡ chosen_by filters before ++ chosen_by filters rest
+chosen_joined None before rest = refl
+chosen_joined (Some filters) [] rest = refl
+chosen_joined (Some filters) (row ∷ before) rest = by (passes_entry filters row.id (sel_view_of row.bytes)) (chosen_joined (Some filters) before rest)
+  where
+    by : (one : Bool) → chosen_by (Some filters) (before ++ rest) ≡ chosen_by (Some filters) before ++ chosen_by (Some filters) rest
+        → cond one (row ∷ chosen_by (Some filters) (before ++ rest)) (chosen_by (Some filters) (before ++ rest))
+        ≡ cond one (row ∷ chosen_by (Some filters) before) (chosen_by (Some filters) before) ++ chosen_by (Some filters) rest
+    by true same = ap (λ (l : List Row). row ∷ l) same
+    by false same = same
+
 pub tails_of_log : WalkIsUnique → RestIsWalk → TailsAreOfTheLog
-tails_of_log unique rest_is store n id log walk end ok is_log there some w ends enough =
+tails_of_log unique rest_is store selection n id log walk end ok is_log there some w ends enough =
     let rows = rows_of Sel store in
     let split = split_at log id there in
     let tail = split.row ∷ split.after in
@@ -213,10 +229,12 @@ tails_of_log unique rest_is store n id log walk end ok is_log there some w ends 
     let one = unique Sel rows (Id id) walk tail end Done ok.sel w ends
     (subst (λ (k : ℕ). IsWalk rows (Id k) tail) split.is rest.0)
     (subst (λ (k : ℕ). EndsBy rows (Id k) tail Done) split.is rest.1) in
-    let most = few n tail
-    (subst (λ (e : WalkEnd). has_last n tail e ≡ true) one.1 (subst (λ (l : List Row). has_last n l end ≡ true) one.0 enough)) in
-    ap (λ (l : List Row). last_rows n l end) one.0 ∙ ap (last_rows n tail) one.1 ∙ sym (last_joined n split.before tail most)
-    ∙ ap (λ (l : List Row). last_rows n l Done) (sym split.are)
+    let most = few n (chosen selection tail)
+    (subst (λ (e : WalkEnd). has_last n (chosen selection tail) e ≡ true) one.1 (subst (λ (l : List Row). has_last n (chosen selection l) end ≡ true) one.0 enough)) in
+    ap (λ (l : List Row). last_rows n (chosen selection l) end) one.0 ∙ ap (last_rows n (chosen selection tail)) one.1
+    ∙ sym (last_joined n (chosen selection split.before) (chosen selection tail) most)
+    ∙ ap (λ (l : List Row). last_rows n l Done) (sym (chosen_joined selection.filters split.before tail))
+    ∙ ap (λ (l : List Row). last_rows n (chosen selection l) Done) (sym split.are)
 
 -- by the result of the test
 tail_ok : (n kept : ℕ) (walked : Ending) → is_tail n kept walked ≡ Ok true → (walked ≡ Ok tt) × (is_tail n kept (Ok tt) ≡ Ok true)
@@ -268,8 +286,8 @@ module _ (x : Texts) (entries : EntryText) (n : ℕ) (tries : Tries) (s m : Seen
       λ first log grew. (
         first,
         log_now s m (found h).asks.ends.stays.store h first log,
-        none_leaves (IsTextWhile x s m) (last_plan entries n First first Done) text (Err (failure_of unread))
-            (rw (next_points-first (points_of_walk First first Done) (last_items entries n First first Done) (points_at_walk_end First first Done))
+        none_leaves (IsTextWhile x s m) (kept_plan entries n First first Done) text (Err (failure_of unread))
+            (rw (next_points-first (points_of_walk First first Done) (kept_items entries (last_rows n (chosen entries.selection first) Done)) [])
             (stop_wide (AtRecord 0 ∷ []) (points_of_walk First first Done) (cause_of (Err (failure_of unread))) (λ point among. first_among first Done point refl among) (found h).there)),
       ),
     );
@@ -304,7 +322,7 @@ module _ (x : Texts) (entries : EntryText) (n : ℕ) (tries : Tries) (s m : Seen
                 let g = runs.grows first.honest rows log grew in (
                   g.0,
                   g.1,
-                  leaves_map (IsTextWhile x b s') (IsTextWhile x s s') (while_second x s b s' first.store later.store) (last_plan entries n (start_of from) g.0 Done) old new ending (cause_of ending) g.2,
+                  leaves_map (IsTextWhile x b s') (IsTextWhile x s s') (while_second x s b s' first.store later.store) (kept_plan entries n (start_of from) g.0 Done) old new ending (cause_of ending) g.2,
                 ),
           );
       traces = λ h. let first = (before h).stays in inr (b, start_of from, first, begins h, runs.traces first.honest);
@@ -315,7 +333,7 @@ module _ (x : Texts) (entries : EntryText) (n : ℕ) (tries : Tries) (s m : Seen
         → Prints x (Job.LastKept entries n None) tries (change b s' old new) ending → OnWhole points calls entries n tries s.store H
     whole_prints points calls before same prints = λ walk end w ends.
         let on = (rw same at prints) walk end w ends in
-        (after_allowed (IsPieceOver x s.store) points (last_plan entries n First walk end) old new ending on.0, omega (arith, on.1, before))
+        (after_allowed (IsPieceOver x s.store) points (kept_plan entries n First walk end) old new ending on.0, omega (arith, on.1, before))
 
   -- the info suggests no start
   pub tail_whole : (s' : Seen) (old new : Output) (ending : Ending) → FoundStart (Ok None)
@@ -329,7 +347,7 @@ module _ (x : Texts) (entries : EntryText) (n : ℕ) (tries : Tries) (s m : Seen
 
   module _ (id : ℕ) (found : FoundStart (Ok (Some id))) (b : Seen) (kept : List KeptEntry) (walked : Ending)
       (calls : b.calls ≤ m.calls + most_on_walk Form.Skipped tries)
-      (keeps : IsHonest m → (text : Output) → KeepsEntries x n (Id id) tries m b text kept walked) where
+      (keeps : IsHonest m → (text : Output) → KeepsEntries x entries.selection n (Id id) tries m b text kept walked) where
     abbrev after_info : (h : IsHonest s) → EndsFor tries (IsTrue s.plain) s m AtEnd
     after_info h = (found h).asks.ends
 
@@ -352,7 +370,7 @@ module _ (x : Texts) (entries : EntryText) (n : ℕ) (tries : Tries) (s m : Seen
         let on = prints walk end w ends in
         subst (λ (all : Bool). OnTried all id walk end entries n tries s.store (H m b old new ending))
         (sym (has entries n (IsPieceOver x s.store) (Id id) walk end old kept (rw done at (along walk end w ends).0) is))
-        (after_allowed (IsPieceOver x s.store) (AtRecord 0 ∷ []) (last_plan entries n (Id id) walk end) old new ending on.0, omega (arith, on.1, asked))))
+        (after_allowed (IsPieceOver x s.store) (AtRecord 0 ∷ []) (kept_plan entries n (Id id) walk end) old new ending on.0, omega (arith, on.1, asked))))
 
     -- it does not have them
     pub tail_elsewhere : is_tail n (length kept) walked ≡ Ok false → (s' : Seen) (old new : Output) (ending : Ending)
@@ -377,7 +395,7 @@ module _ (x : Texts) (entries : EntryText) (n : ℕ) (tries : Tries) (s m : Seen
     pub tail_failed : (failure : Failure) → walked ≡ Err failure → is_tail n (length kept) (Err failure) ≡ Err failure → (text : Output)
         → EndsListing Form.Skipped b (Err failure) → Runs x (Job.Tail entries n) tries (change s b text text) (Err failure)
     tail_failed failure failed is text may =
-        let of : (h : IsHonest m) (text : Output) → KeepsEntries x n (Id id) tries m b text kept (Err failure) = rw failed at keeps in
+        let of : (h : IsHonest m) (text : Output) → KeepsEntries x entries.selection n (Id id) tries m b text kept (Err failure) = rw failed at keeps in
         let runs = kept_failed x entries n (Some id) tries m b kept calls text failure may (λ h. of h text) in
         tail_run m b text text (Err failure) (Some id) (omega (arith, asked, calls)) after_info (λ h. sym ((found h).is tt)) runs (λ h same.
         let first = (after_info h).stays in
@@ -385,22 +403,22 @@ module _ (x : Texts) (entries : EntryText) (n : ℕ) (tries : Tries) (s m : Seen
         let store = first.store.stays since.0 in
         let along = rw store at ((of first.honest text).along since.1) in
         subst (λ (start : Option ℕ). OnTailFrom start entries n tries s.store (H m b text text (Err failure))) (rw store at ((found h).is tt))
-        (λ walk end w ends. let on = along walk end w ends in by walk end on.0 on.1 (has_last n walk end)))
+        (λ walk end w ends. let on = along walk end w ends in by walk end on.0 on.1 (has_last n (chosen entries.selection walk) end)))
       where
-        by : (walk : List Row) (end : WalkEnd) → Keeps n (IsPieceOver x s.store) (Id id) walk end text kept (Err failure)
+        by : (walk : List Row) (end : WalkEnd) → Keeps entries.selection n (IsPieceOver x s.store) (Id id) walk end text kept (Err failure)
             → b.calls ≤ m.calls + walk_call_bound Form.Skipped s.store tries walk → (all : Bool)
             → OnTried all id walk end entries n tries s.store (H m b text text (Err failure))
         by walk end stop walk_calls true =
-            (after_allowed (IsPieceOver x s.store) (AtRecord 0 ∷ []) (last_plan entries n (Id id) walk end) text text (Err failure) (stop entries n), omega (arith, asked, walk_calls))
+            (after_allowed (IsPieceOver x s.store) (AtRecord 0 ∷ []) (kept_plan entries n (Id id) walk end) text text (Err failure) (stop entries n), omega (arith, asked, walk_calls))
         by walk end stop walk_calls false = λ rows at w ends.
-            (stopped_allowed (IsPieceOver x s.store) entries n (length kept) (Id id) walk end (last_plan entries n First rows at) text failure is (stop entries 0), omega (arith, asked, walk_calls))
+            (stopped_allowed (IsPieceOver x s.store) entries n (length kept) (Id id) walk end (kept_plan entries n First rows at) text failure is (stop entries 0), omega (arith, asked, walk_calls))
 
     pub tail_found : is_tail n (length kept) walked ≡ Ok true → (old new : Output) (ending : Ending) → PrintsKept x entries kept old new ending
         → EndsPrinting ending → Runs x (Job.Tail entries n) tries (change s b old new) ending
     tail_found is old new ending prints may =
         let of = tail_ok n (length kept) walked is in
         tail_there of.0 of.1 old new ending
-        (kept_run x entries n (Some id) tries m b kept calls old new ending prints may (λ h. subst (KeepsEntries x n (Id id) tries m b old kept) of.0 (keeps h old)))
+        (kept_run x entries n (Some id) tries m b kept calls old new ending prints may (λ h. subst (KeepsEntries x entries.selection n (Id id) tries m b old kept) of.0 (keeps h old)))
 
     pub tail_stopped : (failure : Failure) → is_tail n (length kept) walked ≡ Err failure → EndsListing Form.Skipped b walked → (text : Output)
         → Runs x (Job.Tail entries n) tries (change s b text text) (Err failure)

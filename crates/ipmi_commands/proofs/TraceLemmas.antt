@@ -1,9 +1,10 @@
 -- The steps of a listing's cursor, and what was printed of the records that they returned.
-use Rattle.std.proofs.Common.{◌≡◌, ℕ, ◌+◌, ◌<◌, Bool, true, false, Option, None, Some, Result, Ok, Err, List, [], ◌∷◌, ◌++◌, inl, inr, length, refl, sym, ap, subst, ◌∙◌, arith, append-nil, length-append}
+use Rattle.std.proofs.Common.{◌≡◌, ℕ, ◌+◌, ◌<◌, Bool, true, false, Option, None, Some, Result, Ok, Err, List, [], ◌∷◌, ◌++◌, inl, inr, length, refl, sym, ap, subst, ◌∙◌, append-nil}
 use Rattle.ipmi_commands.specs.Below.{AreSteps, cursor_after, CursorState, Ended, Failure, handed_out, IsHonest, IsStep, Row, Seen, seen_after, StaysHonest, Stepped, stays_refl, with_handed}
-use Rattle.ipmi_commands.specs.Traced.{AreTextsOfSteps, IsListed, IsStopAmong, IsTextAfter, IsTextOfResult, IsTraced, IsWithin, PrintsSteps, ReturnsLast, seen_next, TracesListing}
-use Rattle.ipmi_commands.specs.Prelude.{cause_of_unread, Change, change, end_of, failure_of, Form, points_because_of, ReadError}
+use Rattle.ipmi_commands.specs.Traced.{AllButLastReturn, AllReturn, AreTextsOfSteps, IsReturned, IsListed, IsStopAmong, AreWithin, IsTextAfter, IsTextOfResult, IsTraced, IsWithin, PrintsSteps, ReturnsLast, seen_next, TracesListing}
+use Rattle.ipmi_commands.specs.Prelude.{cause_of_unread, Change, change, counted, end_of, failure_of, Form, points_because_of, ReadError}
 use Rattle.ipmi_commands.specs.Output.{and_then, IsCut, no_output, Output}
+use Rattle.ipmi_commands.proofs.LimitLemmas.{are_within_more, counted-more, counts_as, within_nil}
 use Rattle.ipmi_commands.proofs.NameLemmas.{Wrote}
 use Rattle.ipmi_commands.proofs.OutputLemmas.{nothing_then, then_assoc, then_nothing}
 use Rattle.ipmi_commands.specs.Format.{Texts}
@@ -67,23 +68,41 @@ prints_more x form steps step last old mid new text before is written = record {
 
 -- ---- a listing that goes on
 
-pub record Tracing (x : Texts) (form : Form) (count : ℕ) (begun now : CursorState) (c : Change) : Type 0 where
+pub record Tracing (x : Texts) (form : Form) (most : Option ℕ) (count : ℕ) (begun now : CursorState) (c : Change) : Type 0 where
   pub steps : List Stepped
   pub traced : IsTraced begun now c.seen c.seen' steps
   pub printed : PrintsSteps x form steps c.seen' c.old c.new
-  pub count_is : count ≡ length (handed_out steps)
+  pub count_is : count ≡ counted form (handed_out steps)
+  pub within : AreWithin form most (handed_out steps)
+  pub returned : AllReturn steps
 
-unfoldable pub traced_none : (x : Texts) → (form : Form) (begun : CursorState) (s : Seen) (text : Output) → IsHonest s
-    → Tracing x form 0 begun begun (change s s text text)
-traced_none x form begun s text honest = record {
+all_but_last : (steps : List Stepped) → AllReturn steps → AllButLastReturn steps
+all_but_last [] all = tt
+all_but_last (step ∷ []) all = tt
+all_but_last (step ∷ (second ∷ steps)) all = (all.0, all_but_last (second ∷ steps) all.1)
+
+and_last : (steps : List Stepped) (last : Stepped) → AllReturn steps → AllButLastReturn (steps ++ last ∷ [])
+and_last [] last all = tt
+and_last (step ∷ []) last all = (all.0, tt)
+and_last (step ∷ (second ∷ steps)) last all = (all.0, and_last (second ∷ steps) last all.1)
+
+one_more : (steps : List Stepped) (step : Stepped) → AllReturn steps → IsReturned step.result → AllReturn (steps ++ step ∷ [])
+one_more [] step all is = (is, tt)
+one_more (first ∷ steps) step all is = (all.0, one_more steps step all.1 is)
+
+unfoldable pub traced_none : (x : Texts) → (form : Form) (most : Option ℕ) (begun : CursorState) (s : Seen) (text : Output) → IsHonest s
+    → Tracing x form most 0 begun begun (change s s text text)
+traced_none x form most begun s text honest = record {
   steps = [];
   traced = record { are = tt; cursor = refl; stays = stays_refl s honest };
   printed = record { text = no_output; are = refl; new_is = sym (then_nothing text) };
   count_is = refl;
+  within = within_nil form most;
+  returned = tt;
 }
 
-module _ (x : Texts) {form : Form} {count : ℕ} {begun now : CursorState} {s s' : Seen} {old new : Output}
-    (t : Tracing x form count begun now (change s s' old new)) {next : CursorState} {s'' : Seen}
+module _ (x : Texts) {form : Form} {most : Option ℕ} {count : ℕ} {begun now : CursorState} {s s' : Seen} {old new : Output}
+    (t : Tracing x form most count begun now (change s s' old new)) {next : CursorState} {s'' : Seen}
     {result : Result (Option Row) Ended} (step : IsStep now next s' s'' result) where
   abbrev last_step : Stepped
   last_step = record { before = s'; result = result; cursor = next; seen = s'' }
@@ -109,37 +128,38 @@ module _ (x : Texts) {form : Form} {count : ℕ} {begun now : CursorState} {s s'
 
 -- after its last record
 pub traced_whole : (x : Texts) → (form : Form) (wrote : Bool) (count : ℕ) {most : Option ℕ} {begun now : CursorState}
-    {c : Change} (steps : List Stepped) → IsTraced begun now c.seen c.seen' steps
+    {c : Change} (steps : List Stepped) → IsTraced begun now c.seen c.seen' steps → AllButLastReturn steps
     → IsListed x form most now steps c count → Wrote wrote c.old c.new
     → TracesListing x form most begun now c (end_of form wrote count)
-traced_whole x (Form.Block name) false count steps traced listed none = record {
+traced_whole x (Form.Block name) false count steps traced returned listed none = record {
   steps = steps;
   traced = traced;
+  returned = returned;
   ends = inr (inr (inr (record { name = name; searched = refl; is = refl; count = count; listed = listed; nothing = none })));
 }
-traced_whole x (Form.Block name) true count steps traced listed some = record { steps = steps; traced = traced; ends = (listed, some) }
-traced_whole x _ wrote count steps traced listed has = record { steps = steps; traced = traced; ends = (listed, tt) }
+traced_whole x (Form.Block name) true count steps traced returned listed some = record { steps = steps; traced = traced; returned = returned; ends = (listed, some) }
+traced_whole x _ wrote count steps traced returned listed has = record { steps = steps; traced = traced; returned = returned; ends = (listed, tt) }
 
 -- at its limit
 pub traced_full : (x : Texts) → {form : Form} (wrote : Bool) {count : ℕ} {begun now : CursorState} {s s' : Seen}
-    {old new : Output} (most : Option ℕ) → Tracing x form count begun now (change s s' old new)
-    → most ≡ Some count → IsWithin most count → Wrote wrote old new
+    {old new : Output} {most : Option ℕ} → Tracing x form most count begun now (change s s' old new)
+    → most ≡ Some count → Wrote wrote old new
     → TracesListing x form most begun now (change s s' old new) (end_of form wrote count)
-traced_full x {form} wrote {count} most t limit within has =
-    traced_whole x form wrote count t.steps t.traced (record { count_is = t.count_is; within = within; done = inl limit; printed = t.printed }) has
+traced_full x {form} wrote {count} t limit has =
+    traced_whole x form wrote count t.steps t.traced (all_but_last t.steps t.returned) (record { count_is = t.count_is; within = t.within; done = inl limit; printed = t.printed }) has
 
 -- the cursor returned no record, for this reason
 pub traced_ended : (x : Texts) → {form : Form} {count : ℕ} {begun now : CursorState} {s s' : Seen}
-    {old new : Output} (most : Option ℕ) (t : Tracing x form count begun now (change s s' old new))
+    {old new : Output} {most : Option ℕ} (t : Tracing x form most count begun now (change s s' old new))
     {next : CursorState} {s'' : Seen} (ended : Ended) (step : IsStep now next s' s'' (Err ended))
     → IsHonest s' → IsWithin most (count + 1)
     → TracesListing x form most begun next (change s s'' old new) (Err (Failure.Ended ended))
-traced_ended x {form} {count} {begun} {now} {s} {s'} {old} {new} most t {next} {s''} ended step honest within =
-    let rows : handed_out (all_steps x t step) ≡ handed_out t.steps = handed_more x t step ∙ append-nil (handed_out t.steps) in
-    let here : count + 1 ≡ length (handed_out (all_steps x t step)) + 1 = omega (arith, t.count_is, ap (length {A = Row}) rows) in
+traced_ended x {form} {count} {begun} {now} {s} {s'} {old} {new} {most} t {next} {s''} ended step honest below =
+    let rows : handed_out t.steps ≡ handed_out (all_steps x t step) = sym (handed_more x t step ∙ append-nil (handed_out t.steps)) in
     record {
       steps = all_steps x t step;
       traced = all_traced x t step s'' (stays_refl s'' (step.honest honest).stays.honest);
+      returned = and_last t.steps (last_step x t step) t.returned;
       ends = inl (record {
         ended = ended;
         is = refl;
@@ -147,75 +167,84 @@ traced_ended x {form} {count} {begun} {now} {s} {s'} {old} {new} most t {next} {
         step = last_step x t step;
         are = refl;
         returned = refl;
-        within = subst (IsWithin most) here within;
+        within = subst (AreWithin form most) rows t.within;
+        below = subst (λ (n : ℕ). IsWithin most (n + 1)) (t.count_is ∙ ap (counted form) rows) below;
         printed = none_more x t step s'' refl;
       });
     }
 
 -- there are no more records
 pub traced_done : (x : Texts) → {form : Form} (wrote : Bool) {count : ℕ} {begun now : CursorState} {s s' : Seen}
-    {old new : Output} (most : Option ℕ) (t : Tracing x form count begun now (change s s' old new))
+    {old new : Output} {most : Option ℕ} (t : Tracing x form most count begun now (change s s' old new))
     {next : CursorState} {s'' : Seen} (step : IsStep now next s' s'' (Ok None))
-    → IsHonest s' → IsWithin most count → Wrote wrote old new
+    → IsHonest s' → Wrote wrote old new
     → TracesListing x form most begun next (change s s'' old new) (end_of form wrote count)
-traced_done x {form} wrote {count} {begun} {now} {s} {s'} {old} {new} most t {next} {s''} step honest within has =
-    let rows : handed_out (all_steps x t step) ≡ handed_out t.steps = handed_more x t step ∙ append-nil (handed_out t.steps) in
+traced_done x {form} wrote {count} {begun} {now} {s} {s'} {old} {new} {most} t {next} {s''} step honest has =
+    let rows : handed_out t.steps ≡ handed_out (all_steps x t step) = sym (handed_more x t step ∙ append-nil (handed_out t.steps)) in
     traced_whole x form wrote count (all_steps x t step) (all_traced x t step s'' (stays_refl s'' (step.honest honest).stays.honest))
-    (record { count_is = t.count_is ∙ ap (length {A = Row}) (sym rows); within = within; done = inr step.leaves.1.place; printed = none_more x t step s'' refl })
+    (and_last t.steps (last_step x t step) t.returned)
+    (record { count_is = t.count_is ∙ ap (counted form) rows; within = subst (AreWithin form most) rows t.within; done = inr step.leaves.1.place; printed = none_more x t step s'' refl })
     has
 
 -- the last step returned no record
 traced_whole-steps : (x : Texts) → (form : Form) (wrote : Bool) (count : ℕ) {most : Option ℕ} {begun now : CursorState}
-    {c : Change} (steps : List Stepped) (traced : IsTraced begun now c.seen c.seen' steps)
+    {c : Change} (steps : List Stepped) (traced : IsTraced begun now c.seen c.seen' steps) (returned : AllButLastReturn steps)
     (listed : IsListed x form most now steps c count) (has : Wrote wrote c.old c.new)
-    → (traced_whole x form wrote count steps traced listed has).steps ≡ steps
+    → (traced_whole x form wrote count steps traced returned listed has).steps ≡ steps
 unfolding traced_whole
-traced_whole-steps x (Form.Block name) false count steps traced listed none = refl
-traced_whole-steps x (Form.Block name) true count steps traced listed some = refl
-traced_whole-steps x _ wrote count steps traced listed has = refl
+traced_whole-steps x (Form.Block name) false count steps traced returned listed none = refl
+traced_whole-steps x (Form.Block name) true count steps traced returned listed some = refl
+traced_whole-steps x _ wrote count steps traced returned listed has = refl
 
 pub traced_done-handed : (x : Texts) → {form : Form} (wrote : Bool) {count : ℕ} {begun now : CursorState} {s s' : Seen}
-    {old new : Output} (most : Option ℕ) (t : Tracing x form count begun now (change s s' old new))
+    {old new : Output} {most : Option ℕ} (t : Tracing x form most count begun now (change s s' old new))
     {next : CursorState} {s'' : Seen} (step : IsStep now next s' s'' (Ok None))
-    (honest : IsHonest s') (within : IsWithin most count) (has : Wrote wrote old new)
-    → handed_out (traced_done x wrote most t step honest within has).steps ≡ handed_out t.steps
+    (honest : IsHonest s') (has : Wrote wrote old new)
+    → handed_out (traced_done x wrote t step honest has).steps ≡ handed_out t.steps
 unfolding traced_done
-traced_done-handed x {form} wrote {count} most t step honest within has =
-    ap handed_out (traced_whole-steps x form wrote count (all_steps x t step) _ _ has) ∙ handed_more x t step ∙ append-nil (handed_out t.steps)
+traced_done-handed x {form} wrote {count} t step honest has =
+    ap handed_out (traced_whole-steps x form wrote count (all_steps x t step) _ _ _ has) ∙ handed_more x t step ∙ append-nil (handed_out t.steps)
 
 -- a record was returned
-module _ (x : Texts) {form : Form} {count : ℕ} {begun now : CursorState} {s s' : Seen} {old new : Output}
-    (most : Option ℕ) (t : Tracing x form count begun now (change s s' old new)) {next : CursorState} {s'' : Seen}
+module _ (x : Texts) {form : Form} {most : Option ℕ} {count : ℕ} {begun now : CursorState} {s s' : Seen} {old new : Output}
+    (t : Tracing x form most count begun now (change s s' old new)) {next : CursorState} {s'' : Seen}
     {row : Row} (step : IsStep now next s' s'' (Ok (Some row))) (last : Seen)
-    (stays : StaysHonest s'' last) where
-  count_more : count + 1 ≡ length (handed_out (all_steps x t step))
-  count_more = ap (λ (n : ℕ). n + 1) t.count_is ∙ sym (ap (length {A = Row}) (handed_more x t step) ∙ length-append (handed_out t.steps) (row ∷ []))
+    (stays : StaysHonest s'' last) (below : IsWithin most (count + 1)) where
+  count_more : count + counts_as form row ≡ counted form (handed_out (all_steps x t step))
+  count_more = ap (λ (n : ℕ). n + counts_as form row) t.count_is ∙ sym (counted-more form (handed_out t.steps) row)
+      ∙ ap (counted form) (sym (handed_more x t step))
 
-  returns_last : IsWithin most (count + 1) → ReturnsLast most (all_steps x t step) t.steps (last_step x t step) row
-  returns_last within = record { are = refl; returned = refl; within = subst (IsWithin most) count_more within }
+  are_within : AreWithin form most (handed_out (all_steps x t step))
+  are_within = subst (AreWithin form most) (sym (handed_more x t step))
+      (are_within_more form most (handed_out t.steps) row t.within (subst (λ (n : ℕ). IsWithin most (n + 1)) t.count_is below))
+
+  returns_last : ReturnsLast form most (all_steps x t step) t.steps (last_step x t step) row
+  returns_last = record { are = refl; returned = refl; within = are_within }
 
   -- its text was not found
-  pub traced_lost : IsWithin most (count + 1) → (unread : ReadError)
+  pub traced_lost : (unread : ReadError)
       → IsStopAmong (points_because_of form row) (cause_of_unread unread)
       → TracesListing x form most begun next (change s last old new) (Err (failure_of unread))
-  traced_lost within unread there = record {
+  traced_lost unread there = record {
     steps = all_steps x t step;
     traced = all_traced x t step last stays;
-    ends = inr (inl (record { done = t.steps; step = last_step x t step; row = row; last = returns_last within; there = there; printed = t.printed }));
+    returned = and_last t.steps (last_step x t step) t.returned;
+    ends = inr (inl (record { done = t.steps; step = last_step x t step; row = row; last = returns_last; there = there; printed = t.printed }));
   }
 
   -- a part of its text was written
-  pub traced_cut : IsWithin most (count + 1) → (text piece_text : Output) → IsTextAfter x form row s'' last piece_text
+  pub traced_cut : (text piece_text : Output) → IsTextAfter x form row s'' last piece_text
       → 0 < length piece_text.bytes → IsCut new text piece_text
       → TracesListing x form most begun next (change s last old text) (Err Failure.WriteFault)
-  traced_cut within text piece_text is some part = record {
+  traced_cut text piece_text is some part = record {
     steps = all_steps x t step;
     traced = all_traced x t step last stays;
+    returned = and_last t.steps (last_step x t step) t.returned;
     ends = inr (inr (inl (record {
       done = t.steps;
       step = last_step x t step;
       row = row;
-      last = returns_last within;
+      last = returns_last;
       is = refl;
       before = new;
       printed = t.printed;
@@ -228,12 +257,14 @@ module _ (x : Texts) {form : Form} {count : ℕ} {begun now : CursorState} {s s'
 
   -- its text was written
   pub traced_more : (text piece_text : Output) → IsTextAfter x form row s'' last piece_text
-      → text ≡ and_then new piece_text → Tracing x form (count + 1) begun next (change s last old text)
+      → text ≡ and_then new piece_text → Tracing x form most (count + counts_as form row) begun next (change s last old text)
   traced_more text piece_text is written = record {
     steps = all_steps x t step;
     traced = all_traced x t step last stays;
     printed = prints_more x form t.steps (last_step x t step) last old new text piece_text t.printed is written;
     count_is = count_more;
+    within = are_within;
+    returned = one_more t.steps (last_step x t step) t.returned tt;
   }
 
   pub traced_more-handed : (text piece_text : Output) (is : IsTextAfter x form row s'' last piece_text) (written : text ≡ and_then new piece_text)

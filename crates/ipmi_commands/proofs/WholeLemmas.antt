@@ -8,6 +8,7 @@ use Rattle.ipmi_commands.specs.Below.{CursorState, Ending, Failure, is_whole_rec
 use Rattle.ipmi_commands.specs.Prelude.{Form, shelf_of, ShowsRow, WritesRecords, WritesWhole}
 use Rattle.ipmi_commands.specs.Output.{Output}
 use Rattle.ipmi_commands.proofs.CallLemmas.{HasCalled}
+use Rattle.ipmi_commands.proofs.LimitLemmas.{counts_as}
 use Rattle.ipmi_commands.specs.Format.{Texts}
 
 pub whole_record : (bytes : List ℕ) → length bytes ≡ sdr_len bytes → is_whole_record bytes ≡ true
@@ -40,18 +41,18 @@ one_record count old new text bytes more before len is more_is = record {
 
 pub writes_more : (x : Texts) → (form : Form) (count : ℕ) (old new text more : List ℕ) (row : Row) (seen : Seen) (piece : Output)
     → WritesSoFar form count old new → length row.bytes ≡ whole_len (shelf_of form) row.bytes
-    → ShowsRow x form row seen piece → text ≡ piece.bytes → more ≡ new ++ text → WritesSoFar form (count + 1) old more
+    → ShowsRow x form row seen piece → text ≡ piece.bytes → more ≡ new ++ text → WritesSoFar form (count + counts_as form row) old more
 writes_more x Form.Bytes count old new text more row seen piece before len shows is more_is =
     one_record count old new text row.bytes more before len (is ∙ shows) more_is
 writes_more x _ count old new text more row seen piece before len shows is more_is = tt
 
 -- at most as many as there are ids
-pub writes_whole : {each : ℕ} {begun now : CursorState} {s s' : Seen} (form : Form) (count : ℕ) (old new : List ℕ) (ending : Ending)
-    → HasCalled each count begun now s s' → WritesSoFar form count old new → WritesWhole form old new ending
-writes_whole form count old new ending called before = by form ending before
+pub writes_whole : {each size : ℕ} {begun now : CursorState} {s s' : Seen} (form : Form) (count : ℕ) (old new : List ℕ) (ending : Ending)
+    → HasCalled each size begun now s s' → count ≤ size → WritesSoFar form count old new → WritesWhole form old new ending
+writes_whole form count old new ending called fewer before = by form ending before
   where
     few : count ≤ 65536
-    few = omega (arith, called.ids, called.keeps.room)
+    few = omega (arith, fewer, called.ids, called.keeps.room)
 
     by : (form : Form) (ending : Ending) → WritesSoFar form count old new → WritesWhole form old new ending
     by form (Err Failure.WriteFault) before = tt

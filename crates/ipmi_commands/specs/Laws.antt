@@ -7,6 +7,7 @@ use Rattle.ipmi_commands.specs.Allowed.{AreTexts, PrintsAll}
 use Rattle.ipmi_commands.specs.Output.{Output}
 use Rattle.ipmi_commands.specs.Plan.{Item, last_rows}
 use Rattle.ipmi_commands.specs.Run.{FollowsPlan}
+use Rattle.ipmi_commands.specs.Selection.{chosen, SelectedEntries}
 use Rattle.ipmi_commands.specs.Tail.{has_last}
 use Rattle.ipmi_commands.specs.Texts.{Subject, OfRow, OfInfo, IsPieceOver}
 use Rattle.ipmi_commands.specs.Format.{Texts}
@@ -30,12 +31,12 @@ abbrev pub ItemsHaveOneText : Texts → Type 0
 ItemsHaveOneText x = (store : Store) (items : List Item) (a b : Output) → AreOfBytes items
     → AreTexts (IsPieceOver x store) items a → AreTexts (IsPieceOver x store) items b → a ≡ b
 
--- if the log from the first entry ends with FFFFh and has an entry with this id, a walk from it that has n entries or more has the
--- last n of the log
+-- if the log from the first entry ends with FFFFh and has an entry with this id, a walk from it that has n entries or more that pass
+-- the filters has the last n of the log
 abbrev pub TailsAreOfTheLog : Type 0
-TailsAreOfTheLog = (store : Store) (n id : ℕ) (log walk : List Row) (end : WalkEnd) → IsStore store → IsLog Sel First store log
+TailsAreOfTheLog = (store : Store) (selection : SelectedEntries) (n id : ℕ) (log walk : List Row) (end : WalkEnd) → IsStore store → IsLog Sel First store log
     → has_id log id ≡ true → id ≢ 0 → IsWalk (rows_of Sel store) (Id id) walk → EndsBy (rows_of Sel store) (Id id) walk end
-    → has_last n walk end ≡ true → last_rows n walk end ≡ last_rows n log Done
+    → has_last n (chosen selection walk) end ≡ true → last_rows n (chosen selection walk) end ≡ last_rows n (chosen selection log) Done
 
 -- over a well-formed store, a finished run has only one possible output and one possible end,
 -- whatever its tries

@@ -11,7 +11,7 @@ use Rattle.ipmi_commands.specs.Allowed.{ending_of, IsAllowed, EndsFor, cause_of,
 use Rattle.ipmi_commands.specs.Calls.{calls_for, most_for_one, walk_call_bound}
 use Rattle.ipmi_commands.specs.Job.{shelf_of, listing, IsPlace}
 use Rattle.ipmi_commands.specs.Meanwhile.{IsTextWhile}
-use Rattle.ipmi_commands.specs.Plan.{OnWalk, first_rows, listing_plan, last_plan}
+use Rattle.ipmi_commands.specs.Plan.{OnWalk, counted, first_rows, listing_plan, last_plan}
 use Rattle.ipmi_commands.specs.Output.{Output}
 use Rattle.ipmi_commands.specs.Texts.{IsPieceOver, Subject}
 use Rattle.ipmi_commands.specs.Traced.{TracesListing}
@@ -30,7 +30,7 @@ abbrev pub end_of : {T : Type 0} → Form → Bool → T → Result T Failure
 end_of (Form.Block name) false with_ = Err (Failure.NoName name)
 end_of _ wrote with_ = Ok with_
 
--- the limit is reached, or the cursor is at the end of the shelf; so it is if no record had the name
+-- the limit is reached, or the cursor is at the end of the shelf; so it is if no record had the name and there is no limit
 abbrev pub ReachesEnd : Option ℕ → CursorState → Result ℕ Failure → Type 0
 ReachesEnd most now (Ok count) = (most ≡ Some count) ⊎ (now.place ≡ End)
 ReachesEnd most now (Err (Failure.NoName name)) = IsSome most ⊎ (now.place ≡ End)
@@ -93,14 +93,14 @@ CallsAlong form tries rows begun s s' =
     → s'.calls + 1 ≤ s.calls + calls_for form s.store tries rows + step_call_bound tries.count 0
     + digits begun.part
 
--- all rows within the limit were returned, `count` of them, and the cursor is after them; if the
--- limit was reached, no call was made for later rows
+-- all rows within the limit were returned, `count` of them were counted, and the cursor is after them; if the
+-- limit was reached, the bound has no call for later rows
 pub record ListsAll (form : Form) (tries : Tries) (most : Option ℕ) (begun now : CursorState)
     (s s' : Seen) (start : Place) (walk : List Row) (k count : ℕ) : Type 0 where
-  pub count_is : count ≡ length (first_rows most (drop k walk))
-  pub stands : StandsAt (rows_of (shelf_of form) s.store) start walk (k + count) now
+  pub count_is : count ≡ counted form (first_rows form most (drop k walk))
+  pub stands : StandsAt (rows_of (shelf_of form) s.store) start walk (k + length (first_rows form most (drop k walk))) now
   pub calls : most ≡ Some count → s'.calls + digits now.part
-      ≤ s.calls + calls_for form s.store tries (first_rows most (drop k walk)) + digits begun.part
+      ≤ s.calls + calls_for form s.store tries (first_rows form most (drop k walk)) + digits begun.part
 
 -- along a walk: the output is possible for a listing of the rest of the walk, the number of calls
 -- is bounded, and after Ok the cursor is after the returned rows
@@ -110,7 +110,7 @@ pub record ListsAlong (x : Texts) (form : Form) (tries : Tries) (most : Option �
   pub leaves : IsAllowed (IsPieceOver x c.seen.store)
       (listing_plan (listing form (place_after_rows start (take k walk)) most) (drop k walk) end)
       c.old c.new (ending_of result)
-  pub calls : CallsAlong form tries (first_rows most (drop k walk)) begun c.seen c.seen'
+  pub calls : CallsAlong form tries (first_rows form most (drop k walk)) begun c.seen c.seen'
   pub all : IfOk result (λ count. ListsAll form tries most begun now c.seen c.seen' start walk k count)
 
 -- a listing by a cursor, over an honest controller

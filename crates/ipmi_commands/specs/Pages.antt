@@ -51,9 +51,9 @@ pub record PageAlong (x : Texts) (form : Form) (start : Place) (tries : Tries) (
   pub leaves : IsAllowed (IsPieceOver x c.seen.store)
       (listing_plan (listing form start most) walk end) c.old c.new (ending_of result)
   pub calls : c.seen'.calls ≤ c.seen.calls
-      + walk_call_bound form c.seen.store tries (first_rows most walk)
+      + walk_call_bound form c.seen.store tries (first_rows form most walk)
   pub goes_on : IfOk result (λ next. GoesOn (rows_of (shelf_of form) c.seen.store) start
-      (first_rows most walk) next)
+      (first_rows form most walk) next)
 
 -- a page of at most `most` records if that is Some, over an honest controller
 pub record IsPage (x : Texts) (form : Form) (start : Place) (tries : Tries) (most : Option ℕ) (c : Change)

@@ -1,13 +1,14 @@
 -- Plans of what a run prints over a store. A plan has items in order, an end, and the points at
 -- which the run may give up or be refused.
-use Rattle.std.specs.Prelude.{ℕ, ◌-◌, ◌==◌, nat_le, ◌||◌, Bool, false, if◌then◌else◌, Option, Some, None, is_some, Result, Ok, Err, List, [], ◌∷◌, ◌++◌, length, map, take, drop}
+use Rattle.std.specs.Prelude.{ℕ, zero, suc, true, ◌-◌, ◌==◌, nat_le, ◌||◌, Bool, false, if◌then◌else◌, Option, Some, None, is_some, Result, Ok, Err, List, [], ◌∷◌, ◌++◌, length, map, take, drop}
+use Rattle.std.specs.List.{count_by}
 use Rattle.ipmi_commands.specs.Below.{Place, First, Shelf, Row, Store, rows_of, IsWalk, EndsBy, asked_at, WalkEnd, Done, CycleAt, MissingAt, place_after, place_after_rows, SdrFault, SdrView, Cycle, Missing, Ending, Failure}
 use Rattle.ipmi_records.specs.Sdr as sdr
 use Rattle.ipmi_commands.specs.declared.job.EntryText.{EntryText}
 use Rattle.ipmi_commands.specs.declared.job.Form.{Form}
 use Rattle.ipmi_commands.specs.declared.job.Listing.{Listing}
 use Rattle.ipmi_commands.specs.declared.format.Detail.{Detail}
-use Rattle.ipmi_commands.specs.Selection.{is_name, Selected, selects}
+use Rattle.ipmi_commands.specs.Selection.{chosen, is_name, Selected, selects, selects_entry}
 use Rattle.ipmi_commands.specs.Texts.{Subject, OfRow, OfInventory, OfInfo}
 
 -- `Holds` for each walk of a shelf from this place that has an end, and for that end; by a law of
@@ -19,15 +20,29 @@ OnWalk shelf start store Holds =
 
 -- ---- first and last rows
 
--- the first rows of a walk, or all of them if there is no limit
-abbrev pub first_rows : Option ℕ → List Row → List Row
-first_rows None walk = walk
-first_rows (Some n) walk = take n walk
+-- whether a limit counts a row: it counts each record, and of the entries of the event log those that pass the filters
+abbrev pub counts : Form → Row → Bool
+counts (Form.Entry entries) row = selects_entry entries.selection row
+counts form row = true
 
--- the end of a listing of them: after the last row within the limit, no record is requested
-abbrev pub first_end : Option ℕ → List Row → WalkEnd → WalkEnd
-first_end None walk end = end
-first_end (Some n) walk end = if nat_le n (length walk) then Done else end
+abbrev pub counted : Form → List Row → ℕ
+counted form rows = count_by (counts form) rows
+
+-- the rows of a walk up to the nth one that counts, or all of them if there are fewer
+abbrev pub up_to : Form → ℕ → List Row → List Row
+up_to form zero walk = []
+up_to form (suc n) [] = []
+up_to form (suc n) (row ∷ walk) = row ∷ up_to form (if counts form row then n else suc n) walk
+
+-- the first rows of a walk, or all of them if there is no limit
+abbrev pub first_rows : Form → Option ℕ → List Row → List Row
+first_rows form None walk = walk
+first_rows form (Some n) walk = up_to form n walk
+
+-- the end of a listing of them: after the last row within the limit it is done
+abbrev pub first_end : Form → Option ℕ → List Row → WalkEnd → WalkEnd
+first_end form None walk end = end
+first_end form (Some n) walk end = if nat_le n (counted form walk) then Done else end
 
 -- the last n rows of a walk that ends with `Done`; none of another walk
 abbrev pub last_rows : ℕ → List Row → WalkEnd → List Row
@@ -133,14 +148,14 @@ rows_end form rows Done = Ok tt
 -- the plan of a listing along one walk
 abbrev pub listing_plan : Listing → List Row → WalkEnd → Plan
 listing_plan l walk end = record {
-  items = row_items l.form l.start (first_rows l.most walk);
-  end = rows_end l.form (first_rows l.most walk) (first_end l.most walk end);
-  end_points = points_at_walk_end l.start walk (first_end l.most walk end);
+  items = row_items l.form l.start (first_rows l.form l.most walk);
+  end = rows_end l.form (first_rows l.form l.most walk) (first_end l.form l.most walk end);
+  end_points = points_at_walk_end l.start walk (first_end l.form l.most walk end);
 }
 
 -- The last entries are listed after a walk that counts all entries, and the entries before them are
--- skipped on a second walk; or one walk keeps them in memory. So before the first item the run may stop
--- at any point of the walk; the item's own point is one of them.
+-- skipped on a second walk. So before the first item the run may stop at any point of the walk; the
+-- item's own point is one of them.
 abbrev pub with_first_points : List ReadPoint → List Item → List Item
 with_first_points points [] = []
 with_first_points points (item ∷ items) = record { subject = item.subject; points = points } ∷ items
@@ -161,6 +176,19 @@ last_plan entries n start walk end = record {
   end = rows_end (Form.Entry entries) walk end;
   end_points = end_points_of_last (points_of_walk start walk end) (last_items entries n start walk end)
       (points_at_walk_end start walk end);
+}
+
+-- no request for one of the entries that were kept in memory can end the run
+abbrev pub kept_items : EntryText → List Row → List Item
+kept_items entries [] = []
+kept_items entries (row ∷ rows) = record { subject = OfRow (Form.Entry entries) row; points = [] } ∷ kept_items entries rows
+
+-- the plan of a listing of the last n entries that pass the filters, if one walk keeps them in memory
+abbrev pub kept_plan : EntryText → ℕ → Place → List Row → WalkEnd → Plan
+kept_plan entries n start walk end = record {
+  items = with_first_points (points_of_walk start walk end) (kept_items entries (last_rows n (chosen entries.selection walk) end));
+  end = rows_end (Form.Entry entries) walk end;
+  end_points = end_points_of_last (points_of_walk start walk end) (kept_items entries (last_rows n (chosen entries.selection walk) end)) [];
 }
 
 -- ---- listings after the walk of the sensor data records that reads names

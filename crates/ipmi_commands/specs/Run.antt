@@ -18,7 +18,7 @@ use Rattle.ipmi_commands.specs.Job.{named_entries, shelf_of, job_of, listing}
 use Rattle.ipmi_commands.specs.Meanwhile.{IsTextWhile, OnGrowingListing}
 use Rattle.ipmi_commands.specs.Output.{and_then, IsCut, Output, piece_of}
 use Rattle.ipmi_commands.specs.Pages.{ArePages, IsOneListing, pages_made}
-use Rattle.ipmi_commands.specs.Plan.{OnWalk, AtInventory, Plan, after_names, bytes_of_rows, first_rows, last_rows, listing_plan, last_plan, inventory_plan, inventories_plan, info_plan}
+use Rattle.ipmi_commands.specs.Plan.{OnWalk, AtInventory, Plan, after_names, bytes_of_rows, first_rows, kept_plan, last_rows, listing_plan, last_plan, inventory_plan, inventories_plan, info_plan}
 use Rattle.ipmi_commands.specs.Tail.{OnGrowingTail, OnTail, TracesTail}
 use Rattle.ipmi_commands.specs.Texts.{is_faulty_device, IsPieceOver}
 use Rattle.ipmi_commands.specs.Traced.{Traces, TracesLast}
@@ -171,7 +171,7 @@ last_call_bound n store tries walk end =
 abbrev pub OnListing : Listing → Tries → Store → (Plan → ℕ → Type 0) → Type 0
 OnListing l tries store Holds =
     OnWalk (shelf_of l.form) l.start store (λ walk end. Holds (listing_plan l walk end)
-    (walk_call_bound l.form store tries (first_rows l.most walk)))
+    (walk_call_bound l.form store tries (first_rows l.form l.most walk)))
 
 abbrev pub OnLast : EntryText → ℕ → Option ℕ → Tries → Store → (Plan → ℕ → Type 0) → Type 0
 OnLast entries n from tries store Holds =
@@ -182,7 +182,7 @@ OnLast entries n from tries store Holds =
 abbrev pub OnLastKept : EntryText → ℕ → Option ℕ → Tries → Store → (Plan → ℕ → Type 0) → Type 0
 OnLastKept entries n from tries store Holds =
     OnWalk Sel (start_of from) store (λ walk end.
-    Holds (last_plan entries n (start_of from) walk end) (walk_call_bound Form.Skipped store tries walk))
+    Holds (kept_plan entries n (start_of from) walk end) (walk_call_bound Form.Skipped store tries walk))
 
 -- the entries that `count` selects, each as such a text; the last ones are kept in memory
 abbrev pub OnEntries : EntryText → Count → Option ℕ → Tries → Store → (Plan → ℕ → Type 0) → Type 0
@@ -241,7 +241,7 @@ OnGrowingLast entries n from s s' Holds = OnGrowing Sel (start_of from) s s' (λ
 -- the last n entries of the log as it was meanwhile, along one walk
 abbrev pub OnGrowingLastKept : EntryText → ℕ → Option ℕ → Seen → Seen → (Plan → Type 0) → Type 0
 OnGrowingLastKept entries n from s s' Holds =
-    OnGrowing Sel (start_of from) s s' (λ log. Holds (last_plan entries n (start_of from) log Done))
+    OnGrowing Sel (start_of from) s s' (λ log. Holds (kept_plan entries n (start_of from) log Done))
 
 abbrev pub OnGrowingEntries : EntryText → Count → Option ℕ → Seen → Seen → (Plan → Type 0) → Type 0
 OnGrowingEntries entries Count.All from s s' Holds =

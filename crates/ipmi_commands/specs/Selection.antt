@@ -1,6 +1,6 @@
 -- Which sensor data records and which entries of the event log a listing prints.
 use Rattle.std.specs.Prelude.{◌≡◌, ℕ, ◌==◌, ◌&&◌, ◌||◌, not, nat_le, nat_lt, Bool, true, false, Option, Some, None, option_map, Result, Ok, Err, List, [], bytes_eq, if◌then◌else◌}
-use Rattle.std.specs.List.{list_any}
+use Rattle.std.specs.List.{filter, list_any}
 use Rattle.std.specs.Option.{option_or}
 use Rattle.ipmi_commands.specs.Below.{Kind, Row, SdrFault, SdrView, sdr_view_of}
 use Rattle.ipmi_command_line.specs.declared.filters.EntityFilter.{EntityFilter}
@@ -100,7 +100,7 @@ is_among ranges id = list_any (λ range. nat_le range.first id && nat_le id rang
 abbrev pub is_between : Option ℕ → Option ℕ → Option ℕ → Bool
 is_between since until time = is_wanted nat_le since time && is_wanted (λ last found. nat_le found last) until time
 
--- whether a filter looks at more than the id of a record; false only if none of these is given
+-- whether a filter of sensor data records looks at more than the id; false only if no type, no entity and no name is given
 abbrev pub LooksInside : Filters → Bool → Type 0
 LooksInside filters true = Unit {0}
 LooksInside filters false = (filters.sensor_type ≡ None) × (filters.entity ≡ None) × (filters.excluded ≡ [])
@@ -151,3 +151,11 @@ is_passed (Some filters) id entry = passes_entry filters id entry
 
 abbrev pub selects_entry : SelectedEntries → Row → Bool
 selects_entry selection row = is_passed selection.filters row.id (sel.sel_view_of row.bytes)
+
+abbrev pub chosen_by : Option Filters → List Row → List Row
+chosen_by None rows = rows
+chosen_by (Some filters) rows = filter (λ row. passes_entry filters row.id (sel.sel_view_of row.bytes)) rows
+
+-- the entries that pass the filters, or all if there are no filters
+abbrev pub chosen : SelectedEntries → List Row → List Row
+chosen selection rows = chosen_by selection.filters rows

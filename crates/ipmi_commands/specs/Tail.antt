@@ -7,7 +7,8 @@ use Rattle.ipmi_commands.specs.declared.limits.Tries.{Tries}
 use Rattle.ipmi_commands.specs.declared.job.Form.{Form}
 use Rattle.ipmi_commands.specs.Allowed.{cause_of, Change, change}
 use Rattle.ipmi_commands.specs.Calls.{walk_call_bound}
-use Rattle.ipmi_commands.specs.Plan.{AtRecord, end_points_of_last, last_plan, next_points, OnWalk, Plan, points_of_walk, ReadPoint, with_first_points}
+use Rattle.ipmi_commands.specs.Plan.{AtRecord, end_points_of_last, kept_plan, next_points, OnWalk, Plan, points_of_walk, ReadPoint, with_first_points}
+use Rattle.ipmi_commands.specs.Selection.{chosen}
 use Rattle.ipmi_commands.specs.Traced.{IsStopAmong, TracesLast}
 use Rattle.ipmi_commands.specs.Format.{Texts}
 
@@ -23,10 +24,10 @@ abbrev pub tail_from : ℕ → Option (List ℕ) → Option ℕ
 tail_from n None = None
 tail_from n (Some info) = id_in_run n (info_in info).record_count
 
--- a walk has the last n entries of the log if it ends with FFFFh and is not shorter
+-- these entries of a walk have the last n of the log if the walk ends with FFFFh and they are no fewer
 abbrev pub has_last : ℕ → List Row → WalkEnd → Bool
-has_last n walk Done = nat_le n (length walk)
-has_last n walk _ = false
+has_last n entries Done = nat_le n (length entries)
+has_last n entries _ = false
 
 -- ---- plans
 
@@ -41,12 +42,12 @@ after_points points plan = record {
 -- the last n entries of the walk from the first one, after so many calls at these points
 abbrev pub OnWhole : List ReadPoint → ℕ → EntryText → ℕ → Tries → Store → (Plan → ℕ → Type 0) → Type 0
 OnWhole points calls entries n tries store Holds = OnWalk Sel First store (λ walk end.
-    Holds (after_points points (last_plan entries n First walk end)) (calls + walk_call_bound Form.Skipped store tries walk))
+    Holds (after_points points (kept_plan entries n First walk end)) (calls + walk_call_bound Form.Skipped store tries walk))
 
 -- the last n entries of this walk from the id, if it has them; otherwise of the walk from the first entry, which follows it
 abbrev pub OnTried : Bool → ℕ → List Row → WalkEnd → EntryText → ℕ → Tries → Store → (Plan → ℕ → Type 0) → Type 0
 OnTried true id walk end entries n tries store Holds =
-    Holds (after_points (AtRecord 0 ∷ []) (last_plan entries n (Id id) walk end))
+    Holds (after_points (AtRecord 0 ∷ []) (kept_plan entries n (Id id) walk end))
     (tries.count + 1 + walk_call_bound Form.Skipped store tries walk)
 OnTried false id walk end entries n tries store Holds =
     OnWhole (AtRecord 0 ∷ points_of_walk (Id id) walk end) (tries.count + 1 + walk_call_bound Form.Skipped store tries walk)
@@ -56,7 +57,7 @@ OnTried false id walk end entries n tries store Holds =
 abbrev pub OnTailFrom : Option ℕ → EntryText → ℕ → Tries → Store → (Plan → ℕ → Type 0) → Type 0
 OnTailFrom None entries n tries store Holds = OnWhole (AtRecord 0 ∷ []) (tries.count + 1) entries n tries store Holds
 OnTailFrom (Some id) entries n tries store Holds = OnWalk Sel (Id id) store (λ walk end.
-    OnTried (has_last n walk end) id walk end entries n tries store Holds)
+    OnTried (has_last n (chosen entries.selection walk) end) id walk end entries n tries store Holds)
 
 -- `Holds` for the plan over a store and the largest number of calls
 abbrev pub OnTail : EntryText → ℕ → Tries → Store → (Plan → ℕ → Type 0) → Type 0
@@ -73,7 +74,7 @@ IsTailStart n store End = ⊥
 -- from such a start, if records were only appended since `m`: the last n entries of the log from there as it was meanwhile
 abbrev pub OnGrowingTail : EntryText → ℕ → Seen → Seen → (Plan → Type 0) → Type 0
 OnGrowingTail entries n s s' Holds = (m : Seen) × (start : Place) × StaysHonest s m × StaysHonest m s'
-    × IsTailStart n m.store start × OnGrowing Sel start m s' (λ log. Holds (last_plan entries n start log Done))
+    × IsTailStart n m.store start × OnGrowing Sel start m s' (λ log. Holds (kept_plan entries n start log Done))
 
 -- the info was not read, and nothing printed; or the last n entries that a walk from such a start returned were printed
 abbrev pub TracesTail : Texts → EntryText → ℕ → Change → Ending → Type 0

@@ -1,7 +1,7 @@
 -- What a listing printed, by the steps of its cursor, whatever the store did meanwhile.
 use Rattle.std.specs.Prelude.{◌≡◌, ◌⊎◌, ◌+◌, ◌<◌, ◌≤◌, ℕ, Option, None, Some, IfOk, Result, Ok, Err, List, [], ◌∷◌, ◌++◌, length}
 use Rattle.std.specs.FinSet as set
-use Rattle.ipmi_commands.specs.Below.{AreSteps, cursor_after, CursorState, Done, End, Ended, Ending, Failure, First, handed_out, Id, Place, Row, Seen, seen_after, Sel, StaysHonest, Stepped}
+use Rattle.ipmi_commands.specs.Below.{AreSteps, cursor_after, CursorState, Done, End, Ended, Ending, Failure, handed_out, Id, Place, Row, Seen, seen_after, Sel, StaysHonest, Stepped}
 use Rattle.ipmi_commands.specs.Output.{and_then, IsCut, no_output, Output}
 use Rattle.ipmi_commands.specs.declared.job.EntryText.{EntryText}
 use Rattle.ipmi_commands.specs.declared.job.Form.{Form}
@@ -9,7 +9,8 @@ use Rattle.ipmi_commands.specs.Format.{Texts}
 use Rattle.ipmi_commands.specs.Allowed.{Cause, Change, change, cause_of, ending_of, GaveUp, IsAllowed, IsAmong, NoMemory, Refused, TextsJoined}
 use Rattle.ipmi_commands.specs.Job.{shelf_of}
 use Rattle.ipmi_commands.specs.Meanwhile.{KeepsAt}
-use Rattle.ipmi_commands.specs.Plan.{last_rows, points_because_of, ReadPoint, row_items}
+use Rattle.ipmi_commands.specs.Plan.{counted, first_rows, kept_items, last_rows, points_because_of, ReadPoint}
+use Rattle.ipmi_commands.specs.Selection.{chosen}
 use Rattle.ipmi_commands.specs.Texts.{IsPieceOver, OfRow}
 
 -- the cursor made these steps; after the last one the controller may have got other requests
@@ -17,6 +18,22 @@ pub record IsTraced (begun now : CursorState) (s s' : Seen) (steps : List Steppe
   pub are : AreSteps begun s steps
   pub cursor : cursor_after begun steps ≡ now
   pub stays : StaysHonest (seen_after s steps) s'
+
+-- a step returned a record
+abbrev pub IsReturned : Result (Option Row) Ended → Type 0
+IsReturned (Ok (Some row)) = Unit {0}
+IsReturned _ = ⊥
+
+-- so did each of these steps
+abbrev pub AllReturn : List Stepped → Type 0
+AllReturn [] = Unit {0}
+AllReturn (step ∷ steps) = IsReturned step.result × AllReturn steps
+
+-- each but the last, after which there may be no other
+abbrev pub AllButLastReturn : List Stepped → Type 0
+AllButLastReturn [] = Unit {0}
+AllButLastReturn (step ∷ []) = Unit {0}
+AllButLastReturn (step ∷ (second ∷ steps)) = IsReturned step.result × AllButLastReturn (second ∷ steps)
 
 -- ---- the texts of the returned records
 
@@ -56,11 +73,15 @@ abbrev pub IsWithin : Option ℕ → ℕ → Type 0
 IsWithin None count = Unit {0}
 IsWithin (Some n) count = count ≤ n
 
+-- none of these rows comes after the limit was reached
+abbrev pub AreWithin : Form → Option ℕ → List Row → Type 0
+AreWithin form most rows = first_rows form most rows ≡ rows
+
 -- the limit was reached, or there are no more records; all texts were printed
 pub record IsListed (x : Texts) (form : Form) (most : Option ℕ) (now : CursorState) (steps : List Stepped)
     (c : Change) (count : ℕ) : Type 0 where
-  pub count_is : count ≡ length (handed_out steps)
-  pub within : IsWithin most count
+  pub count_is : count ≡ counted form (handed_out steps)
+  pub within : AreWithin form most (handed_out steps)
   pub done : (most ≡ Some count) ⊎ (now.place ≡ End)
   pub printed : PrintsSteps x form steps c.seen' c.old c.new
 
@@ -73,14 +94,15 @@ pub record StepFails (x : Texts) (form : Form) (most : Option ℕ) (steps : List
   pub step : Stepped
   pub are : steps ≡ done ++ (step ∷ [])
   pub returned : step.result ≡ Err ended
-  pub within : IsWithin most (length (handed_out steps) + 1)
+  pub within : AreWithin form most (handed_out steps)
+  pub below : IsWithin most (counted form (handed_out steps) + 1)
   pub printed : PrintsSteps x form steps c.seen' c.old c.new
 
 -- the last step returned this record, within the limit
-pub record ReturnsLast (most : Option ℕ) (steps done : List Stepped) (step : Stepped) (row : Row) : Type 0 where
+pub record ReturnsLast (form : Form) (most : Option ℕ) (steps done : List Stepped) (step : Stepped) (row : Row) : Type 0 where
   pub are : steps ≡ done ++ (step ∷ [])
   pub returned : step.result ≡ Ok (Some row)
-  pub within : IsWithin most (length (handed_out steps))
+  pub within : AreWithin form most (handed_out steps)
 
 -- gives up or is refused at one of the points, or is out of memory
 abbrev pub IsStopAmong : List ReadPoint → Cause → Type 0
@@ -96,7 +118,7 @@ pub record TextFails (x : Texts) (form : Form) (most : Option ℕ) (steps : List
   pub done : List Stepped
   pub step : Stepped
   pub row : Row
-  pub last : ReturnsLast most steps done step row
+  pub last : ReturnsLast form most steps done step row
   pub there : IsStopAmong (points_because_of form row) (cause_of (Err failure))
   pub printed : PrintsSteps x form done step.before c.old c.new
 
@@ -106,7 +128,7 @@ pub record TextIsCut (x : Texts) (form : Form) (most : Option ℕ) (steps : List
   pub done : List Stepped
   pub step : Stepped
   pub row : Row
-  pub last : ReturnsLast most steps done step row
+  pub last : ReturnsLast form most steps done step row
   pub is : failure ≡ Failure.WriteFault
   pub before : Output
   pub printed : PrintsSteps x form done step.before c.old before
@@ -141,11 +163,12 @@ EndsTrace x form most now steps c (Ok count) =
 EndsTrace x form most now steps c (Err failure) = Fails x form most now steps c failure
 
 -- a listing over an honest controller, whatever its store does: the steps of its cursor, and the texts
--- of the records that they returned
+-- of the records that they returned; it ends after a step that returned none
 pub record TracesListing (x : Texts) (form : Form) (most : Option ℕ) (begun now : CursorState) (c : Change)
     (result : Result ℕ Failure) : Type 0 where
   pub steps : List Stepped
   pub traced : IsTraced begun now c.seen c.seen' steps
+  pub returned : AllButLastReturn steps
   pub ends : EndsTrace x form most now steps c result
 
 -- A listing from this place with a new cursor, which has returned nothing. Ok is the place where it
@@ -186,13 +209,14 @@ EndsPrinting (Err failure) = ⊥
 abbrev pub PrintsAfter : Texts → EntryText → List Row → Result ℕ Failure → Change → Ending → Type 0
 PrintsAfter x entries rows (Ok count) c ending = EndsPrinting ending
     × IsAllowed (IsPieceOver x c.seen'.store) (record {
-      items = row_items (Form.Entry entries) First rows;
+      items = kept_items entries rows;
       end = Ok tt;
       end_points = [];
     }) c.old c.new ending
 PrintsAfter x entries rows (Err failure) c ending = (ending ≡ Err failure) × (c.new ≡ c.old)
 
--- a walk from this place with a new cursor, which skips each entry; then the last n of the entries that it returned are printed
+-- a walk from this place with a new cursor, which skips each entry; then the last n of the entries that it returned and that pass
+-- the filters are printed
 pub record TracesThen (x : Texts) (entries : EntryText) (n : ℕ) (start : Place) (c : Change) (ending : Ending) : Type 0 where
   pub begun : CursorState
   pub now : CursorState
@@ -201,7 +225,7 @@ pub record TracesThen (x : Texts) (entries : EntryText) (n : ℕ) (start : Place
   pub place : begun.place ≡ start
   pub ids : begun.ids ≡ set.empty
   pub walk : TracesListing x Form.Skipped None begun now (change c.seen c.seen' c.old c.old) walked
-  pub prints : PrintsAfter x entries (last_rows n (handed_out walk.steps) Done) walked c ending
+  pub prints : PrintsAfter x entries (last_rows n (chosen entries.selection (handed_out walk.steps)) Done) walked c ending
 
 -- without memory for the cursor, nothing was requested and nothing printed
 abbrev pub TracesLast : Texts → EntryText → ℕ → Place → Change → Ending → Type 0

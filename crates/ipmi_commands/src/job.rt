@@ -1,14 +1,15 @@
 //! The job of each command. A few kinds of jobs cover all commands. Outside this crate a [`Job`] is made by [`Job::of`]
 //! alone: what it consists of is a detail.
-ghost use Rattle.std.specs.Prelude.{◌≡◌, IfSome, Some, true};
-ghost use Rattle.ipmi_commands.specs.Below.{is_listing, IsCount, IsTask, start_of};
+ghost use Rattle.std.specs.Prelude.{◌≡◌, IfSome, length, Some, true};
+ghost use Rattle.ipmi_commands.specs.Below.{is_listing, IsCount, IsTask, row_of_record, start_of, whole_len};
 ghost use Rattle.ipmi_commands.specs.Job.{choosing, choosing_entries, choosing_form, devices_job, entries_job, events_job, IsFrom, IsJob, IsPlace, job_of, keeping_last, listing, lists_all, named_entries, searches, shelf_of};
 ghost use Rattle.ipmi_commands.specs.declared.job.Job.{Job};
 ghost use Rattle.ipmi_commands.specs.Listing.{end_of};
+ghost use Rattle.ipmi_commands.specs.Plan.{counts};
 
 use crate::format::{Detail, Format};
 use crate::selection::{EntrySelection, Selection};
-use ipmi_bus::{Place, Shelf};
+use ipmi_bus::{Place, Record, Shelf};
 use ipmi_command_line::{Count, Filters, Task};
 use ipmi_events::Sensors;
 use ipmi_output::{Failure, RecordName};
@@ -39,7 +40,7 @@ pub enum Form<'a> {
     Skipped,
 }
 
-/// A listing of records that starts at `start`, with at most `most` records if that is Some.
+/// A listing of records that starts at `start`, with at most `most` records that the form counts if that is Some.
 #[derive(Drop)]
 pub struct Listing<'a> {
     pub(crate) form: Form<'a>,
@@ -112,6 +113,17 @@ impl<'a> Form<'a> {
             Form::Hex | Form::Bytes | Form::Record(_, _) | Form::Block(_) | Form::Device => {
                 Shelf::Sdr
             }
+        }
+    }
+
+    /// Whether a limit counts the record: it counts each sensor data record, and each entry that the filters let pass.
+    pub(crate) fn counts(&self, lent: &Record<'_>) -> bool
+        requires { length lent.now.bytes.now ≡ whole_len (shelf_of self.now) lent.now.bytes.now }
+        ensures { result ≡ counts self.now (row_of_record lent.now) }
+    {
+        match self {
+            Form::Entry(entries) => entries.selection.selects_record(lent),
+            _ => true,
         }
     }
 
@@ -253,7 +265,7 @@ impl<'a> Job<'a> {
     }
 
     /// The same job, but a listing prints only the sensor data records or the entries that pass these filters. A number of
-    /// entries counts also those that do not pass.
+    /// entries counts only these.
     pub fn choosing(self, filters: &'a Filters) -> Job<'a>
         ensures value { result ≡ choosing filters.now self.entry }
         ensures range { IsJob self.entry → IsJob result }

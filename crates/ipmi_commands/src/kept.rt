@@ -4,7 +4,7 @@ ghost use Rattle.std.specs.FinSet as set;
 ghost use Rattle.ipmi_commands.specs.Below.{AsksAtMost, IsHonest, row_of_record, Sel, start_of, write_faults};
 ghost use Rattle.ipmi_commands.specs.declared.job.Form.{Form};
 ghost use Rattle.ipmi_commands.specs.declared.job.Job.{Job};
-ghost use Rattle.ipmi_commands.specs.Kept.{kept_row, KeepsByCursor, KeepsEntries, last_of, PrintsKept};
+ghost use Rattle.ipmi_commands.specs.Kept.{kept_row, kept_with, KeepsByCursor, KeepsEntries, last_of, PrintsKept};
 ghost use Rattle.ipmi_commands.specs.Output.{Output};
 ghost use Rattle.ipmi_commands.specs.Prelude.{change, EndsListing, EndsPrinting, IsFrom, most_on_walk, printed, Runs, Tries};
 
@@ -14,6 +14,7 @@ use crate::limits::RequestLimits;
 use crate::pages::start_cursor;
 use crate::perform::write_piece;
 use crate::piece::{entry_bytes, entry_text};
+use crate::selection::EntrySelection;
 use crate::summary::Summary;
 use ipmi_bus::{Controller, Cursor, Record, SEL_ENTRY_LEN};
 use ipmi_output::{Failure, Sink};
@@ -80,13 +81,29 @@ impl LastEntries {
         self.entries.push_back(KeptEntry { id: lent.id, bytes })?;
         Ok(())
     }
+
+    /// Keeps the next entry of the walk if it is selected.
+    fn keep(&mut self, selection: &EntrySelection<'_>, lent: &Record<'_>) -> Result<(), AllocError>
+        requires whole { length lent.now.bytes.now ≡ 16 }
+        requires some { 1 ≤ self.old.most }
+        requires few { length self.old.entries.items ≤ self.old.most }
+        ensures most { self.new.most ≡ self.old.most }
+        ensures ok { OnOk result (self.new.entries.items
+            ≡ kept_with selection.now self.old.most self.old.entries.items (row_of_record lent.now)) }
+    {
+        if selection.selects_record(lent) {
+            return self.push(lent);
+        }
+        Ok(())
+    }
 }
 
-/// Keeps the last entries from the cursor's place on.
+/// Keeps the last entries of this selection from the cursor's place on.
 fn keep_after<'a, F: Format, C: Controller>(
     cursor: &mut Cursor,
     ctl: &mut C,
     _format: &F,
+    selection: &EntrySelection<'_>,
     kept: &mut LastEntries,
 ) -> Result<(), Failure<'a>>
     requires shelf { cursor.old.shelf ≡ Sel }
@@ -97,7 +114,7 @@ fn keep_after<'a, F: Format, C: Controller>(
     ensures asked { AsksAtMost cursor.old.part (C.seen ctl.old) (C.seen ctl.new) }
     ensures ends { EndsListing Form.Skipped (C.seen ctl.new) result }
     ensures keeps { (tries : Tries) (text : Output) → cursor.old.tries ≡ tries.count →
-        KeepsByCursor (F.texts _format.now) kept.old.most tries cursor.old cursor.new
+        KeepsByCursor (F.texts _format.now) selection.now kept.old.most tries cursor.old cursor.new
         (C.seen ctl.old) (C.seen ctl.new) text kept.new.entries.items result }
 {
     'entries: loop {
@@ -106,19 +123,20 @@ fn keep_after<'a, F: Format, C: Controller>(
             Ok(None) => return Ok(()),
             Err(ended) => return Err(Failure::Ended(ended)),
         };
-        match kept.push(&record) {
+        match kept.keep(selection, &record) {
             Ok(()) => {}
             Err(_) => return Err(Failure::OutOfMemory),
         }
     }
 }
 
-/// Keeps the last entries of a walk that starts at the id `from`, or at the first entry.
+/// Keeps the last entries of this selection, of a walk that starts at the id `from`, or at the first entry.
 pub(crate) fn keep_entries<'a, F: Format, C: Controller>(
     alloc: Global,
     ctl: &mut C,
     limits: RequestLimits,
     format: &F,
+    selection: &EntrySelection<'_>,
     from: Option<u16>,
     kept: &mut LastEntries,
 ) -> Result<(), Failure<'a>>
@@ -130,11 +148,11 @@ pub(crate) fn keep_entries<'a, F: Format, C: Controller>(
     ensures ends { EndsListing Form.Skipped (C.seen ctl.new) result }
     ensures calls { (C.seen ctl.new).calls ≤ (C.seen ctl.old).calls + most_on_walk Form.Skipped
         limits.tries }
-    ensures honest { IsHonest (C.seen ctl.old) → (text : Output) → KeepsEntries (F.texts format.now) kept.old.most (start_of from)
+    ensures honest { IsHonest (C.seen ctl.old) → (text : Output) → KeepsEntries (F.texts format.now) selection.now kept.old.most (start_of from)
         limits.tries (C.seen ctl.old) (C.seen ctl.new) text kept.new.entries.items result }
 {
     let mut cursor = start_cursor(alloc, limits, &Form::Skipped, from)?;
-    keep_after(&mut cursor, ctl, format, kept)
+    keep_after(&mut cursor, ctl, format, selection, kept)
 }
 
 /// Prints the line of an entry.
@@ -184,7 +202,7 @@ pub(crate) fn print_entries<'a, F: Format, O: Sink>(
     Ok(())
 }
 
-/// Lists the last `wanted` entries along one walk, which starts at the id `from` or at the first entry. They are printed
+/// Lists the last `wanted` entries that are selected along one walk, which starts at the id `from` or at the first entry. They are printed
 /// when the walk is over.
 pub(crate) fn list_kept<'a, F: Format, C: Controller, O: Sink>(
     alloc: Global,
@@ -205,7 +223,15 @@ pub(crate) fn list_kept<'a, F: Format, C: Controller, O: Sink>(
         (change (C.seen ctl.old) (C.seen ctl.new) (printed (O.taken out.old) summary.old) (printed (O.taken out.new) summary.new)) result }
 {
     let mut kept = LastEntries::new(alloc, wanted);
-    match keep_entries(alloc, ctl, limits, format, from, &mut kept) {
+    match keep_entries(
+        alloc,
+        ctl,
+        limits,
+        format,
+        &entries.selection,
+        from,
+        &mut kept,
+    ) {
         Ok(()) => print_entries(alloc, format, &mut kept, &entries, out, summary),
         Err(failure) => Err(failure),
     }

@@ -22,7 +22,7 @@ pub(crate) fn is_reached(most: Option<u32>, count: u32) -> bool
 }
 
 /// Writes the text of each record, starting at the cursor's place, while the record is borrowed. Stops after `most`
-/// records if that is Some. Returns the number of records.
+/// records that the form counts if that is Some. Returns their number.
 pub(crate) fn list_records<'a, F: Format, C: Controller, O: Sink>(
     alloc: Global,
     cursor: &mut Cursor,
@@ -59,6 +59,7 @@ pub(crate) fn list_records<'a, F: Format, C: Controller, O: Sink>(
             Ok(None) => return form.end(wrote, count),
             Err(ended) => return Err(Failure::Ended(ended)),
         };
+        let counted = count + u32::from(form.counts(&record));
         let text = match row_text(alloc, ctl, limits, format, form, &record, &mut line) {
             Ok(text) => text,
             Err(unread) => return Err(Failure::from(unread)),
@@ -68,7 +69,7 @@ pub(crate) fn list_records<'a, F: Format, C: Controller, O: Sink>(
             Ok(()) => {
                 summary.add(bytes, text.has_fault());
                 wrote |= !bytes.is_empty();
-                count += 1;
+                count = counted;
                 // dropped here, so that there is one path back to the start of the loop, with or without a text
                 drop(text);
             }

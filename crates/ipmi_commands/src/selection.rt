@@ -3,9 +3,10 @@ ghost use Rattle.std.specs.Prelude.{◌≡◌, ◌≤◌, IfOk, length, option_m
 ghost use Rattle.std.specs.List.{list_any};
 ghost use Rattle.ipmi_commands.specs.Below.{row_of_record};
 ghost use Rattle.ipmi_commands.specs.Selection.{entity_in, entity_of, has_one_of, is_among, is_entity, is_name, is_number, is_of_kind, is_wanted, LooksInside, of_kind, passes, selects, sensor_type_of, with_filters};
-ghost use Rattle.ipmi_commands.specs.Selection.{clock_time, event_sensor_type, in_detail, is_between, is_passed, passes_entry, time_of, with_entry_filters};
+ghost use Rattle.ipmi_commands.specs.Selection.{clock_time, event_sensor_type, in_detail, is_between, is_passed, passes_entry, selects_entry, time_of, with_entry_filters};
 
 use crate::format::Detail;
+use crate::piece::entry_bytes;
 use ipmi_bus::Record;
 use ipmi_command_line::{EntityFilter, Filters, IdRange, Ids, Kind, Word};
 use ipmi_records::{
@@ -105,6 +106,20 @@ impl<'a> EntrySelection<'a> {
         ensures { result ≡ self.now.detail }
     {
         self.detail
+    }
+
+    /// Whether the record is one of them.
+    pub(crate) fn selects_record(&self, lent: &Record<'_>) -> bool
+        requires { length lent.now.bytes.now ≡ 16 }
+        ensures { result ≡ selects_entry self.now (row_of_record lent.now) }
+    {
+        match self.filters {
+            None => true,
+            Some(filters) => {
+                let entry = SelView::read(entry_bytes(lent.bytes));
+                passes_entry(filters, lent.id, &entry)
+            }
+        }
     }
 
     /// Whether the entry with this id is one of them.

@@ -90,7 +90,15 @@ pub(crate) fn list_tail<'a, F: Format, C: Controller, O: Sink>(
         );
     };
     let mut kept = LastEntries::new(alloc, wanted);
-    let walked = keep_entries(alloc, ctl, limits, format, Some(id), &mut kept);
+    let walked = keep_entries(
+        alloc,
+        ctl,
+        limits,
+        format,
+        &entries.selection,
+        Some(id),
+        &mut kept,
+    );
     if is_tail(wanted, &kept, walked)? {
         return print_entries(alloc, format, &mut kept, &entries, out, summary);
     }

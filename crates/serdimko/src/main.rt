@@ -45,6 +45,8 @@ use std::alloc::{AllocError, Global};
 use std::env::{Env, FillError};
 use std::io::{self, BufWriter, ErrorKind, IsTerminal, Write};
 use std::process::ExitCode;
+use std::rt::Clock;
+use std::time::SystemTime;
 
 /// The exit status of an invalid command line.
 const USAGE: u8 = 2;
@@ -92,6 +94,13 @@ fn program<E: MessageSink>(rt: &HostRuntime, err: &mut E) -> Result<u8, AllocErr
     }
 }
 
+/// The seconds since 1970 by the host's clock.
+fn clock<R: Clock>(rt: &R) -> Option<u32> {
+    let now = SystemTime::now(rt).ok()?;
+    let since = now.duration_since(SystemTime::UNIX_EPOCH).ok()?;
+    u32::try_from(since.as_secs()).ok()
+}
+
 /// Runs a command line, unless it has no words and no image comes from standard input.
 fn run_line<E: MessageSink>(
     rt: &HostRuntime,
@@ -101,7 +110,10 @@ fn run_line<E: MessageSink>(
     if words.as_slice().len() < 2 && rt.stdin().is_terminal() {
         return Ok(refuse(&[Text(SHORT)], err));
     }
-    match request_of(rt.alloc(), words.as_slice()) {
+    let Some(clock) = clock(rt) else {
+        return Ok(refuse(&[Text("the clock can't be read")], err));
+    };
+    match request_of(rt.alloc(), clock, words.as_slice()) {
         Ok(request) => run(rt, request, err),
         Err(UsageError::Memory) => Err(AllocError),
         Err(error) => {

@@ -7,6 +7,9 @@ use ipmi_command_line::{
 use std::alloc::Global;
 use std::process::Abort;
 
+/// 2026-11-30 in UTC, in seconds since 1970.
+const CLOCK: u32 = 1_795_996_800;
+
 /// The words of a line after the program's name, split at commas.
 fn words_of(rt: &impl Abort, alloc: Global, line: &str) -> Words {
     let mut words = Words::new(alloc);
@@ -163,7 +166,7 @@ fn answer_text(rt: &impl Abort, alloc: Global, answer: Result<Request, UsageErro
 fn assert_request(rt: &impl Abort, alloc: Global, case: &str) {
     let (line, wanted) = parts(rt, case);
     let words = words_of(rt, alloc, line);
-    let got = answer_text(rt, alloc, request_of(alloc, words.as_slice()));
+    let got = answer_text(rt, alloc, request_of(alloc, CLOCK, words.as_slice()));
     drop(words);
     assert!(rt; got.as_str() == wanted, "{line}: got {got}");
 }
@@ -194,6 +197,12 @@ sel,list,last,20|SelList(Last(20)) None; images; None 5; plain; false
 sel,elist|SelList(All) None; images; None 5; words; false
 sel,list,--since,1970-01-02,--until,1970-01-02T00:00:01Z|SelList(All) None since 86400 until 86401; images; None 5; plain; false
 sel,elist,--since,2026-11-30T01:00:00+01:00,--type,fan|SelList(All) None type 4 since 1795996800; images; None 5; words; false
+sel,list,5,--since,2026-11-30|SelList(First(5)) None since 1795996800; images; None 5; plain; false
+sel,elist,last,5,--type,fan|SelList(Last(5)) None type 4; images; None 5; words; false
+sel,list,--since,2h,--until,0h|SelList(All) None since 1795989600 until 1795996800; images; None 5; plain; false
+sel,list,--since,3d|SelList(All) None since 1795737600; images; None 5; plain; false
+sel,elist,--now,1970-01-02,--since,3h|SelList(All) None since 75600; images; None 5; words; false
+sel,elist,--until,65535d,--now,2106-01-01|SelList(All) None until 0; images; None 5; words; false
 sel,list,--id,0001-000f|SelList(All) None 1-15; images; None 5; plain; false
 sel,elist,0,--until,2106-02-07T06:28:15Z|SelList(All) None until 4294967295; images; None 5; words; false
 sel,elist,0x10|SelList(First(16)) None; images; None 5; words; false
@@ -248,13 +257,18 @@ sensor,--id,5-1|--id '5-1' is not a hex id from 1 to FFFE; a listing also takes 
 sdr,get,A,--exclude,B|--exclude does not go with 'sdr get'
 sel,tail,5,--type,Fan|--type does not go with 'sel tail'
 sel,list,--entity,3|--entity does not go with 'sel list'
-sel,list,5,--since,2026-11-30|a number of entries does not go with --type, --id, --since or --until
-sel,elist,last,5,--type,fan|a number of entries does not go with --type, --id, --since or --until
-sel,list,--since,yesterday|--since 'yesterday' is not a date, or a time with Z or an offset, from 1970 to 2106: 2026-11-30 or 2026-11-30T12:00Z
-sel,list,--until,2026-11-31|--until '2026-11-31' is not a date, or a time with Z or an offset, from 1970 to 2106: 2026-11-30 or 2026-11-30T12:00Z
-sel,list,--until,2106-02-07T06:28:16Z|--until '2106-02-07T06:28:16Z' is not a date, or a time with Z or an offset, from 1970 to 2106: 2026-11-30 or 2026-11-30T12:00Z
-sel,list,--since,1969-12-31|--since '1969-12-31' is not a date, or a time with Z or an offset, from 1970 to 2106: 2026-11-30 or 2026-11-30T12:00Z
+sel,list,--since,yesterday|--since 'yesterday' is not a date, a time with Z or an offset, from 1970 to 2106, or hours or days ago: 2026-11-30, 2026-11-30T12:00Z, 2h or 3d
+sel,list,--until,2026-11-31|--until '2026-11-31' is not a date, a time with Z or an offset, from 1970 to 2106, or hours or days ago: 2026-11-30, 2026-11-30T12:00Z, 2h or 3d
+sel,list,--until,2106-02-07T06:28:16Z|--until '2106-02-07T06:28:16Z' is not a date, a time with Z or an offset, from 1970 to 2106, or hours or days ago: 2026-11-30, 2026-11-30T12:00Z, 2h or 3d
+sel,list,--since,1969-12-31|--since '1969-12-31' is not a date, a time with Z or an offset, from 1970 to 2106, or hours or days ago: 2026-11-30, 2026-11-30T12:00Z, 2h or 3d
+sel,list,--since,2m|--since '2m' is not a date, a time with Z or an offset, from 1970 to 2106, or hours or days ago: 2026-11-30, 2026-11-30T12:00Z, 2h or 3d
+sel,list,--since,02h|--since '02h' is not a date, a time with Z or an offset, from 1970 to 2106, or hours or days ago: 2026-11-30, 2026-11-30T12:00Z, 2h or 3d
+sel,list,--until,h|--until 'h' is not a date, a time with Z or an offset, from 1970 to 2106, or hours or days ago: 2026-11-30, 2026-11-30T12:00Z, 2h or 3d
+sel,list,--until,1h1|--until '1h1' is not a date, a time with Z or an offset, from 1970 to 2106, or hours or days ago: 2026-11-30, 2026-11-30T12:00Z, 2h or 3d
+sel,list,--now,2h,--since,1d|--now '2h' is not a date, or a time with Z or an offset, from 1970 to 2106: 2026-11-30 or 2026-11-30T12:00Z
 sdr,list,--since,2026-11-30|--since does not go with 'sdr list'
+sdr,list,--now,2026-11-30|--now does not go with 'sdr list'
+sel,get,1,--now,2026-11-30|--now does not go with 'sel get'
 sdr,info,foo|unexpected word 'foo' with 'sdr info'
 sel,list,ten|'ten' is not a number from 0 to 65535, in decimal without leading zeros or as 0x and up to four hex digits
 sel,get,0016|'0016' is not an ID from 1 to 65534, in decimal without leading zeros or as 0x and up to four hex digits: in hex write 0x0016, or --id 0016

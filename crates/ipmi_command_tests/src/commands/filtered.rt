@@ -46,7 +46,7 @@ fn assert_listing(
         &mut ctl,
         limits,
         &Wording::Plain,
-        job.choosing(filters),
+        job.keeping_last().choosing(filters),
         &mut out,
         &mut summary,
     );
@@ -75,7 +75,7 @@ fn assert_case(rt: &impl Abort, alloc: Global, case: &str) {
     let (first, lines) = case.split_once('\n').expect(rt, case);
     let (line, numbers) = parts(rt, first);
     let words = words_of(rt, alloc, line);
-    let request = request_of(alloc, words.as_slice()).ok().expect(rt, line);
+    let request = request_of(alloc, 0, words.as_slice()).ok().expect(rt, line);
     let command = command_of_case(rt, alloc, line.split_once(",--").map_or(line, |cut| cut.0));
     assert_listing(rt, alloc, &command, &request.filters, numbers, lines);
     drop(command);
@@ -141,6 +141,31 @@ sel,list,--type,1,--id,0002-0003|7 1 0
 0003 | +5 s | Temperature #0x30 | Upper Critical going high | Asserted
 ====
 sel,list,--id,0007|7 0 0
+====
+sel,list,1,--type,fan|3 1 0
+0002 | 1987-01-05 18:48:49 | Fan #0x31 | Lower Critical going low | Asserted
+====
+sel,list,first,2,--type,temperature|4 2 0
+0001 | 1987-01-05 18:48:33 | Temperature #0x30 | Upper Critical going high | Asserted
+0003 | +5 s | Temperature #0x30 | Upper Critical going high | Asserted
+====
+sel,list,2,--type,fan|7 1 0
+0002 | 1987-01-05 18:48:49 | Fan #0x31 | Lower Critical going low | Asserted
+====
+sel,list,0,--type,fan|7 1 0
+0002 | 1987-01-05 18:48:49 | Fan #0x31 | Lower Critical going low | Asserted
+====
+sel,list,last,1,--type,fan|7 1 0
+0002 | 1987-01-05 18:48:49 | Fan #0x31 | Lower Critical going low | Asserted
+====
+sel,list,last,1,--id,0001-0003|7 1 0
+0003 | +5 s | Temperature #0x30 | Upper Critical going high | Asserted
+====
+sel,list,last,3,--since,1970-01-01|7 2 0
+0001 | 1987-01-05 18:48:33 | Temperature #0x30 | Upper Critical going high | Asserted
+0002 | 1987-01-05 18:48:49 | Fan #0x31 | Lower Critical going low | Asserted
+====
+sel,list,last,1,--since,2000-01-01|7 0 0
 ";
 
 #[test]

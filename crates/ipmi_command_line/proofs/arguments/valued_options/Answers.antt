@@ -15,5 +15,6 @@ returns c =
     let exclude = c.in_ok-arg-8.ensures.shape c.list_rule-2.ensures.local ∙ ap₂ with_rule entity c.list_rule-2.ensures.rule in
     let since = c.in_ok-arg-9.ensures.shape c.option_rule-7.ensures.local ∙ ap₂ with_rule exclude c.option_rule-7.ensures.rule in
     let until = c.in_ok-arg-10.ensures.shape c.option_rule-8.ensures.local ∙ ap₂ with_rule since c.option_rule-8.ensures.rule in
-    IfOk-weaker c.arg-11.result _ _ (λ r h. h.shape c.output_rule.ensures.local
-    ∙ ap₂ with_rule until c.output_rule.ensures.rule) c.arg-11.ensures
+    let now = c.in_ok-arg-11.ensures.shape c.option_rule-9.ensures.local ∙ ap₂ with_rule until c.option_rule-9.ensures.rule in
+    IfOk-weaker c.arg-12.result _ _ (λ r h. h.shape c.output_rule.ensures.local
+    ∙ ap₂ with_rule now c.output_rule.ensures.rule) c.arg-12.ensures
