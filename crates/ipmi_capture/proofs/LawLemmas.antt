@@ -1,17 +1,20 @@
 -- A command prints the same over a capture as over the controller's store.
 use Rattle.std.proofs.Common.{◌≡◌, ℕ, ◌+◌, ◌-◌, Bool, true, false, cond, nat_eq, ◌⊎◌, get_or, Option, None, Some, Result, Ok, Err, List, [], ◌∷◌, length, take, inl, inr, refl, sym, ap, subst, ◌∙◌, arith, All, filter_map}
 use Rattle.std.specs.List.{Any, cons_option, filter}
-use Rattle.std.proofs.lemmas.Bool.{true≢false}
+use Rattle.std.proofs.lemmas.Bool.{and_parts, true≢false}
 use Rattle.std.proofs.lemmas.List.Elements.{All-cons, All-contains, All-contains_itself, All-head, All-nil, All-tail}
 use Rattle.std.proofs.lemmas.Option.{none-some}
 use Rattle.ipmi_capture.specs.Below.{End, EndsBy, First, first_row, FoundIsRow, Id, info_of, inventory_of, IsStore, IsWalk, look, Place, place_after, place_after_rows, Reading, reading_of, Row, row_with_id, rows_of, Sdr, SdrFault, SdrView, sdr_view_of, Sel, Shelf, start_of, Store, store_shelf, WalkEnd, WalkExists, WalkIsUnique}
 use Rattle.ipmi_capture.specs.Capture.{device_named, devices_of, HasWalk, InventoryOrLeft, IsCaptureBut, IsCaptureOf, ReadingOrLeft, SameInventory, SameReading, SameWalk, sensor_named, sensors_of, WalkOrLeft}
-use Rattle.ipmi_capture.specs.Laws.{AreOfCapture, CapturesPrintTheSame, CapturesPrintWhatTheyHave, devices_asked, is_info_asked, is_walked, IsKnownPlace, IsOfCapture, IsUnneeded, PrintsTheSame, SamePlan, SameText, sensors_asked}
+use Rattle.ipmi_capture.specs.Laws.{AreOfCapture, CapturesPrintTheSame, CapturesPrintWhatTheyHave, choosing_any, devices_asked, is_info_asked, is_walked, IsKnownPlace, IsOfCapture, IsUnneeded, PrintsTheSame, SamePlan, SameText, sensors_asked}
 use Rattle.ipmi_capture.specs.Left.{EndIsNoted, LacksInfo, LacksInventory, LacksReading, LacksRecords, SameOrLeft}
 use Rattle.ipmi_capture.specs.declared.left.Left.{Left}
 use Rattle.ipmi_records.specs.Prelude.{known}
 use Rattle.ipmi_commands.specs.Prelude.{first_rows, SelectedEntries, of_kind, after_names, after_points, AtInventory, AtRecord, bytes_of_rows, devices_job, events_job, named_entries, has_last, IfChosen, info_plan, inventories_plan, inventory_plan, is_name, IsBlockOfName, IsDevicePiece, IsLocatorPiece, IsRecordText, IsRowText, IsTextOfRecord, Texts, Item, kept_items, kept_plan, last_rows, listing, listing_plan, OfInventory, OnEntries, OnTail, OnTailFrom, OnTried, OnWalk, OnWhole, Plan, points_of_walk, reading_by, reading_for, row_is_of_kind, row_items, ReadPoint, tail_from, walk_call_bound, points_before, view_has_name, with_first_points}
-use Rattle.ipmi_commands.specs.Selection.{chosen, in_detail}
+use Rattle.ipmi_command_line.specs.declared.filters.Filters.{Filters}
+use Rattle.ipmi_commands.specs.Job.{choosing, entries_job, keeping_last}
+use Rattle.ipmi_commands.specs.Selection.{chosen, if_passes, in_detail, passes, Selected, selects, with_entry_filters, with_filters}
+use Rattle.ipmi_commands.specs.declared.job.NameLookup.{NameLookup}
 use Rattle.ipmi_commands.specs.declared.format.Detail.{Detail}
 use Rattle.ipmi_commands.specs.declared.job.EntryText.{EntryText}
 use Rattle.ipmi_commands.specs.declared.job.Form.{Form}
@@ -39,6 +42,11 @@ if_chosen : (P Q : List ℕ → Type 0) (b : Bool) → (b ≡ true → Same P Q)
     → Same (λ text. IfChosen b P text) (λ text. IfChosen b Q text)
 if_chosen P Q true same = same refl
 if_chosen P Q false same = itself (λ text. text ≡ [])
+
+-- a record that is selected is of the kind
+kind_of_selected : (filters : Option Filters) (row : Row) (is_of_kind : Bool) → if_passes filters row is_of_kind ≡ true → is_of_kind ≡ true
+kind_of_selected None row is_of_kind is = is
+kind_of_selected (Some filters) row is_of_kind is = (and_parts is_of_kind (passes filters row) is).0
 
 module _ (x : Texts) (a b : Store) where
   -- the reading requested for a record is the same in both stores
@@ -356,12 +364,12 @@ module _ (x : Texts) (exists : WalkExists) (unique : WalkIsUnique) (found : Foun
       (rw (one.0, one.1) refl, one.2)
 
   -- the text of a record of the kind
-  record_same : (detail : Detail) (kind : Kind) → All (SameReading image store) (sensors_of (filter (row_is_of_kind kind) image.sdr))
+  record_same : (detail : Detail) (selection : Selected) → All (SameReading image store) (sensors_of (filter (row_is_of_kind selection.kind) image.sdr))
       → (row : Row) → Among image.sdr row
-      → Same (λ text. IsRowText x image (Form.Record detail (of_kind kind)) row text) (λ text. IsRowText x store (Form.Record detail (of_kind kind)) row text)
-  record_same detail kind readings row among =
-      if_chosen _ _ (row_is_of_kind kind row) (λ passes. record_text x image store detail row (sdr_view_of row.bytes)
-      (row_reads (row_is_of_kind kind) readings row among passes))
+      → Same (λ text. IsRowText x image (Form.Record detail selection) row text) (λ text. IsRowText x store (Form.Record detail selection) row text)
+  record_same detail selection readings row among =
+      if_chosen _ _ (selects selection row) (λ is. record_text x image store detail row (sdr_view_of row.bytes)
+      (row_reads (row_is_of_kind selection.kind) readings row among (kind_of_selected selection.filters row (row_is_of_kind selection.kind row) is)))
 
   -- the block of a record with the name
   block_same : (name : List ℕ)
@@ -537,21 +545,68 @@ module _ (x : Texts) (exists : WalkExists) (unique : WalkIsUnique) (found : Foun
   info_asked Sdr = refl
   info_asked Sel = refl
 
-  abbrev unnamed : Detail → EntryText
-  unnamed detail = record { selection = in_detail detail; sensors = None }
+  abbrev unnamed : SelectedEntries → EntryText
+  unnamed selection = record { selection = selection; sensors = None }
 
-  -- entries, with names or without
-  entries_same : (has : Bool) (detail : Detail) (count : Count) (from : Option ℕ) → (has ≡ true → SameWalk Sdr image store)
+  -- entries of this selection, with names or without
+  abbrev events_for : Bool → SelectedEntries → Count → Option ℕ → Job
+  events_for true selection count from = Job.NameLookup (NameLookup.Events selection count from)
+  events_for false selection count from = entries_job (unnamed selection) count from
+
+  abbrev BothSame : Job → Type 0
+  BothSame job = SamePlan x (Some job) image store × SamePlan x (Some (keeping_last job)) image store
+
+  entries_same : (has : Bool) (selection : SelectedEntries) (count : Count) (from : Option ℕ) → (has ≡ true → SameWalk Sdr image store)
       → SameWalk Sel image store → SameStart count → AreOfCapture image count from
-      → SamePlan x (Some (events_job has detail count from)) image store
-  entries_same true detail Count.All from records entries start known = events_same (in_detail detail) Count.All from (records refl) entries start known
-  entries_same true detail (Count.First n) from records entries start known = events_same (in_detail detail) (Count.First n) from (records refl) entries start known
-  entries_same true detail (Count.Last n) from records entries start known = events_same (in_detail detail) (Count.Last n) from (records refl) entries start known
-  entries_same true detail (Count.Tail n) from records entries start known = events_same (in_detail detail) (Count.Tail n) from (records refl) entries start known
-  entries_same false detail Count.All from records entries start known = lines_same (unnamed detail) Count.All from entries start known
-  entries_same false detail (Count.First n) from records entries start known = lines_same (unnamed detail) (Count.First n) from entries start known
-  entries_same false detail (Count.Last n) from records entries start known = last_same (unnamed detail) n from entries known
-  entries_same false detail (Count.Tail n) from records entries start known = lines_same (unnamed detail) (Count.Tail n) from entries start known
+      → BothSame (events_for has selection count from)
+  entries_same true selection count from records entries start known =
+      let same = names_same selection count from (records refl) entries start known in (same, same)
+    where
+      names_same : (selection : SelectedEntries) (count : Count) (from : Option ℕ) → SameWalk Sdr image store → SameWalk Sel image store
+          → SameStart count → AreOfCapture image count from → SamePlan x (Some (Job.NameLookup (NameLookup.Events selection count from))) image store
+      names_same selection Count.All from records entries start known = events_same selection Count.All from records entries start known
+      names_same selection (Count.First n) from records entries start known = events_same selection (Count.First n) from records entries start known
+      names_same selection (Count.Last n) from records entries start known = events_same selection (Count.Last n) from records entries start known
+      names_same selection (Count.Tail n) from records entries start known = events_same selection (Count.Tail n) from records entries start known
+  entries_same false selection Count.All from records entries start known =
+      let same = lines_same (unnamed selection) Count.All from entries start known in (same, same)
+  entries_same false selection (Count.First n) from records entries start known =
+      let same = lines_same (unnamed selection) (Count.First n) from entries start known in (same, same)
+  entries_same false selection (Count.Last n) from records entries start known =
+      (last_same (unnamed selection) n from entries known, lines_same (unnamed selection) (Count.Last n) from entries start known)
+  entries_same false selection (Count.Tail n) from records entries start known =
+      let same = lines_same (unnamed selection) (Count.Tail n) from entries start known in (same, same)
+
+  -- ---- with filters
+
+  abbrev selection_for : Option Filters → Detail → SelectedEntries
+  selection_for None detail = in_detail detail
+  selection_for (Some filters) detail = with_entry_filters filters (in_detail detail)
+
+  chosen_events : (filters : Option Filters) (has : Bool) (detail : Detail) (count : Count) (from : Option ℕ)
+      → choosing_any filters (events_job has detail count from) ≡ events_for has (selection_for filters detail) count from
+  chosen_events None true detail count from = refl
+  chosen_events None false detail count from = refl
+  chosen_events (Some filters) true detail count from = refl
+  chosen_events (Some filters) false detail Count.All from = refl
+  chosen_events (Some filters) false detail (Count.First n) from = refl
+  chosen_events (Some filters) false detail (Count.Last n) from = refl
+  chosen_events (Some filters) false detail (Count.Tail n) from = refl
+
+  -- a job that filters leave as it is
+  unchosen : (filters : Option Filters) (job : Job) → ((given : Filters) → choosing given job ≡ job) → keeping_last job ≡ job
+      → SamePlan x (Some job) image store → BothSame (choosing_any filters job)
+  unchosen None job same kept plan = (plan, subst (λ (j : Job). SamePlan x (Some j) image store) (sym kept) plan)
+  unchosen (Some given) job same kept plan = subst BothSame (sym (same given)) (plan, subst (λ (j : Job). SamePlan x (Some j) image store) (sym kept) plan)
+
+  listed_same : (filters : Option Filters) (detail : Detail) (kind : Kind) (from : Option ℕ) → SameWalk Sdr image store
+      → IsKnownPlace Sdr image (start_of from) → All (SameReading image store) (sensors_of (filter (row_is_of_kind kind) image.sdr))
+      → BothSame (choosing_any filters (Job.Records (listing (Form.Record detail (of_kind kind)) (start_of from) None)))
+  listed_same None detail kind from walks known readings =
+      let same = λ (tries tries' : Tries). listing_same (Form.Record detail (of_kind kind)) from walks known (record_same detail (of_kind kind) readings) in (same, same)
+  listed_same (Some filters) detail kind from walks known readings =
+      let selection = with_filters filters (of_kind kind) in
+      let same = λ (tries tries' : Tries). listing_same (Form.Record detail selection) from walks known (record_same detail selection readings) in (same, same)
 
   -- all devices, with the name of device 0 or without
   all_same : (has : Bool) → SameWalk Sdr image store → All (SameInventory image store) (0 ∷ devices_of image.sdr)
@@ -559,28 +614,47 @@ module _ (x : Texts) (exists : WalkExists) (unique : WalkIsUnique) (found : Foun
   all_same true walks inventories = devices_same walks inventories
   all_same false walks inventories = λ tries tries'. inventories_same None walks inventories
 
-  prints_the_same : (task : Task) (from : Option ℕ) → HasAsked x.has_names image store task
-      → IsOfCapture image task from → PrintsTheSame x image store task from
-  prints_the_same Task.Hex from asked known = λ tries tries'. listing_same _ from (asked.walk Sdr refl) known (λ row among. itself _)
-  prints_the_same (Task.List kind) from asked known = λ tries tries'. listing_same _ from (asked.walk Sdr refl) known (record_same Detail.Line kind asked.readings)
-  prints_the_same (Task.Elist kind) from asked known = λ tries tries'. listing_same _ from (asked.walk Sdr refl) known (record_same Detail.Long kind asked.readings)
-  prints_the_same (Task.Get name) from asked known = λ tries tries'. listing_same _ from (asked.walk Sdr refl) known (block_same name asked.readings)
-  prints_the_same (Task.SelList count) from asked known =
-      entries_same (x.has_names Detail.Line) Detail.Line count from (asked.walk Sdr) (asked.walk Sel refl) (same_start count (asked.info Sel)) known
-  prints_the_same (Task.SelGet id) from asked known =
-      entries_same (x.has_names Detail.Block) Detail.Block (Count.First 1) (Some id) (asked.walk Sdr) (asked.walk Sel refl) tt known
-  prints_the_same (Task.Info shelf) from asked known = λ tries tries'. info_agrees shelf (asked.info shelf (info_asked shelf))
-  prints_the_same (Task.Fru None) from asked known = all_same (x.has_names Detail.Line) (asked.walk Sdr refl) asked.inventories
-  prints_the_same (Task.Fru (Some id)) from asked known = λ tries tries'. inventory_agrees id (All-head (SameInventory image store) id [] asked.inventories)
-  prints_the_same Task.Rewrite from asked known = absurd known
+  prints_the_same : (task : Task) (from : Option ℕ) (filters : Option Filters) → HasAsked x.has_names image store task
+      → IsOfCapture image task from → PrintsTheSame x image store task from filters
+  prints_the_same Task.Hex from filters asked known =
+      unchosen filters (Job.Records (listing Form.Hex (start_of from) None)) (λ given. refl) refl
+      (λ tries tries'. listing_same Form.Hex from (asked.walk Sdr refl) known (λ row among. itself _))
+  prints_the_same (Task.List kind) from filters asked known = listed_same filters Detail.Line kind from (asked.walk Sdr refl) known asked.readings
+  prints_the_same (Task.Elist kind) from filters asked known = listed_same filters Detail.Long kind from (asked.walk Sdr refl) known asked.readings
+  prints_the_same (Task.Get name) from filters asked known =
+      unchosen filters (Job.Records (listing (Form.Block name) (start_of from) None)) (λ given. refl) refl
+      (λ tries tries'. listing_same (Form.Block name) from (asked.walk Sdr refl) known (block_same name asked.readings))
+  prints_the_same (Task.SelList count) from filters asked known =
+      subst BothSame (sym (chosen_events filters (x.has_names Detail.Line) Detail.Line count from))
+      (entries_same (x.has_names Detail.Line) (selection_for filters Detail.Line) count from (asked.walk Sdr) (asked.walk Sel refl) (same_start count (asked.info Sel)) known)
+  prints_the_same (Task.SelGet id) from filters asked known =
+      subst BothSame (sym (chosen_events filters (x.has_names Detail.Block) Detail.Block (Count.First 1) (Some id)))
+      (entries_same (x.has_names Detail.Block) (selection_for filters Detail.Block) (Count.First 1) (Some id) (asked.walk Sdr) (asked.walk Sel refl) tt known)
+  prints_the_same (Task.Info shelf) from filters asked known =
+      unchosen filters (Job.Info shelf) (λ given. refl) refl (λ tries tries'. info_agrees shelf (asked.info shelf (info_asked shelf)))
+  prints_the_same (Task.Fru None) from filters asked known =
+      unchosen filters (devices_job (x.has_names Detail.Line)) (devices_unchosen (x.has_names Detail.Line)) (devices_unkept (x.has_names Detail.Line))
+      (all_same (x.has_names Detail.Line) (asked.walk Sdr refl) asked.inventories)
+    where
+      devices_unchosen : (has : Bool) (given : Filters) → choosing given (devices_job has) ≡ devices_job has
+      devices_unchosen true given = refl
+      devices_unchosen false given = refl
+
+      devices_unkept : (has : Bool) → keeping_last (devices_job has) ≡ devices_job has
+      devices_unkept true = refl
+      devices_unkept false = refl
+  prints_the_same (Task.Fru (Some id)) from filters asked known =
+      unchosen filters (Job.Inventory Detail.Block id None) (λ given. refl) refl
+      (λ tries tries'. inventory_agrees id (All-head (SameInventory image store) id [] asked.inventories))
+  prints_the_same Task.Rewrite from filters asked known = absurd known
 
 module _ (x : Texts) (exists : WalkExists) (unique : WalkIsUnique) (found : FoundIsRow) where
   pub print_the_same : CapturesPrintTheSame x
-  print_the_same = λ image store task from is_image is_store capture known.
-      prints_the_same x exists unique found image store is_image is_store task from
+  print_the_same = λ image store task from filters is_image is_store capture known.
+      prints_the_same x exists unique found image store is_image is_store task from filters
       (asked_of_capture x.has_names image store task from capture known) known
 
   pub print_what_they_have : CapturesPrintWhatTheyHave x
-  print_what_they_have = λ left image store task from is_image is_store capture unneeded known.
-      prints_the_same x exists unique found image store is_image is_store task from
+  print_what_they_have = λ left image store task from filters is_image is_store capture unneeded known.
+      prints_the_same x exists unique found image store is_image is_store task from filters
       (asked_of_rest x.has_names left image store task from capture unneeded known) known

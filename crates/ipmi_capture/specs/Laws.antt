@@ -1,12 +1,13 @@
 -- A command prints the same over a capture as over the controller's store.
-use Rattle.std.specs.Prelude.{◌≡◌, ℕ, Bool, true, false, IsTrue, Option, None, Some, List, [], ◌∷◌, All}
+use Rattle.std.specs.Prelude.{◌≡◌, ℕ, Bool, true, false, IsTrue, Option, None, Some, option_map, List, [], ◌∷◌, All}
 use Rattle.std.specs.List.{Contains, filter}
 use Rattle.ipmi_capture.specs.Below.{EndsBy, First, has_id, Id, info_of, IsStore, IsWalk, Place, Row, rows_of, Sdr, sdr_view_of, Sel, Shelf, start_of, Store, WalkEnd}
 use Rattle.ipmi_capture.specs.Capture.{devices_of, IsCaptureBut, IsCaptureOf, sensors_of}
 use Rattle.ipmi_capture.specs.Left.{LacksInfo, LacksInventory, LacksReading, LacksRecords}
 use Rattle.ipmi_capture.specs.declared.left.Left.{Left}
 use Rattle.ipmi_commands.specs.Format.{Texts}
-use Rattle.ipmi_commands.specs.Job.{job_of}
+use Rattle.ipmi_command_line.specs.declared.filters.Filters.{Filters}
+use Rattle.ipmi_commands.specs.Job.{choosing, job_of, keeping_last}
 use Rattle.ipmi_commands.specs.declared.job.Job.{Job}
 use Rattle.ipmi_commands.specs.declared.format.Detail.{Detail}
 use Rattle.ipmi_commands.specs.declared.limits.Tries.{Tries}
@@ -59,14 +60,21 @@ SamePlan x (Some job) image store = (tries tries' : Tries)
     (plan' ≡ plan) × All (SameText x image store) plan.items))
 SamePlan x None image store = ⊥
 
--- so does the job of a command, in a form of output with these texts
-abbrev pub PrintsTheSame : Texts → Store → Store → Task → Option ℕ → Type 0
-PrintsTheSame x image store task from = SamePlan x (job_of x.has_names task from) image store
+-- the same job, with these filters if there are any
+abbrev pub choosing_any : Option Filters → Job → Job
+choosing_any None job = job
+choosing_any (Some filters) job = choosing filters job
+
+-- so does the job of a command, in a form of output with these texts, whether the last entries are counted or kept in memory
+abbrev pub PrintsTheSame : Texts → Store → Store → Task → Option ℕ → Option Filters → Type 0
+PrintsTheSame x image store task from filters =
+    SamePlan x (option_map (choosing_any filters) (job_of x.has_names task from)) image store
+    × SamePlan x (option_map keeping_last (option_map (choosing_any filters) (job_of x.has_names task from))) image store
 
 abbrev pub CapturesPrintTheSame : Texts → Type 0
-CapturesPrintTheSame x = (image store : Store) (task : Task) (from : Option ℕ)
+CapturesPrintTheSame x = (image store : Store) (task : Task) (from : Option ℕ) (filters : Option Filters)
     → IsStore image → IsStore store → IsCaptureOf image store → IsOfCapture image task from
-    → PrintsTheSame x image store task from
+    → PrintsTheSame x image store task from filters
 
 -- ---- a capture that lacks something
 
@@ -114,7 +122,7 @@ pub record IsUnneeded (has_names : Detail → Bool) (image : Store) (task : Task
 -- the same over a capture that lacks only items that the command does not need
 abbrev pub CapturesPrintWhatTheyHave : Texts → Type 0
 CapturesPrintWhatTheyHave x =
-    (left : List Left) (image store : Store) (task : Task) (from : Option ℕ)
+    (left : List Left) (image store : Store) (task : Task) (from : Option ℕ) (filters : Option Filters)
     → IsStore image → IsStore store → IsCaptureBut left image store
     → All (IsUnneeded x.has_names image task) left → IsOfCapture image task from
-    → PrintsTheSame x image store task from
+    → PrintsTheSame x image store task from filters

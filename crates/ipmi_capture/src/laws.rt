@@ -3,8 +3,8 @@ ghost use Rattle.ipmi_capture.specs.Laws.{CapturesPrintTheSame, CapturesPrintWha
 
 use ipmi_commands::Format;
 
-/// In any form of output, a command has the same plan and texts over a capture as over the controller's store, if it asks only for ids on walks and
-/// for devices that records name. The capture may lack items that the command does not ask for: `sel list` and
+/// In any form of output, a command, with filters or without, has the same plan and texts over a capture as over the controller's store, if it
+/// asks only for ids on walks and for devices that records name. The capture may lack items that the command does not ask for: `sel list` and
 /// `sdr list fru` need no readings, and `fru print 1` needs no other inventory.
 pub fn captures_print_the_same<F: Format>(_format: &F)
     ensures all { CapturesPrintTheSame (F.texts _format.now) }

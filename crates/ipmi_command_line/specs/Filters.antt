@@ -1,7 +1,7 @@
 -- Which records of a listing are printed: a function of the options and words that `clap` found, and of the clock. None if one of
 -- them can't be read, or if the times are out of order.
 use Rattle.jiff.specs.Words.{parse_timestamp}
-use Rattle.std.specs.Prelude.{ℕ, ◌-◌, ◌*◌, ◌==◌, ◌&&◌, ◌++◌, ℤ, pos, negsuc, int_div, Result, Ok, Err, Bool, true, List, [], Option, Some, None, option_map, codes, is_some, length, nat_le, nat_lt, slice_get, if◌then◌else◌}
+use Rattle.std.specs.Prelude.{ℕ, ◌-◌, ◌*◌, ◌==◌, ◌&&◌, ◌||◌, not, ◌++◌, ℤ, pos, negsuc, int_div, Result, Ok, Err, Bool, true, List, [], Option, Some, None, option_map, codes, is_some, length, nat_le, nat_lt, slice_get, if◌then◌else◌}
 use Rattle.std.specs.List.{after_first, before_first, filter_map, list_all, position_or_len, slice_split}
 use Rattle.std.specs.Option.{option_or}
 use Rattle.ipmi_text.specs.SensorTypes.{sensor_type_named}
@@ -16,6 +16,11 @@ use Rattle.ipmi_command_line.specs.declared.filters.IdRange.{IdRange}
 -- every record passes
 abbrev pub no_filters : Filters
 no_filters = record { sensor_type = None; entity = None; ids = None; excluded = []; since = None; until = None }
+
+-- there are any
+abbrev pub are_given : Filters → Bool
+are_given filters = is_some filters.sensor_type || (is_some filters.entity || (is_some filters.ids
+    || (not (length filters.excluded == 0) || (is_some filters.since || is_some filters.until))))
 
 -- ---- values
 

@@ -4,7 +4,7 @@ ghost use Rattle.std.specs.List.{filter_map, list_all, slice_split};
 ghost use Rattle.clap.specs.Words.{first_of, found_of, rows_of};
 ghost use Rattle.ipmi_command_line.specs.Arguments.{values_of};
 ghost use Rattle.ipmi_command_line.specs.Commands.{texts};
-ghost use Rattle.ipmi_command_line.specs.Filters.{ago_of, are_ordered, byte_of, days_of, entity_of, entity_text, filters_of, full_time, id_range, ids_of, ids_text, is_id_range, no_filters, now_of, optional, sensor_type_of, stamp_of, time_from, time_of, type_text};
+ghost use Rattle.ipmi_command_line.specs.Filters.{ago_of, are_given, are_ordered, byte_of, days_of, entity_of, entity_text, filters_of, full_time, id_range, ids_of, ids_text, is_id_range, no_filters, now_of, optional, sensor_type_of, stamp_of, time_from, time_of, type_text};
 ghost use Rattle.ipmi_command_line.specs.declared.error.UsageError.{UsageError};
 
 use crate::arguments::value;
@@ -92,6 +92,18 @@ impl Filters {
             since: None,
             until: None,
         }
+    }
+
+    /// Whether there are any.
+    pub fn are_given(&self) -> bool
+        ensures { result ≡ are_given self.now }
+    {
+        self.sensor_type.is_some()
+            || self.entity.is_some()
+            || self.ids.is_some()
+            || !self.excluded.as_slice().is_empty()
+            || self.since.is_some()
+            || self.until.is_some()
     }
 }
 

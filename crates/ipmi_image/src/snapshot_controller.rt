@@ -57,7 +57,8 @@ impl SnapshotController {
             × PartFailsWith ahead ⊥ ⊥ (class_of code.0) code.0 (snapshot_seen self.old) (snapshot_seen self.new)
             × ((snapshot_seen self.old).plain ≡ false)) }
     {
-        if self.responder.has(item) {
+        // first, as nearly all images lack nothing
+        if self.lacks.is_empty() || self.responder.has(item) {
             return None;
         }
         let code = code_for(item, self.lacks.as_slice())?;

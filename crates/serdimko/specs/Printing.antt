@@ -9,6 +9,7 @@ use Rattle.ipmi_command_line.specs.declared.filters.Filters.{Filters}
 use Rattle.ipmi_command_line.specs.declared.task.Task.{Task}
 use Rattle.ipmi_commands.specs.Format.{Texts}
 use Rattle.ipmi_commands.specs.declared.job.Job.{Job}
+use Rattle.ipmi_command_line.specs.Filters.{are_given}
 use Rattle.ipmi_commands.specs.Prelude.{change, choosing, job_of, keeping_last, most_on_walk, Output, RunsCommand}
 use Rattle.ipmi_program.specs.declared.wording.Wording.{Wording}
 use Rattle.ipmi_commands.specs.Sensors.{AddsNamed, EndsSearch, Found, PrintsFound, Searches, with_readings}
@@ -102,9 +103,10 @@ pub record RunsThenEnds (report : Report) (Prints : Output → Output → Ending
 
 -- ---- a task
 
--- the job of a task, for the records that pass the filters
+-- the job of a task, for the records that pass the filters, if any are given
 abbrev pub chosen_job : Texts → Task → Option ℕ → Filters → Option Job
-chosen_job x task from filters = option_map (choosing filters) (job_of x.has_names task from)
+chosen_job x task from filters =
+    if are_given filters then option_map (choosing filters) (job_of x.has_names task from) else job_of x.has_names task from
 
 -- What a task prints of a controller. No part requested is too long. If the connection was lost, its tool's last words are told.
 pub record PrintsTask (limits : RequestLimits) (task : Task) (from : Option ℕ) (filters : Filters) (report : Report) (old new : State)

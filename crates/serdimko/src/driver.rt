@@ -62,7 +62,7 @@ pub(crate) enum Query {
     Sensors(Words, Option<u16>),
 }
 
-/// The job of the task, for the records that pass the filters.
+/// The job of the task, for the records that pass the filters, if any are given.
 fn job_of<'a, F: Format>(
     format: &F,
     task: &'a Task,
@@ -75,8 +75,8 @@ fn job_of<'a, F: Format>(
     ensures range { IfSome result (λ job. IsJob job) }
 {
     match Job::of(format, task, from) {
-        Some(job) => Some(job.choosing(filters)),
-        None => None,
+        Some(job) if filters.are_given() => Some(job.choosing(filters)),
+        other => other,
     }
 }
 

@@ -57,7 +57,7 @@ Options, anywhere, also after the command:
   --quiet         capture shows no progress
   -h, --help      print help
   -V, --version   print the version
-  --              no option comes after this
+  --              everything after this is a word
 
 Examples:
   serdimko --image server.image sdr list

@@ -139,42 +139,25 @@ fn run<E: MessageSink>(rt: &HostRuntime, request: Request, err: &mut E) -> Resul
     } = request;
     let records = records.as_ref();
     let settings = settings_of(limits, format, strict);
-    match action {
-        Action::Help(topic) => print_text(rt, help_on(rt.alloc(), topic)?.as_str(), err),
-        Action::Version => print_text(rt, VERSION, err),
+    let query = match action {
+        Action::Help(topic) => {
+            return print_text(rt, help_on(rt.alloc(), topic)?.as_str(), err);
+        }
+        Action::Version => return print_text(rt, VERSION, err),
         Action::Capture {
             output,
             quiet,
             partial,
         } => {
-            let target = Target {
-                file: output.as_ref(),
-                may_replace: partial,
-            };
-            run_capture(rt, &source, settings.limits, target, quiet, err)
+            let (file, may_replace) = (output.as_ref(), partial);
+            let target = Target { file, may_replace };
+            return run_capture(rt, &source, settings.limits, target, quiet, err);
         }
-        Action::Print(task, from) => {
-            run_query(
-                rt,
-                &Query::Print(task, from, filters),
-                &source,
-                records,
-                &settings,
-                err,
-            )
-        }
-        Action::GetSensors(names, from) => {
-            run_query(
-                rt,
-                &Query::Sensors(names, from),
-                &source,
-                records,
-                &settings,
-                err,
-            )
-        }
-        Action::Rewrite => run_rewrite(rt, &source, &settings, err),
-    }
+        Action::Rewrite => return run_rewrite(rt, &source, &settings, err),
+        Action::Print(task, from) => Query::Print(task, from, filters),
+        Action::GetSensors(names, from) => Query::Sensors(names, from),
+    };
+    run_query(rt, &query, &source, records, &settings, err)
 }
 
 fn settings_of(limits: Limits, format: Format, strict: bool) -> Settings
