@@ -168,9 +168,11 @@ expect list sdr --image examples/server.image --part 4 li
 expect '' --part ''
 expect '' sel get --id ''
 expect '' --label ''
+expect 'critical warning' --worse ''
+expect critical sel list --worse c
 expect '--label' --json --label a=b --la
 expect '--exclude' --exclude Fan1 --ex
-expect '--csv --entity --exclude --help --id --image --json --label --live --now --output --partial --quiet --records --separator --since --tries --type --until --version' --strict --from=0001 --part 4 --image = x --
+expect '--csv --entity --exclude --help --id --image --json --label --live --now --output --partial --quiet --records --separator --since --tries --type --until --version --worse' --strict --from=0001 --part 4 --image = x --
 expect 'list' --strict -h sdr li
 expect '' -- --
 expect 'sdr sel sensor' -- s

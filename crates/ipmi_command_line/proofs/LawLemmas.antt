@@ -158,6 +158,7 @@ record Alone (rows : List Row) : Type 0 where
   since : has_value (codes "since") rows ≡ false
   until : has_value (codes "until") rows ≡ false
   now : has_value (codes "now") rows ≡ false
+  worse : has_value (codes "worse") rows ≡ false
   output : has_value (codes "output") rows ≡ false
   strict : is_given (codes "strict") rows ≡ false
   json : is_given (codes "json") rows ≡ false
@@ -183,7 +184,8 @@ alone rows is =
     let exclude = none_or (has_value (codes "exclude") rows) _ entity.1 in
     let since = none_or (has_value (codes "since") rows) _ exclude.1 in
     let until = none_or (has_value (codes "until") rows) _ since.1 in
-    let now = none_or (has_value (codes "now") rows) (has_value (codes "output") rows) until.1 in
+    let now = none_or (has_value (codes "now") rows) _ until.1 in
+    let worse = none_or (has_value (codes "worse") rows) (has_value (codes "output") rows) now.1 in
     let strict = none_or (is_given (codes "strict") rows) _ (not_true _ rest.0) in
     let json = none_or (is_given (codes "json") rows) _ strict.1 in
     let csv = none_or (is_given (codes "csv") rows) _ json.1 in
@@ -202,7 +204,8 @@ alone rows is =
       since = since.0;
       until = until.0;
       now = now.0;
-      output = now.1;
+      worse = worse.0;
+      output = worse.1;
       strict = strict.0;
       json = json.0;
       csv = csv.0;
@@ -221,7 +224,7 @@ no_value (Some text) is = absurd (true≢false is)
 all_placed : (options : List Text) (rows : List Row) → Alone rows → has_option options (codes "image") ≡ true
     → misplaced options rows ≡ None
 unfolding misplaced
-all_placed options rows h takes = grind (arith, takes, h.label, h.live, h.records, h.id, h.separator, h.type, h.entity, h.exclude, h.since, h.until, h.now, h.output, h.strict, h.json, h.csv, h.quiet, h.partial)
+all_placed options rows h takes = grind (arith, takes, h.label, h.live, h.records, h.id, h.separator, h.type, h.entity, h.exclude, h.since, h.until, h.now, h.worse, h.output, h.strict, h.json, h.csv, h.quiet, h.partial)
 
 -- ---- the images
 
@@ -280,6 +283,7 @@ all_pass clock Verb.GetEntry words rows asks h =
       no_value (first_of (codes "now") rows) h.now,
       no_value (first_of (codes "since") rows) h.since,
       no_value (first_of (codes "until") rows) h.until,
+      no_value (first_of (codes "worse") rows) h.worse,
     ) refl
 all_pass clock verb words rows asks h =
     rw (
@@ -290,6 +294,7 @@ all_pass clock verb words rows asks h =
       no_value (first_of (codes "now") rows) h.now,
       no_value (first_of (codes "since") rows) h.since,
       no_value (first_of (codes "until") rows) h.until,
+      no_value (first_of (codes "worse") rows) h.worse,
     ) refl
 
 no_records : (rows : List Row) → Alone rows → records_of rows ≡ Some None

@@ -44,10 +44,10 @@ four_options = with_rule (with_rule (with_rule (with_rule base (list_rule (codes
 
 -- and the other options with a value
 abbrev pub valued_options : App
-valued_options = with_rule (with_rule (with_rule (with_rule (with_rule (with_rule (with_rule (with_rule (with_rule (with_rule (with_rule (with_rule four_options
+valued_options = with_rule (with_rule (with_rule (with_rule (with_rule (with_rule (with_rule (with_rule (with_rule (with_rule (with_rule (with_rule (with_rule four_options
     (list_rule (codes "label"))) (option_rule (codes "live"))) (option_rule (codes "records"))) (option_rule (codes "id")))
     (option_rule (codes "separator"))) (option_rule (codes "type"))) (option_rule (codes "entity")))
-    (list_rule (codes "exclude"))) (option_rule (codes "since"))) (option_rule (codes "until"))) (option_rule (codes "now"))) output_rule
+    (list_rule (codes "exclude"))) (option_rule (codes "since"))) (option_rule (codes "until"))) (option_rule (codes "now"))) (option_rule (codes "worse"))) output_rule
 
 -- and those without one, and the words
 abbrev pub command_line : App
@@ -84,7 +84,7 @@ unfoldable pub has_other_value : List Row → Bool
 has_other_value rows = has_value (codes "label") rows || (has_value (codes "live") rows
     || (has_value (codes "records") rows || (has_value (codes "id") rows || (has_value (codes "separator") rows
     || (has_value (codes "type") rows || (has_value (codes "entity") rows || (has_value (codes "exclude") rows
-    || (has_value (codes "since") rows || (has_value (codes "until") rows || (has_value (codes "now") rows || has_value (codes "output") rows))))))))))
+    || (has_value (codes "since") rows || (has_value (codes "until") rows || (has_value (codes "now") rows || (has_value (codes "worse") rows || has_value (codes "output") rows)))))))))))
 
 -- and one without a value
 unfoldable pub has_other_flag : List Row → Bool

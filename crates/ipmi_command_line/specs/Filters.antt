@@ -1,7 +1,7 @@
 -- Which records of a listing are printed: a function of the options and words that `clap` found, and of the clock. None if one of
 -- them can't be read, or if the times are out of order.
 use Rattle.jiff.specs.Words.{parse_timestamp}
-use Rattle.std.specs.Prelude.{ℕ, ◌-◌, ◌*◌, ◌==◌, ◌&&◌, ◌||◌, not, ◌++◌, ℤ, pos, negsuc, int_div, Result, Ok, Err, Bool, true, List, [], Option, Some, None, option_map, codes, is_some, length, nat_le, nat_lt, slice_get, if◌then◌else◌}
+use Rattle.std.specs.Prelude.{ℕ, ◌-◌, ◌*◌, ◌==◌, ◌&&◌, ◌||◌, not, ◌++◌, ℤ, pos, negsuc, int_div, Result, Ok, Err, Bool, true, List, [], Option, Some, None, option_map, bytes_eq, codes, is_some, length, nat_le, nat_lt, slice_get, if◌then◌else◌}
 use Rattle.std.specs.List.{after_first, before_first, filter_map, list_all, position_or_len, slice_split}
 use Rattle.std.specs.Option.{option_or}
 use Rattle.ipmi_text.specs.SensorTypes.{sensor_type_named}
@@ -12,15 +12,16 @@ use Rattle.ipmi_command_line.specs.declared.commands.Verb.{Verb}
 use Rattle.ipmi_command_line.specs.declared.filters.EntityFilter.{EntityFilter}
 use Rattle.ipmi_command_line.specs.declared.filters.Filters.{Filters}
 use Rattle.ipmi_command_line.specs.declared.filters.IdRange.{IdRange}
+use Rattle.ipmi_command_line.specs.declared.filters.Worse.{Worse}
 
 -- every record passes
 abbrev pub no_filters : Filters
-no_filters = record { sensor_type = None; entity = None; ids = None; excluded = []; since = None; until = None }
+no_filters = record { sensor_type = None; entity = None; ids = None; excluded = []; since = None; until = None; worse = None }
 
 -- there are any
 abbrev pub are_given : Filters → Bool
 are_given filters = is_some filters.sensor_type || (is_some filters.entity || (is_some filters.ids
-    || (not (length filters.excluded == 0) || (is_some filters.since || is_some filters.until))))
+    || (not (length filters.excluded == 0) || (is_some filters.since || (is_some filters.until || is_some filters.worse)))))
 
 -- ---- values
 
@@ -113,6 +114,11 @@ abbrev pub now_of : ℕ → Option Text → Option ℕ
 now_of clock None = Some clock
 now_of clock (Some text) = time_of text
 
+abbrev pub worse_of : Text → Option Worse
+worse_of text =
+    if bytes_eq text (codes "warning") then Some Worse.Warning
+    else (if bytes_eq text (codes "critical") then Some Worse.Critical else None)
+
 -- a value that may be left out; the outer None: it can't be read
 abbrev pub optional : {T : Type 0} → (Text → Option T) → Option Text → Option (Option T)
 optional value_of None = Some None
@@ -140,8 +146,8 @@ are_ordered (Some since) (Some until) = nat_le since until
 are_ordered since until = true
 
 abbrev pub with_filters : Option (Option ℕ) → Option (Option EntityFilter) → Option (Option (List IdRange)) → List Text
-    → Option (Option ℕ) → Option (Option ℕ) → Option Filters
-with_filters (Some sensor_type) (Some entity) (Some ids) excluded (Some since) (Some until) =
+    → Option (Option ℕ) → Option (Option ℕ) → Option (Option Worse) → Option Filters
+with_filters (Some sensor_type) (Some entity) (Some ids) excluded (Some since) (Some until) (Some worse) =
     if are_ordered since until then Some (record {
       sensor_type = sensor_type;
       entity = entity;
@@ -149,8 +155,9 @@ with_filters (Some sensor_type) (Some entity) (Some ids) excluded (Some since) (
       excluded = excluded;
       since = since;
       until = until;
+      worse = worse;
     }) else None
-with_filters sensor_type entity ids excluded since until = None
+with_filters sensor_type entity ids excluded since until worse = None
 
 abbrev pub times_of : Option ℕ → Option Text → Option (Option ℕ)
 times_of None text = None
@@ -162,3 +169,4 @@ filters_of clock verb words rows = with_filters (optional sensor_type_of (type_t
     (optional entity_of (entity_text verb words rows)) (optional ids_of (ids_text verb rows)) (values_of (codes "exclude") rows)
     (times_of (now_of clock (first_of (codes "now") rows)) (first_of (codes "since") rows))
     (times_of (now_of clock (first_of (codes "now") rows)) (first_of (codes "until") rows))
+    (optional worse_of (first_of (codes "worse") rows))

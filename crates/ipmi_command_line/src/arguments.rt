@@ -96,6 +96,7 @@ fn valued_options<'a>(alloc: Global) -> Result<Command<'a>, AllocError>
         .arg(option_rule(alloc, "since"))?
         .arg(option_rule(alloc, "until"))?
         .arg(option_rule(alloc, "now"))?
+        .arg(option_rule(alloc, "worse"))?
         .arg(output_rule(alloc))
 }
 
@@ -173,6 +174,7 @@ fn has_other_value(matches: &ArgMatches<'_>) -> bool
         || has_value(matches, "since")
         || has_value(matches, "until")
         || has_value(matches, "now")
+        || has_value(matches, "worse")
         || has_value(matches, "output")
 }
 

@@ -142,6 +142,7 @@ const LISTING_ENTRIES: &[&str] = &[
     "since",
     "until",
     "now",
+    "worse",
 ];
 
 /// The options of the command that prints one entry.

@@ -255,6 +255,7 @@ fn rule_of(option: &str) -> &'static str {
         "now" => {
             "a date, or a time with Z or an offset, from 1970 to 2106: 2026-11-30 or 2026-11-30T12:00Z"
         }
+        "worse" => "warning or critical",
         "live" => "TOOL:FOLDER, which serdimko-live gives",
         "separator" => "comma or semicolon",
         _ => "KEY=VALUE, with a key that no object and no earlier label has",

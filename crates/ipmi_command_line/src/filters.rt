@@ -4,7 +4,7 @@ ghost use Rattle.std.specs.List.{filter_map, list_all, slice_split};
 ghost use Rattle.clap.specs.Words.{first_of, found_of, rows_of};
 ghost use Rattle.ipmi_command_line.specs.Arguments.{values_of};
 ghost use Rattle.ipmi_command_line.specs.Commands.{texts};
-ghost use Rattle.ipmi_command_line.specs.Filters.{ago_of, are_given, are_ordered, byte_of, days_of, entity_of, entity_text, filters_of, full_time, id_range, ids_of, ids_text, is_id_range, no_filters, now_of, optional, sensor_type_of, stamp_of, time_from, time_of, type_text};
+ghost use Rattle.ipmi_command_line.specs.Filters.{ago_of, are_given, are_ordered, byte_of, days_of, entity_of, entity_text, filters_of, full_time, id_range, ids_of, ids_text, is_id_range, no_filters, now_of, optional, sensor_type_of, stamp_of, time_from, time_of, type_text, worse_of};
 ghost use Rattle.ipmi_command_line.specs.declared.error.UsageError.{UsageError};
 
 use crate::arguments::value;
@@ -62,6 +62,15 @@ impl Ids {
     }
 }
 
+/// The least severity of an event.
+#[derive(Clone, Copy, Debug, PartialEq, Eq)]
+pub enum Worse {
+    /// A warning or worse.
+    Warning,
+    /// Critical.
+    Critical,
+}
+
 /// What a record has to be so that a listing prints it. A filter that was not given lets every record pass.
 #[derive(Debug, Drop)]
 pub struct Filters {
@@ -77,6 +86,8 @@ pub struct Filters {
     pub since: Option<u32>,
     /// Its time is this one or earlier.
     pub until: Option<u32>,
+    /// It is at least as bad as this.
+    pub worse: Option<Worse>,
 }
 
 impl Filters {
@@ -91,6 +102,7 @@ impl Filters {
             excluded: Words::new(alloc),
             since: None,
             until: None,
+            worse: None,
         }
     }
 
@@ -104,6 +116,7 @@ impl Filters {
             || !self.excluded.as_slice().is_empty()
             || self.since.is_some()
             || self.until.is_some()
+            || self.worse.is_some()
     }
 }
 
@@ -276,6 +289,17 @@ fn time_from(alloc: Global, now: u32, text: &str) -> Result<Option<u32>, AllocEr
     }
 }
 
+/// The severity with this name.
+fn worse_of(text: &str) -> Option<Worse>
+    ensures { result ≡ worse_of text.now }
+{
+    match text {
+        "warning" => Some(Worse::Warning),
+        "critical" => Some(Worse::Critical),
+        _ => None,
+    }
+}
+
 // ---- the options
 
 /// The sensor type of the command `sdr type`, or of `--type`.
@@ -383,6 +407,20 @@ fn time_in<'a>(
     }
 }
 
+/// The least severity.
+fn worse_in<'a>(text: Option<&'a str>) -> Result<Option<Worse>, UsageError<'a>>
+    ensures { let meant = optional worse_of (option_map (λ text. text.now) text.entry) in
+        MatchResult result (λ found. meant ≡ Some found) (λ _. meant ≡ None) }
+{
+    let Some(text) = text else {
+        return Ok(None);
+    };
+    match worse_of(text) {
+        Some(worse) => Ok(Some(worse)),
+        None => Err(value_error("worse", Some(text))),
+    }
+}
+
 /// Whether the first time is not after the second, if both are given.
 fn are_ordered(since: Option<u32>, until: Option<u32>) -> bool
     ensures { result ≡ are_ordered since until }
@@ -411,6 +449,7 @@ pub(crate) fn filters_of<'a>(
     let now = now_in(alloc, clock, value(matches, "now"))?;
     let since = time_in(alloc, "since", now, value(matches, "since"))?;
     let until = time_in(alloc, "until", now, value(matches, "until"))?;
+    let worse = worse_in(value(matches, "worse"))?;
     if !are_ordered(since, until) {
         return Err(UsageError::SinceAfterUntil);
     }
@@ -421,5 +460,6 @@ pub(crate) fn filters_of<'a>(
         excluded,
         since,
         until,
+        worse,
     })
 }

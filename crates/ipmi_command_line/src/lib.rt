@@ -17,7 +17,7 @@ mod words;
 pub use command::{Command, DEFAULT_PART, DEFAULT_TRIES, UsageFault, command_of};
 pub use commands::{COMMANDS, CommandRow, Operand, Verb};
 pub use error::{Hint, UsageError};
-pub use filters::{EntityFilter, Filters, IdRange, Ids};
+pub use filters::{EntityFilter, Filters, IdRange, Ids, Worse};
 pub use request::{
     Action, FLAGS, Format, Limits, LiveTool, Request, Separator, Source, Topic, VALUED, request_of,
 };

@@ -549,7 +549,7 @@ fn action_of<'a>(
 // ---- options
 
 /// The options with a value that go with some commands only.
-pub const VALUED: [&str; 13] = [
+pub const VALUED: [&str; 14] = [
     "image",
     "label",
     "live",
@@ -562,6 +562,7 @@ pub const VALUED: [&str; 13] = [
     "since",
     "until",
     "now",
+    "worse",
     "output",
 ];
 

@@ -6,6 +6,9 @@ use Rattle.ipmi_commands.specs.Below.{Kind, Row, SdrFault, SdrView, sdr_view_of}
 use Rattle.ipmi_command_line.specs.declared.filters.EntityFilter.{EntityFilter}
 use Rattle.ipmi_command_line.specs.declared.filters.Filters.{Filters}
 use Rattle.ipmi_command_line.specs.declared.filters.IdRange.{IdRange}
+use Rattle.ipmi_command_line.specs.declared.filters.Worse.{Worse}
+use Rattle.ipmi_events.specs.Severity.{event_severity}
+use Rattle.ipmi_events.specs.declared.severity.Severity.{Severity}
 use Rattle.ipmi_records.specs.Sdr as sdr
 use Rattle.ipmi_records.specs.Sel as sel
 use Rattle.ipmi_records.specs.declared.sel.SelView.{SelView}
@@ -105,14 +108,22 @@ abbrev pub LooksInside : Filters → Bool → Type 0
 LooksInside filters true = Unit {0}
 LooksInside filters false = (filters.sensor_type ≡ None) × (filters.entity ≡ None) × (filters.excluded ≡ [])
 
--- a record passes all filters; it has no time
+-- as bad as this, or worse
+abbrev pub is_at_least : Worse → Severity → Bool
+is_at_least worse Severity.Nominal = false
+is_at_least worse Severity.Critical = true
+is_at_least Worse.Warning Severity.Warning = true
+is_at_least Worse.Critical Severity.Warning = false
+
+-- a record passes all filters; it has no time, and no severity
 abbrev pub passes : Filters → Row → Bool
 passes filters row =
     is_wanted is_number filters.sensor_type (sensor_type_of (sdr_view_of row.bytes))
     && (is_wanted is_entity filters.entity (entity_in (sdr_view_of row.bytes))
     && (is_wanted is_among filters.ids (Some row.id)
     && (is_between filters.since filters.until None
-    && not (has_one_of filters.excluded (sdr_view_of row.bytes)))))
+    && (is_wanted is_at_least filters.worse None
+    && not (has_one_of filters.excluded (sdr_view_of row.bytes))))))
 
 abbrev pub if_passes : Option Filters → Row → Bool → Bool
 if_passes None row chosen = chosen
@@ -138,12 +149,18 @@ time_of (SelView.Event bytes) = clock_time (sel.time_stamp bytes)
 time_of (SelView.OemTimed bytes) = clock_time (sel.time_stamp bytes)
 time_of _ = None
 
+-- the severity of an event; other entries have none
+abbrev pub severity_of : SelView → Option Severity
+severity_of (SelView.Event bytes) = event_severity bytes
+severity_of _ = None
+
 -- an entry with this id passes all filters; it has no entity, and no name
 abbrev pub passes_entry : Filters → ℕ → SelView → Bool
 passes_entry filters id entry =
     is_wanted is_number filters.sensor_type (event_sensor_type entry)
     && (is_wanted is_entity filters.entity None
-    && (is_wanted is_among filters.ids (Some id) && is_between filters.since filters.until (time_of entry)))
+    && (is_wanted is_among filters.ids (Some id)
+    && (is_between filters.since filters.until (time_of entry) && is_wanted is_at_least filters.worse (severity_of entry))))
 
 abbrev pub is_passed : Option Filters → ℕ → SelView → Bool
 is_passed None id entry = true

@@ -2,13 +2,14 @@
 ghost use Rattle.std.specs.Prelude.{◌≡◌, ◌≤◌, IfOk, length, option_map, Some, string_bytes};
 ghost use Rattle.std.specs.List.{list_any};
 ghost use Rattle.ipmi_commands.specs.Below.{row_of_record};
-ghost use Rattle.ipmi_commands.specs.Selection.{entity_in, entity_of, has_one_of, is_among, is_entity, is_name, is_number, is_of_kind, is_wanted, LooksInside, of_kind, passes, selects, sensor_type_of, with_filters};
-ghost use Rattle.ipmi_commands.specs.Selection.{clock_time, event_sensor_type, in_detail, is_between, is_passed, passes_entry, selects_entry, time_of, with_entry_filters};
+ghost use Rattle.ipmi_commands.specs.Selection.{entity_in, entity_of, has_one_of, is_among, is_at_least, is_entity, is_name, is_number, is_of_kind, is_wanted, LooksInside, of_kind, passes, selects, sensor_type_of, with_filters};
+ghost use Rattle.ipmi_commands.specs.Selection.{clock_time, event_sensor_type, in_detail, is_between, is_passed, passes_entry, selects_entry, severity_of, time_of, with_entry_filters};
 
 use crate::format::Detail;
 use crate::piece::entry_bytes;
 use ipmi_bus::Record;
-use ipmi_command_line::{EntityFilter, Filters, IdRange, Ids, Kind, Word};
+use ipmi_command_line::{EntityFilter, Filters, IdRange, Ids, Kind, Word, Worse};
+use ipmi_events::{Severity, event_severity};
 use ipmi_records::{
     COMPACT_TYPE, CONTROLLER_TYPE, EVENT_ONLY_TYPE, Entity, FRU_TYPE, FULL_TYPE, GENERIC_TYPE,
     SdrFault, SdrView, SelView,
@@ -261,7 +262,10 @@ fn looks_inside(filters: &Filters) -> bool
 fn passes(alloc: Global, filters: &Filters, lent: &Record<'_>) -> Result<bool, AllocError>
     ensures { IfOk result (λ is. is ≡ passes filters.now (row_of_record lent.now)) }
 {
-    if !has_id(&filters.ids, lent.id) || !is_between(filters.since, filters.until, None) {
+    if !has_id(&filters.ids, lent.id)
+        || !is_between(filters.since, filters.until, None)
+        || filters.worse.is_some()
+    {
         return Ok(false);
     }
     if !looks_inside(filters) {
@@ -344,6 +348,40 @@ fn is_between(since: Option<u32>, until: Option<u32>, time: Option<u32>) -> bool
     }
 }
 
+/// The severity of an event. Other entries have none.
+fn severity_of(entry: &SelView<'_>) -> Option<Severity>
+    ensures { result ≡ severity_of entry.now }
+{
+    match entry {
+        SelView::Event(event) => event_severity(event),
+        _ => None,
+    }
+}
+
+/// Whether the severity is as bad as this, or worse.
+fn is_at_least(worse: Worse, severity: Severity) -> bool
+    ensures { result ≡ is_at_least worse severity }
+{
+    match severity {
+        Severity::Nominal => false,
+        Severity::Warning => worse == Worse::Warning,
+        Severity::Critical => true,
+    }
+}
+
+/// Whether the filter lets this entry pass.
+fn is_bad_enough(wanted: Option<Worse>, entry: &SelView<'_>) -> bool
+    ensures { result ≡ is_wanted is_at_least wanted (severity_of entry.now) }
+{
+    match wanted {
+        None => true,
+        Some(worse) => match severity_of(entry) {
+            Some(severity) => is_at_least(worse, severity),
+            None => false,
+        },
+    }
+}
+
 /// Whether the entry passes the filters.
 fn passes_entry(filters: &Filters, id: u16, entry: &SelView<'_>) -> bool
     ensures { result ≡ passes_entry filters.now id entry.now }
@@ -352,4 +390,5 @@ fn passes_entry(filters: &Filters, id: u16, entry: &SelView<'_>) -> bool
         && filters.entity.is_none()
         && has_id(&filters.ids, id)
         && is_between(filters.since, filters.until, time_of(entry))
+        && is_bad_enough(filters.worse, entry)
 }

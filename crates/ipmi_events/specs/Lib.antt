@@ -13,6 +13,7 @@ pub mod SensorBlocks
 pub mod SensorLaws
 pub mod SensorLines
 pub mod Sensors
+pub mod Severity
 pub mod Shown
 pub mod Specific
 pub mod States

@@ -26,7 +26,7 @@ const DETAILS_CAPACITY: usize = 64;
 const LUN_BITS: u8 = 0x03;
 
 /// Bits 3:0 of an event's first data byte: its offset.
-const OFFSET_BITS: u8 = 0x0F;
+pub(crate) const OFFSET_BITS: u8 = 0x0F;
 
 /// The record of the sensor that an event is from, by a table of sensors.
 pub fn record_for<'a>(event: &EventEntry, sensors: &'a Sensors) -> Option<SdrView<'a>>

@@ -127,6 +127,9 @@ fn filters_text(rt: &impl Abort, alloc: Global, filters: &Filters) -> String {
     if let Some(time) = filters.until {
         write!(text, " until {time}").expect(rt, "memory");
     }
+    if let Some(worse) = filters.worse {
+        write!(text, " worse {worse:?}").expect(rt, "memory");
+    }
     for name in filters.excluded.as_slice() {
         let name = name.as_str();
         write!(text, " not {name}").expect(rt, "memory");
@@ -205,6 +208,8 @@ sel,elist,--now,1970-01-02,--since,3h|SelList(All) None since 75600; images; Non
 sel,elist,--until,65535d,--now,2106-01-01|SelList(All) None until 0; images; None 5; words; false
 sel,list,--id,0001-000f|SelList(All) None 1-15; images; None 5; plain; false
 sel,elist,0,--until,2106-02-07T06:28:15Z|SelList(All) None until 4294967295; images; None 5; words; false
+sel,list,--worse,warning|SelList(All) None worse Warning; images; None 5; plain; false
+sel,elist,last,5,--worse=critical,--type,1|SelList(Last(5)) None type 1 worse Critical; images; None 5; words; false
 sel,elist,0x10|SelList(First(16)) None; images; None 5; words; false
 sel,elist,last,3|SelList(Last(3)) None; images; None 5; words; false
 sel,tail,5|SelList(Tail(5)) None; images; None 5; words; false
@@ -267,6 +272,9 @@ sel,list,--until,h|--until 'h' is not a date, a time with Z or an offset, from 1
 sel,list,--until,1h1|--until '1h1' is not a date, a time with Z or an offset, from 1970 to 2106, or hours or days ago: 2026-11-30, 2026-11-30T12:00Z, 2h or 3d
 sel,list,--now,2h,--since,1d|--now '2h' is not a date, or a time with Z or an offset, from 1970 to 2106: 2026-11-30 or 2026-11-30T12:00Z
 sdr,list,--since,2026-11-30|--since does not go with 'sdr list'
+sel,list,--worse,bad|--worse 'bad' is not warning or critical
+sel,list,--worse,Warning|--worse 'Warning' is not warning or critical
+sdr,list,--worse,critical|--worse does not go with 'sdr list'
 sdr,list,--now,2026-11-30|--now does not go with 'sdr list'
 sel,get,1,--now,2026-11-30|--now does not go with 'sel get'
 sdr,info,foo|unexpected word 'foo' with 'sdr info'

@@ -31,12 +31,13 @@ end
 fn assert_listing(
     rt: &impl Abort,
     alloc: Global,
+    records: &str,
     command: &Command,
     filters: &Filters,
     numbers: &str,
     lines: &str,
 ) {
-    let mut ctl = over(rt, alloc, RECORDS);
+    let mut ctl = over(rt, alloc, records);
     let limits = RequestLimits::reading_ahead(LIVE_PART, 5);
     let mut out = Written::new(Vec::new(alloc));
     let mut summary = Summary::new();
@@ -71,13 +72,21 @@ fn words_of(rt: &impl Abort, alloc: Global, line: &str) -> Words {
 }
 
 /// The same for a case: the words and the numbers, then the lines.
-fn assert_case(rt: &impl Abort, alloc: Global, case: &str) {
+fn assert_case(rt: &impl Abort, alloc: Global, records: &str, case: &str) {
     let (first, lines) = case.split_once('\n').expect(rt, case);
     let (line, numbers) = parts(rt, first);
     let words = words_of(rt, alloc, line);
     let request = request_of(alloc, 0, words.as_slice()).ok().expect(rt, line);
     let command = command_of_case(rt, alloc, line.split_once(",--").map_or(line, |cut| cut.0));
-    assert_listing(rt, alloc, &command, &request.filters, numbers, lines);
+    assert_listing(
+        rt,
+        alloc,
+        records,
+        &command,
+        &request.filters,
+        numbers,
+        lines,
+    );
     drop(command);
     drop(request);
     drop(words);
@@ -171,6 +180,49 @@ sel,list,last,1,--since,2000-01-01|7 0 0
 #[test]
 fn only_what_passes_is_listed(rt: HostRuntime) {
     for case in LISTED.split("====\n") {
-        assert_case(&rt, rt.alloc(), case);
+        assert_case(&rt, rt.alloc(), RECORDS, case);
+    }
+}
+
+/// A threshold that is non-critical, a critical one, and one that is no longer passed; a power supply that is present, and one without
+/// input; an OEM entry; a correctable memory error; an event of an OEM type, one of a reserved offset, and a state whose meaning is the
+/// vendor's.
+const EVENTS: &str = "ipmi-image 1
+sel 0001 0002 0100020100002020000401300100ffff
+sel 0002 0003 0200020200002020000404310102ffff
+sel 0003 0004 0300020300002020000404318102ffff
+sel 0004 0005 0400020400002020000408636f00ffff
+sel 0005 0006 0500020500002020000408636f03ffff
+sel 0006 0007 0600e000000000000000000000000000
+sel 0007 0008 070002070000202000040c106f00ffff
+sel 0008 0009 080002080000202000040c107000ffff
+sel 0009 000a 0900020900002020000408636f0effff
+sel 000a ffff 0a00020a00002020000408630301ffff
+end
+";
+
+/// The same for these events.
+const WORSE: &str = "sel,list,--worse,warning|11 5 0
+0001 | 1987-01-05 18:48:33 | Temperature #0x30 | Lower Non-critical going low | Asserted
+0002 | 1987-01-05 18:48:34 | Fan #0x31 | Lower Critical going low | Asserted
+0005 | 1987-01-05 18:48:37 | Power Supply #0x63 | event 0x6f offset 0x3 | Asserted
+0007 | 1987-01-05 18:48:39 | Memory #0x10 | event 0x6f offset 0x0 | Asserted
+000a | 1987-01-05 18:48:42 | Power Supply #0x63 | event 0x03 offset 0x1 | Asserted
+====
+sel,list,--worse,critical|11 2 0
+0002 | 1987-01-05 18:48:34 | Fan #0x31 | Lower Critical going low | Asserted
+0005 | 1987-01-05 18:48:37 | Power Supply #0x63 | event 0x6f offset 0x3 | Asserted
+====
+sel,list,last,1,--worse,critical|11 1 0
+0005 | 1987-01-05 18:48:37 | Power Supply #0x63 | event 0x6f offset 0x3 | Asserted
+====
+sel,list,--worse,warning,--type,memory|11 1 0
+0007 | 1987-01-05 18:48:39 | Memory #0x10 | event 0x6f offset 0x0 | Asserted
+";
+
+#[test]
+fn only_events_as_bad_as_this_are_listed(rt: HostRuntime) {
+    for case in WORSE.split("====\n") {
+        assert_case(&rt, rt.alloc(), EVENTS, case);
     }
 }

@@ -16,5 +16,6 @@ returns c =
     let since = c.in_ok-arg-9.ensures.shape c.option_rule-7.ensures.local ∙ ap₂ with_rule exclude c.option_rule-7.ensures.rule in
     let until = c.in_ok-arg-10.ensures.shape c.option_rule-8.ensures.local ∙ ap₂ with_rule since c.option_rule-8.ensures.rule in
     let now = c.in_ok-arg-11.ensures.shape c.option_rule-9.ensures.local ∙ ap₂ with_rule until c.option_rule-9.ensures.rule in
-    IfOk-weaker c.arg-12.result _ _ (λ r h. h.shape c.output_rule.ensures.local
-    ∙ ap₂ with_rule now c.output_rule.ensures.rule) c.arg-12.ensures
+    let worse = c.in_ok-arg-12.ensures.shape c.option_rule-10.ensures.local ∙ ap₂ with_rule now c.option_rule-10.ensures.rule in
+    IfOk-weaker c.arg-13.result _ _ (λ r h. h.shape c.output_rule.ensures.local
+    ∙ ap₂ with_rule worse c.output_rule.ensures.rule) c.arg-13.ensures
