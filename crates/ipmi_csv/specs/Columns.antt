@@ -59,6 +59,7 @@ columns_of Table.Entries =
     ∷ codes "event"
     ∷ codes "event_words"
     ∷ codes "direction"
+    ∷ codes "severity"
     ∷ codes "event_data"
     ∷ codes "event_details"
     ∷ codes "manufacturer_id"

@@ -73,6 +73,7 @@ pub(crate) fn columns_of(table: Table) -> &'static [&'static str]
             "event",
             "event_words",
             "direction",
+            "severity",
             "event_data",
             "event_details",
             "manufacturer_id",

@@ -31,7 +31,7 @@ const RECORDS: &str =
     r#"record_id,record_type,kind,fault,name,owner_id,owner_lun,sensor_number,device_access_address,fru_device_id,device_slave_address,is_logical,access_lun,entity_id,entity_name,entity_instance,sensor_type,sensor_type_name,event_type,reading,unit,reading_raw,states,status,status_words,upper_non_recoverable,upper_critical,upper_non_critical,lower_non_recoverable,lower_critical,lower_non_critical,raw"#;
 
 const ENTRIES: &str =
-    r#"record_id,record_type,kind,timestamp,timestamp_raw,generator_id,event_revision,sensor_type,sensor_type_name,sensor_number,sensor_name,event_type,event,event_words,direction,event_data,event_details,manufacturer_id,oem_data,raw"#;
+    r#"record_id,record_type,kind,timestamp,timestamp_raw,generator_id,event_revision,sensor_type,sensor_type_name,sensor_number,sensor_name,event_type,event,event_words,direction,severity,event_data,event_details,manufacturer_id,oem_data,raw"#;
 
 const DEVICES: &str =
     r#"fru_device_id,name,state,fault,chassis.type,chassis.type_name,chassis.part_number,chassis.serial_number,chassis_fault,board.language,board.manufactured,board.manufactured_raw,board.manufacturer,board.product_name,board.serial_number,board.part_number,board.fru_file_id,board_fault,product.language,product.manufacturer,product.name,product.part_number,product.version,product.serial_number,product.asset_tag,product.fru_file_id,product_fault,records_fault,size,raw"#;
@@ -63,30 +63,30 @@ const SHORT: &str = r#"65535,,faulty,short,,,,,,,,,,,,,,,,,,,,,,,,,,,,030051"#;
 
 /// An event of a sensor without a record.
 const NAMELESS: &str =
-    r#"1,2,event,2020-09-13T12:26:40Z,1600000000,32,4,1,Temperature,1,,1,Upper Non-critical going high,Upper Non-critical going high,asserted,574746,Reading raw 0x47 > threshold raw 0x46,,,01000200105e5f200004010101574746"#;
+    r#"1,2,event,2020-09-13T12:26:40Z,1600000000,32,4,1,Temperature,1,,1,Upper Non-critical going high,Upper Non-critical going high,asserted,warning,574746,Reading raw 0x47 > threshold raw 0x46,,,01000200105e5f200004010101574746"#;
 
 /// An event whose words have a slash.
 const NAMED: &str =
-    r#"2,2,event,,4294967295,32,4,12,Memory,17,DIMM 2,111,event 0x6f offset 0x1,Uncorrectable ECC / other uncorrectable memory error,deasserted,01ffff,,,,020002ffffffff2000040c11ef01ffff"#;
+    r#"2,2,event,,4294967295,32,4,12,Memory,17,DIMM 2,111,event 0x6f offset 0x1,Uncorrectable ECC / other uncorrectable memory error,deasserted,nominal,01ffff,,,,020002ffffffff2000040c11ef01ffff"#;
 
 const HOT_ROW: &str =
-    r#"5,2,event,2020-09-13T12:26:40Z,1600000000,32,4,1,Temperature,1,CPU Temp,1,Upper Critical going high,Upper Critical going high,asserted,595c5a,Reading 9.2 degrees C > threshold 9,,,05000200105e5f200004010101595c5a"#;
+    r#"5,2,event,2020-09-13T12:26:40Z,1600000000,32,4,1,Temperature,1,CPU Temp,1,Upper Critical going high,Upper Critical going high,asserted,critical,595c5a,Reading 9.2 degrees C > threshold 9,,,05000200105e5f200004010101595c5a"#;
 
 /// An event whose details have a comma, in both forms.
 const COLD_ROW: &str =
-    r#"6,2,event,2020-09-13T12:26:40Z,1600000000,32,4,1,Temperature,1,CPU Temp,1,Upper Critical going high,Upper Critical going high,asserted,592d5a,"Reading 4.5 degrees C, threshold 9",,,06000200105e5f200004010101592d5a"#;
+    r#"6,2,event,2020-09-13T12:26:40Z,1600000000,32,4,1,Temperature,1,CPU Temp,1,Upper Critical going high,Upper Critical going high,asserted,critical,592d5a,"Reading 4.5 degrees C, threshold 9",,,06000200105e5f200004010101592d5a"#;
 
 const COLD_SEMICOLONS: &str =
-    r#"6;2;event;2020-09-13T12:26:40Z;1600000000;32;4;1;Temperature;1;CPU Temp;1;Upper Critical going high;Upper Critical going high;asserted;592d5a;Reading 4.5 degrees C, threshold 9;;;06000200105e5f200004010101592d5a"#;
+    r#"6;2;event;2020-09-13T12:26:40Z;1600000000;32;4;1;Temperature;1;CPU Temp;1;Upper Critical going high;Upper Critical going high;asserted;critical;592d5a;Reading 4.5 degrees C, threshold 9;;;06000200105e5f200004010101592d5a"#;
 
 const TIMED_ROW: &str =
-    r#"2,193,oem_timestamped,,4096,,,,,,,,,,,,,343,010203040506,0200c100100000570100010203040506"#;
+    r#"2,193,oem_timestamped,,4096,,,,,,,,,,,,,,343,010203040506,0200c100100000570100010203040506"#;
 
 const PLAIN_ROW: &str =
-    r#"3,224,oem,,,,,,,,,,,,,,,,0102030405060708090a0b0c0d,0300e00102030405060708090a0b0c0d"#;
+    r#"3,224,oem,,,,,,,,,,,,,,,,,0102030405060708090a0b0c0d,0300e00102030405060708090a0b0c0d"#;
 
 const OTHER_ROW: &str =
-    r#"4,3,unknown,,,,,,,,,,,,,,,,0102030405060708090a0b0c0d,0400030102030405060708090a0b0c0d"#;
+    r#"4,3,unknown,,,,,,,,,,,,,,,,,0102030405060708090a0b0c0d,0400030102030405060708090a0b0c0d"#;
 
 const SEL_INFO: &str = r#"81,12,15000,2020-09-13T12:26:40Z,1600000000,,0,true,130"#;
 

@@ -50,6 +50,7 @@ object_keys =
     codes "event" ∷
     codes "event_words" ∷
     codes "direction" ∷
+    codes "severity" ∷
     codes "event_data" ∷
     codes "event_details" ∷
     codes "manufacturer_id" ∷
