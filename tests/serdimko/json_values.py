@@ -278,6 +278,10 @@ def entry_differs(line, shown):
         return True
     if line["kind"] != "event":
         return f"0x{line['record_type']:02x}" not in cells[-1 if line["kind"] != "oem_timestamped" else 2] and f"0x{line['record_type']:02x}" not in shown
+    if (line["severity"] is None) != (line["event_words"] is None):
+        return True
+    if line["direction"] == "deasserted" and line["severity"] not in ("nominal", None):
+        return True
     return cells[1:] != [
         time_of(line["timestamp"], line["timestamp_raw"]),
         f"{line['sensor_type_name']} #0x{line['sensor_number']:02x}",

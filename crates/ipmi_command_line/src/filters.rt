@@ -86,7 +86,7 @@ pub struct Filters {
     pub since: Option<u32>,
     /// Its time is this one or earlier.
     pub until: Option<u32>,
-    /// It is at least as bad as this.
+    /// It is at least this bad.
     pub worse: Option<Worse>,
 }
 

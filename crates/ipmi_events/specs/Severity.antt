@@ -1,5 +1,5 @@
--- How bad a state or an event is. The standard says it for generic type 07h only; the other severities are those of FreeIPMI, or decided.
-use Rattle.std.specs.Prelude.{ℕ, ◌-◌, ◌==◌, List, [], ◌∷◌, map, codes, Option, None, Some, slice_get, if◌then◌else◌}
+-- How bad a state or an event is. The standard gives severities to the offsets of type 07h only; the others are those of FreeIPMI, or decided.
+use Rattle.std.specs.Prelude.{ℕ, ◌-◌, ◌==◌, List, [], ◌∷◌, map, codes, Option, None, Some, option_map, slice_get, if◌then◌else◌}
 use Rattle.std.specs.Option.{option_and_then}
 use Rattle.ipmi_records.specs.Prelude.{event_type, is_deasserted, sensor_type}
 use Rattle.ipmi_events.specs.EventLines.{event_offset}
@@ -92,8 +92,8 @@ severity_of event_type sensor_type offset =
     if event_type == 0x6f then severity_at (severities sensor_types) sensor_type offset
     else severity_at (severities generic_types) event_type offset
 
--- of the state that an event reports; one that was deasserted is nominal, since that state has ended
+-- of the state that an event reports; it is nominal if that state was deasserted
 abbrev pub event_severity : List ℕ → Option Severity
 event_severity event =
-    if is_deasserted event then Some Severity.Nominal
-    else severity_of (event_type event) (sensor_type event) (event_offset event)
+    option_map (λ severity. if is_deasserted event then Severity.Nominal else severity)
+    (severity_of (event_type event) (sensor_type event) (event_offset event))

@@ -1,7 +1,7 @@
 //! How bad a state or an event is.
 //!
-//! The standard has no severities, but of type 07h. These are FreeIPMI's defaults, by the offset alone; docs/DECISIONS.md says where
-//! they are others.
+//! The standard gives severities to the offsets of type 07h only. Most of the others are FreeIPMI's defaults for asserted events;
+//! docs/DECISIONS.md says which are not.
 ghost use Rattle.std.specs.Prelude.{◌≡◌, map};
 ghost use Rattle.ipmi_events.specs.Severity.{event_severity, generic_types, sensor_types, severities, severity_at, severity_of};
 
@@ -553,8 +553,8 @@ fn specific_severity(sensor_type: u8, offset: u8) -> Option<Severity>
     severity_at(&SENSOR_TYPES, sensor_type, offset)
 }
 
-/// The severity of a state, or of an event that was asserted, at this offset. None where the standard reserves the offset or leaves it
-/// to the manufacturer. The event/reading type is 01h to 0Ch, or 6Fh for an offset of the sensor type.
+/// The severity of a state at this offset: of event/reading type 6Fh by the sensor type, of 01h to 0Ch by itself. None where the standard
+/// has no words for the offset.
 #[tactic(auto, unfolding(crate::specs::Severity::severity_of))]
 fn severity_of(event_type: u8, sensor_type: u8, offset: u8) -> Option<Severity>
     ensures { result ≡ severity_of event_type sensor_type offset }
@@ -566,13 +566,15 @@ fn severity_of(event_type: u8, sensor_type: u8, offset: u8) -> Option<Severity>
     }
 }
 
-/// The severity of the state that an event reports. An event that was deasserted is nominal, since that state has ended.
+/// The severity of the state that an event reports: nominal if that state was deasserted. None where the standard has no words for it.
 pub fn event_severity(event: &EventEntry<'_>) -> Option<Severity>
     ensures { result ≡ event_severity event.now }
 {
-    if event.is_deasserted() {
-        return Some(Severity::Nominal);
-    }
     let offset = event.data_bytes()[0] & OFFSET_BITS;
-    severity_of(event.event_type(), event.sensor_type(), offset)
+    let severity = severity_of(event.event_type(), event.sensor_type(), offset)?;
+    Some(if event.is_deasserted() {
+        Severity::Nominal
+    } else {
+        severity
+    })
 }

@@ -6,4 +6,5 @@ mod memory;
 mod records;
 mod sensor_texts;
 mod sensors;
+mod severities;
 mod words;

@@ -46,7 +46,7 @@ Options, anywhere, also after the command:
                   2026-11-30T12:00Z, or 2026-11-30, which is midnight in UTC,
                   or 2h or 3d, which is so long before --now
   --now TIME      this time in place of this computer's clock
-  --worse warning|critical  list only events that are so bad, or worse
+  --worse warning|critical  list only events that are at least this bad
   --strict        status 1 if a fault or a missing device was printed
   --json          an object in a line for each thing, and one at the end
   --csv           a line with the names of columns, and one for each thing
@@ -125,10 +125,11 @@ N is 0 to 65535, and 0 means all; sel tail takes no 0. ID is 1 to 65534. Both
 are decimal, or 0x and four hex digits at most: 0016 is --id 0016, 0x16 or 22.
 --from HEX4 starts at this record id, with sel list and sel elist.
 --since TIME, --until TIME, --type TYPE, --id HEX[-HEX],.. and --worse SEVERITY
-list fewer events; N counts only those. SEVERITY is warning or critical: how bad
-the state is that an event reports. An event of a state that ended is neither,
-and so is one whose severity the standard leaves open. TIME is a date, 2026-11-30T12:00Z, or 2h or 3d ago (before
---now TIME). An event without a known time is left out by --since and --until.
+list fewer events; N counts only those. TIME is a date, 2026-11-30T12:00Z, or 2h
+or 3d ago (before --now TIME). An event without a known time is left out by
+--since and --until. SEVERITY is warning or critical: only events whose state is
+at least this bad are listed, none that was deasserted, and neither OEM entries
+nor events for which the standard has no words.
 ";
 
 const FRU: &str = "Prints inventories of field replaceable units.
