@@ -222,6 +222,18 @@ def thresholds_differ(line, columns):
     return False
 
 
+def severity_differs(line):
+    """Whether the severity is another one than the status and the words of the states allow."""
+    severity = line["severity"]
+    if line["status"] in ("na", "ns"):
+        return severity is not None
+    if line["event_type"] == 1:
+        return severity != {"ok": "nominal", "nc": "warning"}.get(line["status"], "critical")
+    if not line["state_words"]:
+        return severity != "nominal"
+    return severity is None and not any(re.fullmatch("state [0-9]+", words) for words in line["state_words"])
+
+
 def sensor_differs(line, shown):
     """A line of `sensor`."""
     if line["kind"] not in ("full", "compact"):
@@ -230,7 +242,7 @@ def sensor_differs(line, shown):
     if len(cells) != 11:
         return True
     name, number, entity, reading, status, *columns = cells
-    return thresholds_differ(line, columns) or [name, number, entity, reading, status] != [
+    return severity_differs(line) or thresholds_differ(line, columns) or [name, number, entity, reading, status] != [
         name_of(line),
         f"{line['sensor_number']:02X}h",
         f"{line['entity_name']} {line['entity_instance']}",

@@ -30,6 +30,7 @@ columns_of Table.Records =
     ∷ codes "states"
     ∷ codes "status"
     ∷ codes "status_words"
+    ∷ codes "severity"
     ∷ codes "upper_non_recoverable"
     ∷ codes "upper_critical"
     ∷ codes "upper_non_critical"

@@ -48,6 +48,7 @@ pub(crate) fn columns_of(table: Table) -> &'static [&'static str]
             "states",
             "status",
             "status_words",
+            "severity",
             "upper_non_recoverable",
             "upper_critical",
             "upper_non_critical",

@@ -8,6 +8,7 @@ pub mod PlacesLemmas
 pub mod RecordLemmas
 pub mod SensorExistenceLemmas
 pub mod SensorUniqueLemmas
+pub mod SeverityLemmas
 pub mod SignLemmas
 pub mod StateLemmas
 pub mod TableLemmas

@@ -11,7 +11,7 @@ use Rattle.ipmi_events.specs.States.{joined_states, or_no_state, set_states, sta
 abbrev pub set_below : ℕ → ℕ → List ℕ
 set_below count states = filter (λ state. has_bit state states) (range_with_len 0 count)
 
-set_more : (count states : ℕ)
+pub set_more : (count states : ℕ)
     → set_below (count + 1) states ≡ set_below count states ++ cond (has_bit count states) (count ∷ []) []
 set_more count states =
     rw (map-id (range_with_len 0 count), map-id (range_with_len 0 (count + 1))) at (filter_of_map_range_with_len_more {X = ℕ} (λ state. has_bit state states) (λ state. state) 0 count count (omega arith))

@@ -21,3 +21,4 @@ pub mod Status
 pub mod Table
 pub mod Threshold
 pub mod Words
+pub mod Worst

@@ -24,6 +24,7 @@ mod status;
 mod table;
 mod threshold;
 mod words;
+mod worst;
 
 pub use details::push_details;
 pub use entities::EntityWords;
@@ -35,3 +36,4 @@ pub use sensors::Sensors;
 pub use severity::{Severity, event_severity};
 pub use status::status_in_words;
 pub use words::{EventInWords, event_words};
+pub use worst::sensor_severity;

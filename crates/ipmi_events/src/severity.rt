@@ -556,7 +556,7 @@ fn specific_severity(sensor_type: u8, offset: u8) -> Option<Severity>
 /// The severity of a state at this offset: of event/reading type 6Fh by the sensor type, of 01h to 0Ch by itself. None where the standard
 /// has no words for the offset.
 #[tactic(auto, unfolding(crate::specs::Severity::severity_of))]
-fn severity_of(event_type: u8, sensor_type: u8, offset: u8) -> Option<Severity>
+pub(crate) fn severity_of(event_type: u8, sensor_type: u8, offset: u8) -> Option<Severity>
     ensures { result ≡ severity_of event_type sensor_type offset }
 {
     if event_type == SENSOR_SPECIFIC {

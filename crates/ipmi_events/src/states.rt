@@ -9,7 +9,7 @@ use std::alloc::AllocError;
 use std::fmt;
 
 /// The number of states of a discrete sensor (IPMI v2.0, section 35.14).
-const STATES: u8 = 15;
+pub(crate) const STATES: u8 = 15;
 
 /// A state of a discrete sensor, printed as the words of its event, or as `state 3` if the standard has no words for
 /// it.
@@ -35,7 +35,7 @@ impl fmt::Display for StateWords {
 }
 
 /// Whether a state is set.
-fn is_set(states: u16, state: u8) -> bool
+pub(crate) fn is_set(states: u16, state: u8) -> bool
     requires { state < 15 }
     ensures { result ≡ has_bit state states }
 {

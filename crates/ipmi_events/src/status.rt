@@ -39,11 +39,18 @@ fn first_passed(thresholds: &[Threshold], bits: u8) -> Option<Threshold>
         .find(|threshold| threshold.is_in(bits))
 }
 
+/// The worst threshold that a reading has passed, according to the bits of its status.
+pub(crate) fn worst_passed(bits: u8) -> Option<Threshold>
+    ensures { result ≡ first_passed from_worst bits }
+{
+    first_passed(&FROM_WORST, bits)
+}
+
 /// The status of a threshold sensor: the worst threshold that its reading has passed, or `ok`.
 fn passed_status(bits: u8) -> &'static str
     ensures { result.now ≡ passed_status (first_passed from_worst bits) }
 {
-    match first_passed(&FROM_WORST, bits) {
+    match worst_passed(bits) {
         Some(threshold) => threshold_code(threshold),
         None => "ok",
     }

@@ -28,7 +28,7 @@ const SEMICOLON: Csv<'static> = Csv {
 };
 
 const RECORDS: &str =
-    r#"record_id,record_type,kind,fault,name,owner_id,owner_lun,sensor_number,device_access_address,fru_device_id,device_slave_address,is_logical,access_lun,entity_id,entity_name,entity_instance,sensor_type,sensor_type_name,event_type,reading,unit,reading_raw,states,status,status_words,upper_non_recoverable,upper_critical,upper_non_critical,lower_non_recoverable,lower_critical,lower_non_critical,raw"#;
+    r#"record_id,record_type,kind,fault,name,owner_id,owner_lun,sensor_number,device_access_address,fru_device_id,device_slave_address,is_logical,access_lun,entity_id,entity_name,entity_instance,sensor_type,sensor_type_name,event_type,reading,unit,reading_raw,states,status,status_words,severity,upper_non_recoverable,upper_critical,upper_non_critical,lower_non_recoverable,lower_critical,lower_non_critical,raw"#;
 
 const ENTRIES: &str =
     r#"record_id,record_type,kind,timestamp,timestamp_raw,generator_id,event_revision,sensor_type,sensor_type_name,sensor_number,sensor_name,event_type,event,event_words,direction,severity,event_data,event_details,manufacturer_id,oem_data,raw"#;
@@ -41,25 +41,25 @@ const INFOS: &str =
 
 /// A full record with its reading, and a compact one.
 const READ: &str =
-    r#"1,1,full,,CPU Temp,32,0,1,,,,,,3,processor,1,1,Temperature,1,9.2,degrees C,92,24,cr,ucr,9.5,9,8.5,,,,010051013320000103017f680101000000003838000100000100000000f00000000000005f5a550000000202000000c84350552054656d70"#;
+    r#"1,1,full,,CPU Temp,32,0,1,,,,,,3,processor,1,1,Temperature,1,9.2,degrees C,92,24,cr,ucr,critical,9.5,9,8.5,,,,010051013320000103017f680101000000003838000100000100000000f00000000000005f5a550000000202000000c84350552054656d70"#;
 
 const DISCRETE: &str =
-    r#"163,2,compact,,Door,32,3,5,,,,,,7,system board,1,5,Physical Security,3,,,0,16394,ok,ok,,,,,,,030051021f200305070100000503000000000000c000000000000000000000c4446f6f72"#;
+    r#"163,2,compact,,Door,32,3,5,,,,,,7,system board,1,5,Physical Security,3,,,0,16394,ok,ok,warning,,,,,,,030051021f200305070100000503000000000000c000000000000000000000c4446f6f72"#;
 
 /// `bytes|row` of records without a reading. The second has a name with a quote.
 const OTHERS: &str =
-    r#"05005103102000302281126f00000000c445565431|7,3,event_only,,EVT1,32,0,48,,,,,,34,system firmware,1,18,System Event,111,,,,,,,,,,,,,05005103102000302281126f00000000c445565431
-060051101120a00000000000070200c6225ce901ff20|7,16,generic_locator,,"""\é.ÿ ",,,,32,,160,,,7,system board,2,,,,,,,,,,,,,,,,060051101120a00000000000070200c6225ce901ff20
-060051100b21a50000000000070200c0|7,16,generic_locator,,,,,,32,,164,,,7,system board,2,,,,,,,,,,,,,,,,060051100b21a50000000000070200c0
-020051110f200180000000000a0100c450535531|7,17,fru_locator,,PSU1,,,,32,1,,true,0,10,power supply,1,,,,,,,,,,,,,,,,020051110f200180000000000a0100c450535531
-020051110f23a118000000000a0100c450535531|7,17,fru_locator,,PSU1,,,,34,,160,false,3,10,power supply,1,,,,,,,,,,,,,,,,020051110f23a118000000000a0100c450535531
-070051120f25000000000000900100c4424d4331|7,18,mc_locator,,BMC1,,,,,,36,,,144,entity 0x90,1,,,,,,,,,,,,,,,,070051120f25000000000000900100c4424d4331
-080051c003570100|7,192,other,,,,,,,,,,,,,,,,,,,,,,,,,,,,,080051c003570100"#;
+    r#"05005103102000302281126f00000000c445565431|7,3,event_only,,EVT1,32,0,48,,,,,,34,system firmware,1,18,System Event,111,,,,,,,,,,,,,,05005103102000302281126f00000000c445565431
+060051101120a00000000000070200c6225ce901ff20|7,16,generic_locator,,"""\é.ÿ ",,,,32,,160,,,7,system board,2,,,,,,,,,,,,,,,,,060051101120a00000000000070200c6225ce901ff20
+060051100b21a50000000000070200c0|7,16,generic_locator,,,,,,32,,164,,,7,system board,2,,,,,,,,,,,,,,,,,060051100b21a50000000000070200c0
+020051110f200180000000000a0100c450535531|7,17,fru_locator,,PSU1,,,,32,1,,true,0,10,power supply,1,,,,,,,,,,,,,,,,,020051110f200180000000000a0100c450535531
+020051110f23a118000000000a0100c450535531|7,17,fru_locator,,PSU1,,,,34,,160,false,3,10,power supply,1,,,,,,,,,,,,,,,,,020051110f23a118000000000a0100c450535531
+070051120f25000000000000900100c4424d4331|7,18,mc_locator,,BMC1,,,,,,36,,,144,entity 0x90,1,,,,,,,,,,,,,,,,,070051120f25000000000000900100c4424d4331
+080051c003570100|7,192,other,,,,,,,,,,,,,,,,,,,,,,,,,,,,,,080051c003570100"#;
 
-const FAULT: &str = r#"3,1,faulty,wrong_length,,,,,,,,,,,,,,,,,,,,,,,,,,,,03005101ff"#;
+const FAULT: &str = r#"3,1,faulty,wrong_length,,,,,,,,,,,,,,,,,,,,,,,,,,,,,03005101ff"#;
 
 /// A fault in the header: there is no record type.
-const SHORT: &str = r#"65535,,faulty,short,,,,,,,,,,,,,,,,,,,,,,,,,,,,030051"#;
+const SHORT: &str = r#"65535,,faulty,short,,,,,,,,,,,,,,,,,,,,,,,,,,,,,030051"#;
 
 /// An event of a sensor without a record.
 const NAMELESS: &str =

@@ -1,7 +1,8 @@
--- The first and the last members of the objects of records and entries.
-use Rattle.std.specs.Prelude.{ℕ, List, [], ◌∷◌, codes}
-use Rattle.json.specs.Json.{string}
+-- Members that the objects of records and of entries both have.
+use Rattle.std.specs.Prelude.{ℕ, List, [], ◌∷◌, Option, None, Some, codes}
+use Rattle.json.specs.Json.{Json, null, string}
 use Rattle.ipmi_text.specs.FieldText.{binary_text}
+use Rattle.ipmi_events.specs.declared.severity.Severity.{Severity}
 use Rattle.ipmi_json.specs.Object.{integer, Pair}
 
 -- the name of the object, and the id, the type and the kind
@@ -12,6 +13,19 @@ head_members object id type kind =
     ∷ (codes "record_type", integer type)
     ∷ (codes "kind", string kind)
     ∷ []
+
+abbrev pub severity_word : Severity → List ℕ
+severity_word Severity.Nominal = codes "nominal"
+severity_word Severity.Warning = codes "warning"
+severity_word Severity.Critical = codes "critical"
+
+-- null without a severity
+abbrev pub severity_value : Option Severity → Json
+severity_value None = null
+severity_value (Some severity) = string (severity_word severity)
+
+abbrev pub severity_members : Option Severity → List Pair
+severity_members severity = (codes "severity", severity_value severity) ∷ []
 
 abbrev pub raw_members : List ℕ → List Pair
 raw_members bytes = (codes "raw", string (binary_text bytes)) ∷ []

@@ -1,6 +1,6 @@
 -- The object of an entry of the event log. Each kind always has the same keys, and a value never changes its type, except to
 -- null.
-use Rattle.std.specs.Prelude.{◌≡◌, ℕ, Bool, if◌then◌else◌, Option, Some, None, option_map, List, [], ◌∷◌, ◌++◌, codes}
+use Rattle.std.specs.Prelude.{◌≡◌, ℕ, Bool, if◌then◌else◌, Option, Some, None, List, [], ◌∷◌, ◌++◌, codes}
 use Rattle.json.specs.Json.{Json, null, string}
 use Rattle.ipmi_text.specs.FieldText.{binary_text}
 use Rattle.ipmi_text.specs.SensorTypes.{sensor_type_text_of}
@@ -12,10 +12,9 @@ use Rattle.ipmi_events.specs.EventLines.{event_offset, full_of, record_for}
 use Rattle.ipmi_events.specs.Name.{sensor_name}
 use Rattle.ipmi_events.specs.Severity.{event_severity}
 use Rattle.ipmi_events.specs.Words.{event_words}
-use Rattle.ipmi_events.specs.declared.severity.Severity.{Severity}
 use Rattle.ipmi_json.specs.declared.object.Label.{Label}
 use Rattle.ipmi_json.specs.Object.{integer, IsLineOfSome, Pair, text_or_null, text_unless_empty}
-use Rattle.ipmi_json.specs.Record.{head_members, raw_members}
+use Rattle.ipmi_json.specs.Record.{head_members, raw_members, severity_value}
 use Rattle.ipmi_json.specs.Time.{IsIsoTimeOf}
 
 abbrev pub kind_word : SelView → List ℕ
@@ -58,11 +57,6 @@ source_members view bytes =
 abbrev pub direction_word : Bool → List ℕ
 direction_word deasserted = if deasserted then codes "deasserted" else codes "asserted"
 
-abbrev pub severity_word : Severity → List ℕ
-severity_word Severity.Nominal = codes "nominal"
-severity_word Severity.Warning = codes "warning"
-severity_word Severity.Critical = codes "critical"
-
 -- the meaning of the event
 abbrev pub meaning_members : List ℕ → List Pair
 meaning_members bytes =
@@ -70,7 +64,7 @@ meaning_members bytes =
     ∷ (codes "event", string (words_of_event bytes))
     ∷ (codes "event_words", text_or_null (event_words (event_type bytes) (sensor_type bytes) (event_offset bytes)))
     ∷ (codes "direction", string (direction_word (is_deasserted bytes)))
-    ∷ (codes "severity", text_or_null (option_map severity_word (event_severity bytes)))
+    ∷ (codes "severity", severity_value (event_severity bytes))
     ∷ (codes "event_data", string (binary_text (event_data bytes)))
     ∷ []
 

@@ -1,11 +1,12 @@
-//! The first and the last members of the objects of records and entries.
-ghost use Rattle.std.specs.Prelude.{OnOk};
+//! Members that the objects of records and of entries both have.
+ghost use Rattle.std.specs.Prelude.{◌≡◌, OnOk};
 ghost use Rattle.ipmi_json.specs.Members.{Tells};
-ghost use Rattle.ipmi_json.specs.Record.{head_members, raw_members};
+ghost use Rattle.ipmi_json.specs.Record.{head_members, raw_members, severity_members, severity_word};
 
 use crate::digits::hex_text;
 use crate::members::Members;
 use crate::object::Value;
+use ipmi_events::Severity;
 use std::alloc::{AllocError, Global};
 
 /// The most bytes of a sensor data record: five, and as many as a byte can count.
@@ -29,6 +30,30 @@ pub(crate) fn tell_head<M: Members>(
     out.put("record_id", Value::Integer(u64::from(id)))?;
     out.put("record_type", Value::Integer(u64::from(record_type)))?;
     out.put("kind", Value::Text(kind))
+}
+
+/// The word for a severity.
+fn severity_word(severity: Severity) -> &'static str
+    ensures { result.now ≡ severity_word severity }
+{
+    match severity {
+        Severity::Nominal => "nominal",
+        Severity::Warning => "warning",
+        Severity::Critical => "critical",
+    }
+}
+
+/// Tells a severity, or null.
+pub(crate) fn tell_severity<M: Members>(
+    out: &mut M,
+    severity: Option<Severity>,
+) -> Result<(), AllocError>
+    ensures { OnOk result (Tells M.told (severity_members severity) out.old out.new) }
+{
+    match severity {
+        Some(severity) => out.put("severity", Value::Text(severity_word(severity))),
+        None => out.put("severity", Value::Null),
+    }
 }
 
 /// Tells the bytes in hex, the last member of each.

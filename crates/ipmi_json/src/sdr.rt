@@ -9,9 +9,9 @@ ghost use Rattle.ipmi_json.specs.Sdr.{AreCompactMembers, AreFullMembers, AreReco
 use crate::decimal::decimal_or_null;
 use crate::members::{Members, put_members, put_printed};
 use crate::object::{Label, Value, begin, finish, integer_or_null, text_unless_empty};
-use crate::record::{put_raw, tell_head};
+use crate::record::{put_raw, tell_head, tell_severity};
 use crate::states::tell_state_words;
-use ipmi_events::{EntityWords, status_in_words};
+use ipmi_events::{EntityWords, sensor_severity, status_in_words};
 use ipmi_records::SdrView::{Compact, Controller, EventOnly, Fru, Full, Generic, Other};
 use ipmi_records::{
     CompactSensor, Entity, FruLocator, FullSensor, KnownReading, Locator, SdrFault, SdrView,
@@ -196,7 +196,8 @@ fn tell_shown<M: Members>(
     out.put("states", integer_or_null(states_shown(sensor, shown)))?;
     tell_state_words(alloc, out, sensor, shown)?;
     out.put("status", Value::Text(status))?;
-    out.put("status_words", Value::Text(words))
+    out.put("status_words", Value::Text(words))?;
+    tell_severity(out, sensor_severity(sensor, reading))
 }
 
 /// The value of a threshold.

@@ -4,19 +4,18 @@ ghost use Rattle.json.specs.Json.{string};
 ghost use Rattle.ipmi_text.specs.FieldText.{binary_text};
 ghost use Rattle.ipmi_records.specs.Prelude.{entry_bytes, event_data, event_type, generator_id, is_deasserted, revision, sensor_type, words_of_event};
 ghost use Rattle.ipmi_events.specs.EventLines.{event_offset, full_of};
-ghost use Rattle.ipmi_events.specs.Severity.{event_severity};
 ghost use Rattle.ipmi_events.specs.Words.{event_words};
 ghost use Rattle.ipmi_json.specs.Members.{Tells, TellsSome};
 ghost use Rattle.ipmi_json.specs.Object.{integer};
-ghost use Rattle.ipmi_json.specs.Sel.{AreDetailsMembers, AreEntryMembers, AreEventMembers, AreTimedMembers, AreTold, IsSelLine, data_members, direction_word, kind_word, meaning_members, name_by, sensor_record, severity_word, source_members};
+ghost use Rattle.ipmi_json.specs.Sel.{AreDetailsMembers, AreEntryMembers, AreEventMembers, AreTimedMembers, AreTold, IsSelLine, data_members, direction_word, kind_word, meaning_members, name_by, sensor_record, source_members};
 
 use crate::digits::hex_text;
 use crate::members::{Members, put_printed};
 use crate::object::{Label, Value, begin, finish, text_or_null, text_unless_empty};
-use crate::record::tell_head;
+use crate::record::{tell_head, tell_severity};
 use crate::time::time_text;
 use ipmi_events::{
-    Sensors, Severity, event_severity, event_words, push_details, push_sensor_name, record_for,
+    Sensors, event_severity, event_words, push_details, push_sensor_name, record_for,
 };
 use ipmi_records::SelView::{Event, OemPlain, OemTimed, Other};
 use ipmi_records::{EventEntry, FullSensor, OemTimestampedEntry, SdrView, SelView};
@@ -168,27 +167,6 @@ fn direction_word(event: &EventEntry) -> &'static str
     }
 }
 
-/// The word for a severity.
-fn severity_word(severity: Severity) -> &'static str
-    ensures { result.now ≡ severity_word severity }
-{
-    match severity {
-        Severity::Nominal => "nominal",
-        Severity::Warning => "warning",
-        Severity::Critical => "critical",
-    }
-}
-
-/// The word for the severity of an event, if it has one.
-fn severity_of(event: &EventEntry) -> Option<&'static str>
-    ensures { option_map (λ s. s.now) result ≡ option_map severity_word (event_severity event.now) }
-{
-    match event_severity(event) {
-        Some(severity) => Some(severity_word(severity)),
-        None => None,
-    }
-}
-
 /// The event data of an event in hex, from all its bytes in hex.
 fn data_of<'a>(event: &EventEntry, raw: &'a str) -> &'a str
     requires { raw.now ≡ binary_text event.now }
@@ -213,7 +191,7 @@ fn tell_meaning<M: Members>(
     tell_specified(out, text, event)?;
     out.put("event_words", text_or_null(words_of(event)))?;
     out.put("direction", Value::Text(direction_word(event)))?;
-    out.put("severity", text_or_null(severity_of(event)))?;
+    tell_severity(out, event_severity(event))?;
     out.put("event_data", Value::Text(data_of(event, raw)))
 }
 

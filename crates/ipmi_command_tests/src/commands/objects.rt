@@ -65,19 +65,19 @@ fn assert_objects(rt: &impl Abort, alloc: Global, cases: &str) {
 const RECORDS: &str = r#"sdr list|all|
 0 6
 --
-{"object":"sdr_record","record_id":1,"record_type":1,"kind":"full","name":"CPU Temp","owner_id":32,"owner_lun":0,"sensor_number":1,"entity_id":3,"entity_name":"processor","entity_instance":1,"sensor_type":1,"sensor_type_name":"Temperature","event_type":1,"reading":45,"unit":"degrees C","reading_raw":45,"states":0,"state_words":null,"status":"ok","status_words":"ok","upper_non_recoverable":95,"upper_critical":90,"upper_non_critical":85,"lower_non_recoverable":null,"lower_critical":null,"lower_non_critical":null,"raw":"010051013320000103017f680101000000003838000100000100000000000000000000005f5a550000000202000000c84350552054656d70","host":"web 17"}
+{"object":"sdr_record","record_id":1,"record_type":1,"kind":"full","name":"CPU Temp","owner_id":32,"owner_lun":0,"sensor_number":1,"entity_id":3,"entity_name":"processor","entity_instance":1,"sensor_type":1,"sensor_type_name":"Temperature","event_type":1,"reading":45,"unit":"degrees C","reading_raw":45,"states":0,"state_words":null,"status":"ok","status_words":"ok","severity":"nominal","upper_non_recoverable":95,"upper_critical":90,"upper_non_critical":85,"lower_non_recoverable":null,"lower_critical":null,"lower_non_critical":null,"raw":"010051013320000103017f680101000000003838000100000100000000000000000000005f5a550000000202000000c84350552054656d70","host":"web 17"}
 {"object":"sdr_record","record_id":2,"record_type":1,"kind":"faulty","fault":"body_too_short","raw":"0200510100","host":"web 17"}
 ====
 sdr elist all|all|
 0 6
 --
-{"object":"sdr_record","record_id":1,"record_type":1,"kind":"full","name":"CPU Temp","owner_id":32,"owner_lun":0,"sensor_number":1,"entity_id":3,"entity_name":"processor","entity_instance":1,"sensor_type":1,"sensor_type_name":"Temperature","event_type":1,"reading":45,"unit":"degrees C","reading_raw":45,"states":0,"state_words":null,"status":"ok","status_words":"ok","upper_non_recoverable":95,"upper_critical":90,"upper_non_critical":85,"lower_non_recoverable":null,"lower_critical":null,"lower_non_critical":null,"raw":"010051013320000103017f680101000000003838000100000100000000000000000000005f5a550000000202000000c84350552054656d70","host":"web 17"}
+{"object":"sdr_record","record_id":1,"record_type":1,"kind":"full","name":"CPU Temp","owner_id":32,"owner_lun":0,"sensor_number":1,"entity_id":3,"entity_name":"processor","entity_instance":1,"sensor_type":1,"sensor_type_name":"Temperature","event_type":1,"reading":45,"unit":"degrees C","reading_raw":45,"states":0,"state_words":null,"status":"ok","status_words":"ok","severity":"nominal","upper_non_recoverable":95,"upper_critical":90,"upper_non_critical":85,"lower_non_recoverable":null,"lower_critical":null,"lower_non_critical":null,"raw":"010051013320000103017f680101000000003838000100000100000000000000000000005f5a550000000202000000c84350552054656d70","host":"web 17"}
 {"object":"sdr_record","record_id":2,"record_type":1,"kind":"faulty","fault":"body_too_short","raw":"0200510100","host":"web 17"}
 ====
 sdr,get,CPU Temp|all|
 0 6
 --
-{"object":"sdr_record","record_id":1,"record_type":1,"kind":"full","name":"CPU Temp","owner_id":32,"owner_lun":0,"sensor_number":1,"entity_id":3,"entity_name":"processor","entity_instance":1,"sensor_type":1,"sensor_type_name":"Temperature","event_type":1,"reading":45,"unit":"degrees C","reading_raw":45,"states":0,"state_words":null,"status":"ok","status_words":"ok","upper_non_recoverable":95,"upper_critical":90,"upper_non_critical":85,"lower_non_recoverable":null,"lower_critical":null,"lower_non_critical":null,"raw":"010051013320000103017f680101000000003838000100000100000000000000000000005f5a550000000202000000c84350552054656d70","host":"web 17"}
+{"object":"sdr_record","record_id":1,"record_type":1,"kind":"full","name":"CPU Temp","owner_id":32,"owner_lun":0,"sensor_number":1,"entity_id":3,"entity_name":"processor","entity_instance":1,"sensor_type":1,"sensor_type_name":"Temperature","event_type":1,"reading":45,"unit":"degrees C","reading_raw":45,"states":0,"state_words":null,"status":"ok","status_words":"ok","severity":"nominal","upper_non_recoverable":95,"upper_critical":90,"upper_non_critical":85,"lower_non_recoverable":null,"lower_critical":null,"lower_non_critical":null,"raw":"010051013320000103017f680101000000003838000100000100000000000000000000005f5a550000000202000000c84350552054656d70","host":"web 17"}
 ====
 sdr,get,Foo|all|
 1 5

@@ -8,6 +8,7 @@ returns g c =
     let raw = rw (c.integer_or_null.ensures, c.raw_shown.ensures, shown) at c.in_ok-put.ensures in
     let states = rw (c.integer_or_null-2.ensures, c.states_shown.ensures, shown) at c.in_ok-put-2.ensures in
     let words = rw shown at c.in_ok-tell_state_words.ensures in
-    on_ok_weaker c.put-4.result
-    (λ last. joined (joined (joined (joined raw states) words) c.in_ok-put-3.ensures) (rw c.status_words-words.ensures at last))
-    c.put-4.ensures
+    let status = rw c.status_words-words.ensures at c.in_ok-put-4.ensures in
+    on_ok_weaker c.tell_severity.result
+    (λ last. joined (joined (joined (joined (joined raw states) words) c.in_ok-put-3.ensures) status) (rw c.sensor_severity.ensures at last))
+    c.tell_severity.ensures
