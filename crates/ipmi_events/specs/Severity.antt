@@ -5,7 +5,7 @@ use Rattle.ipmi_records.specs.Prelude.{event_type, is_deasserted, sensor_type}
 use Rattle.ipmi_events.specs.EventLines.{event_offset}
 use Rattle.ipmi_events.specs.declared.severity.Severity.{Severity}
 
--- n: nominal, w: warning, c: critical; another letter stands for an offset that the standard reserves
+-- n: nominal, w: warning, c: critical; another letter marks an offset that the standard reserves
 abbrev pub severity_by : ℕ → Option Severity
 severity_by letter =
     if letter == 0x6e then Some Severity.Nominal
