@@ -38,7 +38,7 @@ _serdimko() {
 
   # What may follow the words before. Names and numbers are not completed.
   case $line in
-    '') next='fru sdr sensor sel capture image help' ;;
+    '') next='fru sdr sensor sel check capture image help' ;;
     'fru') next='print list' ;;
     'sdr') next='list elist type entity get info hex' ;;
     'sdr list') next='all full compact event generic mclocator fru' ;;
@@ -48,7 +48,7 @@ _serdimko() {
     'sel list') next='first last' ;;
     'sel elist') next='first last' ;;
     'image') next='rewrite' ;;
-    'help') next='fru sdr sensor sel capture image' ;;
+    'help') next='fru sdr sensor sel check capture image' ;;
   esac
   COMPREPLY=($(compgen -W "$next" -- "$cur"))
 }

@@ -51,6 +51,16 @@ says() {
   if [ "$(cat "$work/err")" != "$message" ]; then fault "$* ($TOOL_TROUBLES): says $(cat "$work/err")"; fi
 }
 
+# A check over the controller, of which two sensors are critical, must say why it knows nothing, unless it has read one of them.
+never_fine() {
+  live "$@"
+  case $status:$(head -n 1 "$work/out") in
+    3:'IPMI UNKNOWN - '?* | 2:'IPMI CRITICAL - '?*) ;;
+    *) fault "$* ($TOOL_TROUBLES): status $status, $(head -n 1 "$work/out")" ;;
+  esac
+  if [ -s "$work/err" ]; then fault "$* ($TOOL_TROUBLES): says $(cat "$work/err")"; fi
+}
+
 for dialect in --ipmitool --freeipmi; do
   host=-H
   if [ $dialect = --freeipmi ]; then host=-h; fi
@@ -68,8 +78,10 @@ for dialect in --ipmitool --freeipmi; do
   same $dialect fru
   same $dialect fru print 200
   same $dialect --part 254 fru print 0
+  same $dialect check
   TOOL_TROUBLES='cancel=5'
   same $dialect sdr list
+  same $dialect check --type fan
   TOOL_TROUBLES='cancel=13|grant=7'
   same $dialect sdr hex
   same $dialect sdr elist
@@ -110,7 +122,11 @@ for dialect in --ipmitool --freeipmi; do
     live $dialect -- --part 254 sdr hex
     if [ "$status" -ne 1 ] || ! grep -q '^no reply from the controller: ' "$work/err"; then fault "$trouble: status $status, $(cat "$work/err")"; fi
   done
+  for TOOL_TROUBLES in cut=4 long=40 other=30 garbage=50 die=4 dead=20 refuse=ff,2 refuse=d4,40,44 refuse=ff,90 'say=Error: no | session'; do
+    never_fine $dialect check --tries 1
+  done
 done
+never_fine --ipmitool -H web17,web18 check
 
 # Where one request in seven is busy, each part of an inventory has retries. The 256 bytes of device 0 are 14 parts, and there is a request
 # for their size, so two requests are busy. The text has all fields, as the bytes of the image say, which are ASCII.
@@ -389,6 +405,9 @@ for dialect in --ipmitool --freeipmi; do
   TOOL_TROUBLES='hold=10' TOOL_HELD=$work/held IPMITOOL=$PWD/tests/live/tool.py IPMI_RAW=$PWD/tests/live/tool.py says 1 'live: there: no time left: --deadline 1' \
     $dialect -H there -h there --deadline 1 capture -o "$work/timed"
   if [ -e "$work/timed" ] || [ -e "$work/timed.part" ]; then fault 'a deadline: a file'; fi
+  TOOL_TROUBLES='hold=10' TOOL_HELD=$work/held IPMITOOL=$PWD/tests/live/tool.py IPMI_RAW=$PWD/tests/live/tool.py never_fine \
+    $dialect -H there -h there --deadline 1 check
+  if [ "$(cat "$work/out")" != 'IPMI UNKNOWN - there: no time left: --deadline 1' ]; then fault "a deadline of a check: $(cat "$work/out")"; fi
 done
 
 # Its standard input is the program's.
@@ -406,7 +425,14 @@ scripts/live capture > /dev/full 2> "$work/err"
 if [ $? -ne 4 ] || [ "$(cat "$work/err")" != 'write fault' ]; then fault "a full disk: $(cat "$work/err")"; fi
 TMPDIR=$work/none scripts/live capture -o "$work/image" > /dev/null 2> "$work/err"
 status=$?
-if [ "$status" -ne 1 ] || [ "$(wc -l < "$work/err")" -ne 1 ] || [ -e "$work/image.part" ]; then fault "no TMPDIR: $status, $(cat "$work/err")"; fi
+if [ "$status" -ne 1 ] || [ "$(cat "$work/err")" != "live: no room in $work/none" ] || [ -e "$work/image.part" ]; then fault "no TMPDIR: $status, $(cat "$work/err")"; fi
+# A check says so on standard output.
+TMPDIR=$work/none scripts/live check > "$work/out"
+status=$?
+if [ "$status" -ne 3 ] || [ "$(cat "$work/out")" != "IPMI UNKNOWN - no room in $work/none" ]; then fault "no TMPDIR for a check: $status, $(cat "$work/out")"; fi
+SERDIMKO=$work/none scripts/live check > "$work/out" 2> /dev/null
+status=$?
+if [ "$status" -ne 3 ] || [ "$(cat "$work/out")" != "IPMI UNKNOWN - cannot run $work/none" ]; then fault "no program for a check: $status, $(cat "$work/out")"; fi
 # Of two captures into a file one is refused.
 (
   exec 9>> "$work/image.part"

@@ -197,10 +197,10 @@ offers() {
   _serdimko_live
   [ "${#COMPREPLY[@]}" -eq 0 ] || printf '%s\n' "${COMPREPLY[@]}"
 }
-expect 'capture fru help sdr sel sensor' ''
+expect 'capture check fru help sdr sel sensor' ''
 expect '--deadline --freeipmi --help --ipmitool' -
 expect 'sdr sel sensor' -I open -H sdr -v s
-expect 'capture fru help sdr sel sensor' -Hsdr ''
+expect 'capture check fru help sdr sel sensor' -Hsdr ''
 expect '' --deadline ''
 expect files -vf ''
 expect 'list' -I open -U sel sel li

@@ -99,10 +99,11 @@ topic_named word =
     else (if bytes_eq word (codes "sensor") then Some Topic.Sensor
     else (if bytes_eq word (codes "sel") then Some Topic.Sel
     else (if bytes_eq word (codes "fru") then Some Topic.Fru
+    else (if bytes_eq word (codes "check") then Some Topic.Check
     else (if bytes_eq word (codes "capture") then Some Topic.Capture
     else (if bytes_eq word (codes "image") then Some Topic.Image
     else (if bytes_eq word (codes "help") then Some Topic.General
-    else None))))))
+    else None)))))))
 
 -- what `help` prints: the first of these words is `help`
 abbrev pub help_of : List Text → Option Topic
@@ -173,14 +174,20 @@ capture_of whole rows = if whole && (has_value (codes "live") rows && not (has_v
     then Some (Action.Capture (first_of (codes "output") rows) (is_given (codes "quiet") rows) (is_given (codes "partial") rows))
     else None
 
+-- no id to start from, and at most one image
+abbrev pub has_one_image : List Row → Bool
+has_one_image rows = not (has_value (codes "from") rows) && nat_le (length (values_of (codes "image") rows)) 1
+
+abbrev pub check_of : Bool → List Row → Option Action
+check_of whole rows = if whole && has_one_image rows then Some Action.Check else None
+
 abbrev pub rewrite_of : Bool → List Row → Option Action
-rewrite_of whole rows = if whole && (not (has_value (codes "from") rows)
-    && nat_le (length (values_of (codes "image") rows)) 1)
-    then Some Action.Rewrite else None
+rewrite_of whole rows = if whole && has_one_image rows then Some Action.Rewrite else None
 
 abbrev pub action_of_verb : Verb → RowState → List Text → List Row → Option Action
 action_of_verb Verb.GetRecords row words rows = records_named words rows
 action_of_verb Verb.GetSensors row words rows = named_of words (start_of rows)
+action_of_verb Verb.Check row words rows = check_of (length words == 1) rows
 action_of_verb Verb.Capture row words rows = capture_of (length words == 1) rows
 action_of_verb Verb.Rewrite row words rows = rewrite_of (length words == 2) rows
 action_of_verb _ row words rows = printed_of (start_of rows) (task_of_row row words (first_of (codes "id") rows))

@@ -25,6 +25,8 @@ pub enum Verb {
     GetSensors,
     /// A line for each device.
     ListDevices,
+    /// Whether a sensor is in trouble, as plugins of monitoring systems print it.
+    Check,
     /// A live controller saved as an image.
     Capture,
     /// An image in its canonical spelling.
@@ -158,6 +160,11 @@ const GETTING: &[&str] = &[
     "id",
 ];
 
+/// The options of `check`.
+const CHECKING: &[&str] = &[
+    "image", "live", "records", "type", "entity", "id", "exclude",
+];
+
 /// The options of `capture`.
 const CAPTURING: &[&str] = &["live", "output", "quiet", "partial"];
 
@@ -168,7 +175,7 @@ const REWRITING: &[&str] = &["image", "strict"];
 const NONE: &[&str] = &[];
 
 /// The commands. A command comes before one whose words begin it.
-pub const COMMANDS: [CommandRow; 23] = [
+pub const COMMANDS: [CommandRow; 24] = [
     (
         &["sdr", "list"],
         Verb::Task,
@@ -291,6 +298,13 @@ pub const COMMANDS: [CommandRow; 23] = [
         "  fru list                a line for each device: name, product, part, serial\n",
     ),
     (&["fru"], Verb::Task, Operand::Nothing, PRINTING, ""),
+    (
+        &["check"],
+        Verb::Check,
+        Operand::Nothing,
+        CHECKING,
+        "  check                   whether a sensor is in trouble, for monitoring systems\n",
+    ),
     (
         &["capture"],
         Verb::Capture,

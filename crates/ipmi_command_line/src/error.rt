@@ -64,8 +64,8 @@ pub enum UsageError<'a> {
     NotLive,
     /// There is a live controller for `image rewrite`.
     NotSaved,
-    /// There are several images, and the command takes one.
-    SeveralImages,
+    /// There are several images, and the command of these words takes one.
+    SeveralImages(&'static [&'static str]),
     /// Standard input is an image twice.
     StandardInputTwice,
     /// There are both an image and a live controller.
@@ -296,6 +296,7 @@ impl fmt::Display for UsageError<'_> {
             UsageError::Misplaced(option, words) => {
                 write!(f, "--{option} does not go with '{}'", Spaced(words))
             }
+            UsageError::SeveralImages(words) => write!(f, "'{}' takes one image", Spaced(words)),
             _ => f.write_str(self.rule()),
         }
     }
@@ -330,7 +331,6 @@ impl UsageError<'_> {
             UsageError::NotSaved => {
                 "'image rewrite' needs a saved image: write serdimko --image FILE image rewrite"
             }
-            UsageError::SeveralImages => "'image rewrite' takes one image",
             UsageError::StandardInputTwice => "standard input is given twice",
             UsageError::ImageAndLive => "--image does not go with a live controller",
             UsageError::RecordsWithoutLive => "--records goes only with a live controller",

@@ -388,7 +388,7 @@ pub(crate) fn word_error<'a>(
             own,
             Hint::None,
         )),
-        (_, [word, ..]) if own.len() == 1 && !matches!(own, ["capture"]) => unknown(
+        (_, [word, ..]) if own.len() == 1 && !matches!(own, ["capture" | "check"]) => unknown(
             alloc, word, own,
         ),
         (_, [word, ..]) if is_file(word) => Ok(UsageError::Extra(word, own, Hint::File)),

@@ -1,10 +1,10 @@
 //! What a command line of `serdimko` asks for.
-ghost use Rattle.std.specs.Prelude.{◌≡◌, ◌≤◌, ◌⊎◌, ◌==◌, codes, false, if◌then◌else◌, IfOk, IfSome, length, map, MatchResult, None, option_map, Some};
+ghost use Rattle.std.specs.Prelude.{◌≡◌, ◌≤◌, ◌⊎◌, ◌==◌, codes, false, if◌then◌else◌, IfOk, IfSome, length, map, MatchResult, None, option_map, Some, true};
 ghost use Rattle.clap.specs.Words.{first_of, found_of, rows_of};
 ghost use Rattle.ipmi_command_line.specs.Arguments.{values_of};
 ghost use Rattle.ipmi_command_line.specs.Command.{IsTask, number_or, start_of_text};
 ghost use Rattle.ipmi_command_line.specs.Commands.{row_of, row_state, texts};
-ghost use Rattle.ipmi_command_line.specs.Request.{action_of, among_flags, among_values, capture_of, entry_of, events_of, format_of, help_of, IsRequest, IsAction, has_option, limits_of, live_at, live_of, misplaced, named_of, part_of_text, printed_of, records_named, records_of, request_of, request_of_command, request_of_help, request_of_row, request_of_rows, request_of_words, rewrite_of, separator_of, short_request, asks_for_types, types_request, source_of, standard_inputs, start_of, tail_of, task_of_row, text_format, tool_of, topic_named, topic_of};
+ghost use Rattle.ipmi_command_line.specs.Request.{action_of, among_flags, among_values, capture_of, entry_of, events_of, format_of, help_of, IsRequest, IsAction, has_option, limits_of, live_at, live_of, misplaced, named_of, part_of_text, printed_of, records_named, records_of, request_of, request_of_command, request_of_help, request_of_row, request_of_rows, request_of_words, rewrite_of, separator_of, short_request, asks_for_types, types_request, check_of, has_one_image, source_of, standard_inputs, start_of, tail_of, task_of_row, text_format, tool_of, topic_named, topic_of};
 ghost use Rattle.ipmi_command_line.specs.declared.error.UsageError.{UsageError};
 
 use crate::arguments::{arguments, has_value, is_given, value, value_count};
@@ -36,6 +36,8 @@ pub enum Topic {
     Sel,
     /// `fru`.
     Fru,
+    /// `check`.
+    Check,
     /// `capture`.
     Capture,
     /// `image`.
@@ -51,6 +53,8 @@ pub enum Action {
     Print(Task, Option<u16>),
     /// Print the block of each sensor with one of these names, from this id on.
     GetSensors(Words, Option<u16>),
+    /// Check the sensors that pass the filters.
+    Check,
     /// Save a live controller as an image.
     Capture {
         /// The file; None is standard output.
@@ -311,6 +315,7 @@ fn topic_named(word: &str) -> Option<Topic>
         "sensor" => Some(Topic::Sensor),
         "sel" => Some(Topic::Sel),
         "fru" => Some(Topic::Fru),
+        "check" => Some(Topic::Check),
         "capture" => Some(Topic::Capture),
         "image" => Some(Topic::Image),
         "help" => Some(Topic::General),
@@ -473,6 +478,24 @@ fn named_of<'a>(
     Ok(Action::GetSensors(copies(alloc, &words[2..])?, from))
 }
 
+/// Checks the sensors of an image or of a live controller.
+fn check_of<'a>(
+    alloc: Global,
+    row: &CommandRow,
+    words: &[&'a str],
+    matches: &ArgMatches<'a>,
+) -> Result<Action, UsageError<'a>>
+    ensures value { let meant = check_of (length words.now == 1) (rows_of (found_of matches.now)) in
+        MatchResult result (λ action. meant ≡ Some action) (λ e. (e ≡ UsageError.Memory) ⊎ (meant ≡ None)) }
+    ensures range { IfOk result IsAction }
+{
+    if words.len() != 1 {
+        return Err(word_error(alloc, row, words, None)?);
+    }
+    one_image(row, matches)?;
+    Ok(Action::Check)
+}
+
 /// Saves a live controller.
 fn capture_of<'a>(
     alloc: Global,
@@ -503,6 +526,20 @@ fn capture_of<'a>(
     })
 }
 
+/// Refuses an id to start from, and several images.
+fn one_image<'a>(row: &CommandRow, matches: &ArgMatches<'a>) -> Result<(), UsageError<'a>>
+    ensures { MatchResult result (λ _. has_one_image (rows_of (found_of matches.now)) ≡ true)
+        (λ _. has_one_image (rows_of (found_of matches.now)) ≡ false) }
+{
+    if has_value(matches, "from") {
+        return Err(UsageError::Misplaced("from", row.0));
+    }
+    if value_count(matches, "image") > 1 {
+        return Err(UsageError::SeveralImages(row.0));
+    }
+    Ok(())
+}
+
 /// Prints an image in its canonical spelling.
 fn rewrite_of<'a>(
     alloc: Global,
@@ -517,12 +554,7 @@ fn rewrite_of<'a>(
     if words.len() != 2 {
         return Err(word_error(alloc, row, words, None)?);
     }
-    if has_value(matches, "from") {
-        return Err(UsageError::Misplaced("from", row.0));
-    }
-    if value_count(matches, "image") > 1 {
-        return Err(UsageError::SeveralImages);
-    }
+    one_image(row, matches)?;
     Ok(Action::Rewrite)
 }
 
@@ -540,6 +572,7 @@ fn action_of<'a>(
     match row.1 {
         Verb::GetRecords => records_named(alloc, row, words, matches),
         Verb::GetSensors => named_of(alloc, row, words, matches),
+        Verb::Check => check_of(alloc, row, words, matches),
         Verb::Capture => capture_of(alloc, row, words, matches),
         Verb::Rewrite => rewrite_of(alloc, row, words, matches),
         _ => printed_of(alloc, row, words, matches),

@@ -6,6 +6,7 @@ mod calls_not_present;
 mod changing;
 mod changing_logs;
 mod changing_records;
+mod checks;
 mod device_lines;
 mod devices;
 mod entry_types;

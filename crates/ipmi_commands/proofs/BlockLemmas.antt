@@ -1,5 +1,6 @@
 -- The blocks of found sensors, printed one after another.
 use Rattle.std.proofs.Common.{◌≡◌, ℕ, ◌+◌, ◌<◌, Bool, true, cond, Ok, Err, Result, List, [], ◌∷◌, ◌++◌, length, take, drop, get_or, refl, sym, ap, subst, ◌∙◌, ◌==◌, arith, false, take-append-drop}
+use Rattle.std.specs.Borrow.{Bor}
 use Rattle.std.specs.List.{Contains}
 use Rattle.std.proofs.lemmas.Bool.Decides.{nat_tests}
 use Rattle.std.proofs.lemmas.List.{at_drop_more, take_more}
@@ -12,6 +13,7 @@ use Rattle.ipmi_commands.specs.Sensors.{AreBlocks, BlocksAreOfListing, Found, fo
 use Rattle.ipmi_commands.proofs.NameLemmas.{HasItems, name_counted}
 use Rattle.ipmi_commands.proofs.OutputLemmas.{nothing_then, then_assoc, then_nothing}
 use Rattle.ipmi_commands.specs.Format.{Texts}
+use Rattle.ipmi_commands.specs.declared.sensors.Sought.{Sought}
 
 module _ (x : Texts) (name : List ℕ) where
   blocks_more : (done : List Found) (found : Found) (text piece : Output) → AreBlocks x name done text
@@ -77,7 +79,7 @@ module _ (x : Texts) (name : List ℕ) where
 
 -- ---- the blocks of what is found along a walk
 
-module _ (x : Texts) (names : List (List ℕ)) (name : List ℕ) (among : Contains names name) (store : Store) where
+module _ (x : Texts) (names : Bor (List (List ℕ))) (name : List ℕ) (among : Contains names.now name) (store : Store) where
   -- the text of a row that is found
   found_text : (id : ℕ) (bytes : List ℕ) (view : Result SdrView SdrFault) (text : List ℕ)
       → IsBlockOfFound x name (record { id = id; bytes = bytes; reading = reading_in store view }) view text
@@ -86,7 +88,7 @@ module _ (x : Texts) (names : List (List ℕ)) (name : List ℕ) (among : Contai
   found_text id bytes (Err fault) text is = is
 
   -- a row that is not found has no text
-  no_text : (id : ℕ) (view : Result SdrView SdrFault) → has_one_of names view ≡ false
+  no_text : (id : ℕ) (view : Result SdrView SdrFault) → has_one_of names.now view ≡ false
       → IsBlockOfName x name store id view []
   no_text id (Ok view) none = not_chosen (is_name name (name_of view)) refl
     where
@@ -94,16 +96,16 @@ module _ (x : Texts) (names : List (List ℕ)) (name : List ℕ) (among : Contai
           → IfChosen b (λ t. IsTextOfRecord x Detail.Block id view (known (reading_for store view)) t) []
       not_chosen false is = refl
       not_chosen true is =
-          let one = list_any_at (λ n. is_name n (name_of view)) names among.0 name among.1 (ap (λ (n : List ℕ). is_name n (name_of view)) among.2 ∙ is) in
+          let one = list_any_at (λ n. is_name n (name_of view)) names.now among.0 name among.1 (ap (λ (n : List ℕ). is_name n (name_of view)) among.2 ∙ is) in
           cc (one, none)
   no_text id (Err fault) none = refl
 
   -- one row, and the rest
   row_texts : (start : Place) (row : Row) (walk : List Row)
-      → ((text : Output) → AreBlocks x name (found_among names store walk) text
+      → ((text : Output) → AreBlocks x name (found_among (Sought.Named names) store walk) text
       → AreTexts (IsPieceOver x store) (row_items (Form.Block name) (place_after row.next) walk) text)
-      → (one : Bool) → has_one_of names (sdr_view_of row.bytes) ≡ one → (text : Output)
-      → AreBlocks x name (cond one (found_row store row ∷ []) [] ++ found_among names store walk) text
+      → (one : Bool) → has_one_of names.now (sdr_view_of row.bytes) ≡ one → (text : Output)
+      → AreBlocks x name (cond one (found_row store row ∷ []) [] ++ found_among (Sought.Named names) store walk) text
       → AreTexts (IsPieceOver x store) (row_items (Form.Block name) start (row ∷ walk)) text
   row_texts start row walk more true is text are = record {
     first = are.first;
@@ -120,11 +122,11 @@ module _ (x : Texts) (names : List (List ℕ)) (name : List ℕ) (among : Contai
     joined = sym (nothing_then text);
   }
 
-  texts_of_blocks : (start : Place) (walk : List Row) (text : Output) → AreBlocks x name (found_among names store walk) text
+  texts_of_blocks : (start : Place) (walk : List Row) (text : Output) → AreBlocks x name (found_among (Sought.Named names) store walk) text
       → AreTexts (IsPieceOver x store) (row_items (Form.Block name) start walk) text
   texts_of_blocks start [] text are = are
   texts_of_blocks start (row ∷ walk) text are =
-      row_texts start row walk (λ rest. texts_of_blocks (place_after row.next) walk rest) (has_one_of names (sdr_view_of row.bytes)) refl text are
+      row_texts start row walk (λ rest. texts_of_blocks (place_after row.next) walk rest) (has_one_of names.now (sdr_view_of row.bytes)) refl text are
 
 -- whether anything was counted decides the end
 end_by_count : (name : List ℕ) (walk : List Row) (old new text : Output) → new ≡ and_then old text

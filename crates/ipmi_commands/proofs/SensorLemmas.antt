@@ -1,7 +1,6 @@
 -- A search for sensors, step by step of its cursor.
 use Rattle.std.proofs.Common.{◌≡◌, inl, inr, ℕ, ◌+◌, ◌≤◌, IsTrue, Option, None, Some, Result, Ok, Err, List, [], ◌∷◌, ◌++◌, length, take, refl, sym, ap, subst, ◌∙◌, arith, append-nil, append_assoc, take_all, length-append, Bool, true, false, cond}
 use Rattle.std.specs.FinSet as set
-use Rattle.std.specs.List.{list_any}
 use Rattle.std.proofs.lemmas.Bool.Decides.{nat_tests}
 use Rattle.std.proofs.lemmas.List.{take-take}
 use Rattle.std.proofs.Math.Seq.{take-append_seam}
@@ -9,15 +8,14 @@ use Rattle.ipmi_bus.proofs.GrowthLaws.{moment, steps_stay}
 use Rattle.ipmi_bus.proofs.HeldLemmas.{held_at_last, held_in_first}
 use Rattle.ipmi_bus.proofs.StepsLaws.{steps_follow}
 use Rattle.ipmi_bus.proofs.WalkLemmas.{all_at_end}
-use Rattle.ipmi_commands.specs.Below.{AreSteps, cursor_after, CursorHoldsCurrent, CursorState, Done, CycleAt, MissingAt, End, Ended, EndsBy, Ending, Failure, First, first_row, handed_out, Id, IsHonest, IsLog, IsStep, IsWalk, last_next, OnGrowing, OnlyGrew, Place, place_after, place_after_rows, Reading, Row, rows_of, Sdr, SdrFault, SdrView, sdr_view_of, Seen, seen_after, Shelf, StandsAt, start_of, StaysHonest, StepIsHonest, Stepped, stays_refl, stays_trans, store_shelf, Store, WalkEnd, WalkStep, WasHeld, WasLog, with_handed}
-use Rattle.ipmi_commands.specs.Prelude.{has_one_of, AsksAt, AtEnd, calls_for_points, Cause, cause_of, cause_of_unread, EndsFor, failure_of, FindsIt, FindsNone, Form, IsFresh, is_name, IsOnWalk, KeepsAt, most_after, most_for_one, NoMemory, OnEachWalk, OnWalk, points_because_of, walk_call_bound, reading_for, reading_points, shelf_of, ReadPoint, ReadError}
-use Rattle.ipmi_records.specs.Sdr.{name_of}
-use Rattle.ipmi_commands.specs.Sensors.{AddsNamed, AreFoundWhile, AreNamed, FindsAlong, FindsBy, FindsWhile, Found, found_among, found_by, found_of, found_of_result, found_points, SearchCalls, Searches, SearchesBy, StopsAtResult, with_readings}
+use Rattle.ipmi_commands.specs.Below.{AreSteps, cursor_after, CursorHoldsCurrent, CursorState, Done, CycleAt, MissingAt, End, Ended, EndsBy, Ending, Failure, First, first_row, handed_out, Id, IsHonest, IsLog, IsStep, IsWalk, last_next, OnGrowing, OnlyGrew, Place, place_after, place_after_rows, Row, rows_of, Sdr, SdrFault, SdrView, sdr_view_of, Seen, seen_after, Shelf, StandsAt, start_of, StaysHonest, StepIsHonest, Stepped, stays_refl, stays_trans, store_shelf, Store, WalkEnd, WalkStep, WasHeld, WasLog, with_handed}
+use Rattle.ipmi_commands.specs.Prelude.{AsksAt, AtEnd, calls_for_points, Cause, cause_of, cause_of_unread, EndsFor, failure_of, FindsIt, FindsNone, Form, IsFresh, IsOnWalk, KeepsAt, most_after, most_for_one, OnEachWalk, OnWalk, points_because_of, walk_call_bound, reading_points, shelf_of, ReadPoint, ReadError}
+use Rattle.ipmi_commands.specs.Sensors.{AddsSought, AreFoundWhile, AreSought, FindsAlong, FindsBy, FindsWhile, Found, found_among, found_by, found_of, found_of_result, found_points, SearchCalls, Searches, SearchesBy, seeks, StopsAtResult, with_readings}
+use Rattle.ipmi_commands.specs.declared.sensors.Sought.{Sought}
 use Rattle.ipmi_commands.specs.Traced.{IsStopAmong, IsTraced, seen_next}
 use Rattle.ipmi_commands.specs.declared.limits.RequestLimits.{RequestLimits}
 use Rattle.ipmi_commands.specs.declared.limits.Tries.{Tries}
 use Rattle.ipmi_commands.proofs.AlongLemmas.{in_all, IsAlong, one_more, StepsAlong, stopped_along}
-use Rattle.ipmi_commands.proofs.AskLemmas.{asks_nothing, then_no_memory}
 use Rattle.ipmi_commands.proofs.CallLemmas.{called_more, called_stopped, calls_ended, HandsNothing, HasCalled}
 use Rattle.ipmi_commands.proofs.CountLemmas.{between, ends_here, ends_since}
 use Rattle.ipmi_commands.proofs.GrownListing.{split_last}
@@ -27,58 +25,15 @@ use Rattle.ipmi_commands.proofs.TraceLemmas.{cursor_more, handed_joined, next_mo
 
 -- ---- what is found of a row
 
-module _ (names : List (List ℕ)) (tries : Tries) (row : Row) {view : SdrView} (is : sdr_view_of row.bytes ≡ Ok view)
-    {own : Option (List ℕ)} (own_is : own ≡ name_of view) {one : Bool}
-    (one_is : one ≡ list_any (λ name. is_name name own) names) where
-  whether : has_one_of names (sdr_view_of row.bytes) ≡ one
-  whether = ap (has_one_of names) is ∙ ap (λ (o : Option (List ℕ)). list_any (λ name. is_name name o) names) (sym own_is) ∙ sym one_is
-
-  -- nothing, as it has none of the names
-  pub none_named : (s : Seen) (found : List Found) → one ≡ false → IsHonest s
-      → FindsIt (λ store. found ≡ found ++ found_of names store row) (found_points names row) tries s s
-  none_named s found none honest = record {
-    asks = asks_nothing (found_points names row) tries s honest;
-    is = λ keeps. rw (whether ∙ none) (sym (append-nil found));
-  }
-
-  module _ (named : one ≡ true) where
-    points_are : found_points names row ≡ reading_points row.id (Ok view)
-    points_are = rw (whether ∙ named, is) refl
-
-    -- its reading was not found
-    pub named_lost : {s s' : Seen} {cause : Cause} → FindsNone (reading_points row.id (Ok view)) tries s s' cause
-        → FindsNone (found_points names row) tries s s' cause
-    named_lost none = rw points_are none
-
-    -- its reading was found, but there is no memory for it
-    pub named_unkept : {reading : Option Reading} {s s' : Seen}
-        → FindsIt (λ store. reading ≡ reading_for store view) (reading_points row.id (Ok view)) tries s s'
-        → FindsNone (found_points names row) tries s s' NoMemory
-    named_unkept found = rw points_are (then_no_memory found.asks)
-
-    pub named_added : (reading : Option Reading) (old new : List Found)
-        → new ≡ old ++ record { id = row.id; bytes = row.bytes; reading = reading } ∷ [] → AddsNamed names old new
-    named_added reading old new kept = record { more = record { id = row.id; bytes = row.bytes; reading = reading } ∷ []; named = (whether ∙ named, tt); new_is = kept }
-
-    -- the row with its reading
-    pub named_found : {reading : Option Reading} {s s' : Seen} (old new : List Found)
-        → FindsIt (λ store. reading ≡ reading_for store view) (reading_points row.id (Ok view)) tries s s'
-        → new ≡ old ++ record { id = row.id; bytes = row.bytes; reading = reading } ∷ []
-        → FindsIt (λ store. new ≡ old ++ found_of names store row) (found_points names row) tries s s'
-    named_found old new found kept = record {
-      asks = rw points_are found.asks;
-      is = λ keeps. rw (whether ∙ named, is) (kept ∙ ap (λ (r : Option Reading). old ++ record { id = row.id; bytes = row.bytes; reading = r } ∷ []) (found.is (rw points_are at keeps)));
-    }
-
 -- a reading has no inventory that may change
-reading_kept : (names : List (List ℕ)) (row : Row) (s s' : Seen) → KeepsAt (found_points names row) s s'
-reading_kept names row s s' =
-    if_keeps (has_one_of names (sdr_view_of row.bytes)) (reading_points row.id (sdr_view_of row.bytes)) s s' (reading_keeps row.id (sdr_view_of row.bytes) s s')
+reading_kept : (sought : Sought) (row : Row) (s s' : Seen) → KeepsAt (found_points sought row) s s'
+reading_kept sought row s s' =
+    if_keeps (seeks sought row) (reading_points row.id (sdr_view_of row.bytes)) s s' (reading_keeps row.id (sdr_view_of row.bytes) s s')
 
 -- its calls are among those of a listing with readings
-found_calls : (names : List (List ℕ)) (row : Row) (tries : Tries) (a b : Store)
-    → calls_for_points tries a (found_points names row) ≤ calls_for_points tries b (points_because_of with_readings row)
-found_calls names row tries a b = if_found (has_one_of names (sdr_view_of row.bytes))
+found_calls : (sought : Sought) (row : Row) (tries : Tries) (a b : Store)
+    → calls_for_points tries a (found_points sought row) ≤ calls_for_points tries b (points_because_of with_readings row)
+found_calls sought row tries a b = if_found (seeks sought row)
   where
     of_reading : (id : ℕ) (view : Result SdrView SdrFault)
         → calls_for_points tries a (reading_points id view) ≡ calls_for_points tries b (reading_points id view)
@@ -91,55 +46,55 @@ found_calls names row tries a b = if_found (has_one_of names (sdr_view_of row.by
 
 -- ---- over any controller
 
-pub adds_none : (names : List (List ℕ)) (old : List Found) → AddsNamed names old old
-adds_none names old = record { more = []; named = tt; new_is = sym (append-nil old) }
+pub adds_none : (sought : Sought) (old : List Found) → AddsSought sought old old
+adds_none sought old = record { more = []; are_sought = tt; new_is = sym (append-nil old) }
 
-named_joined : (names : List (List ℕ)) (a b : List Found) → AreNamed names a → AreNamed names b → AreNamed names (a ++ b)
-named_joined names [] b first rest = rest
-named_joined names (x ∷ a) b first rest = (first.0, named_joined names a b first.1 rest)
+sought_joined : (sought : Sought) (a b : List Found) → AreSought sought a → AreSought sought b → AreSought sought (a ++ b)
+sought_joined sought [] b first rest = rest
+sought_joined sought (x ∷ a) b first rest = (first.0, sought_joined sought a b first.1 rest)
 
-pub adds_more : (names : List (List ℕ)) (a b c : List Found) → AddsNamed names a b → AddsNamed names b c → AddsNamed names a c
-adds_more names a b c first then_ = record {
+pub adds_more : (sought : Sought) (a b c : List Found) → AddsSought sought a b → AddsSought sought b c → AddsSought sought a c
+adds_more sought a b c first then_ = record {
   more = first.more ++ then_.more;
-  named = named_joined names first.more then_.more first.named then_.named;
+  are_sought = sought_joined sought first.more then_.more first.are_sought then_.are_sought;
   new_is = then_.new_is ∙ ap (λ (l : List Found). l ++ then_.more) first.new_is ∙ append_assoc a first.more then_.more;
 }
 
 -- ---- what is found by one more step
 
-found_more : (names : List (List ℕ)) (steps : List Stepped) (step : Stepped) (last : Seen)
-    → found_by names (steps ++ step ∷ []) last
-    ≡ found_by names steps step.before ++ found_of_result names last.store step.result
-found_more names [] step last = append-nil (found_of_result names last.store step.result)
-found_more names (one ∷ steps) step last =
-    rw (next_more steps step last, found_more names steps step last)
-    (sym (append_assoc (found_of_result names (seen_next steps step.before).store one.result) (found_by names steps step.before) (found_of_result names last.store step.result)))
+found_more : (sought : Sought) (steps : List Stepped) (step : Stepped) (last : Seen)
+    → found_by sought (steps ++ step ∷ []) last
+    ≡ found_by sought steps step.before ++ found_of_result sought last.store step.result
+found_more sought [] step last = append-nil (found_of_result sought last.store step.result)
+found_more sought (one ∷ steps) step last =
+    rw (next_more steps step last, found_more sought steps step last)
+    (sym (append_assoc (found_of_result sought (seen_next steps step.before).store one.result) (found_by sought steps step.before) (found_of_result sought last.store step.result)))
 
 -- ---- a search that goes on
 
 -- over an honest controller
-pub record Searched (names : List (List ℕ)) (tries : Tries) (count : ℕ) (begun now : CursorState) (s s' : Seen)
+pub record Searched (sought : Sought) (tries : Tries) (count : ℕ) (begun now : CursorState) (s s' : Seen)
     (old new : List Found) : Type 0 where
   pub ends : EndsFor tries (IsTrue s.plain × CursorHoldsCurrent begun s) s s' AtEnd
   pub holds : IsTrue s.plain → CursorHoldsCurrent begun s → CursorHoldsCurrent now s'
   pub steps : List Stepped
   pub traced : IsTraced begun now s s' steps
-  pub found : new ≡ old ++ found_by names steps s'
+  pub found : new ≡ old ++ found_by sought steps s'
   pub along : s'.stores_added ≡ s.stores_added → OnEachWalk Sdr begun s.store
       (λ start walk end k. IsAlong with_readings tries None count count begun now s s' start walk k)
 
-pub record Searching (names : List (List ℕ)) (tries : Tries) (begun now : CursorState) (s s' : Seen)
+pub record Searching (sought : Sought) (tries : Tries) (begun now : CursorState) (s s' : Seen)
     (old new : List Found) : Type 0 where
   pub shelf : now.shelf ≡ Sdr
   pub tries_are : now.tries ≡ tries.count
   pub count : ℕ
   pub called : HasCalled (most_for_one with_readings tries) count begun now s s'
-  pub went : IsHonest s → Searched names tries count begun now s s' old new
+  pub went : IsHonest s → Searched sought tries count begun now s s' old new
 
-pub search_begun : (names : List (List ℕ)) (tries : Tries) (begun : CursorState) (s : Seen) (old : List Found)
+pub search_begun : (sought : Sought) (tries : Tries) (begun : CursorState) (s : Seen) (old : List Found)
     → begun.shelf ≡ Sdr → begun.tries ≡ tries.count → set.len begun.ids ≤ 65536
-    → Searching names tries begun begun s s old old
-search_begun names tries begun s old shelf tries_are room = record {
+    → Searching sought tries begun begun s s old old
+search_begun sought tries begun s old shelf tries_are room = record {
   shelf = shelf;
   tries_are = tries_are;
   count = 0;
@@ -158,8 +113,8 @@ search_begun names tries begun s old shelf tries_are room = record {
   };
 }
 
-module _ {names : List (List ℕ)} {tries : Tries} {begun now : CursorState} {s s' : Seen} {old new : List Found}
-    (kept : Searching names tries begun now s s' old new) where
+module _ {sought : Sought} {tries : Tries} {begun now : CursorState} {s s' : Seen} {old new : List Found}
+    (kept : Searching sought tries begun now s s' old new) where
   module _ {next : CursorState} {s'' : Seen} {result : Result (Option Row) Ended}
       (step : IsStep now next s' s'' result) where
     honest_step : IsHonest s → StepIsHonest now next s' s'' result
@@ -186,13 +141,13 @@ module _ {names : List (List ℕ)} {tries : Tries} {begun now : CursorState} {s 
 
     -- what was found, and what is found of what the step returned
     all_found : (h : IsHonest s) (last : Seen) (more : List Found)
-        → more ≡ new ++ found_of_result names last.store result
-        → more ≡ old ++ found_by names (all_steps h) last
+        → more ≡ new ++ found_of_result sought last.store result
+        → more ≡ old ++ found_by sought (all_steps h) last
     all_found h last more is =
         let went = kept.went h in
-        let of_step = found_of_result names last.store result in
-        is ∙ ap (λ (l : List Found). l ++ of_step) went.found ∙ append_assoc old (found_by names went.steps s') of_step
-        ∙ ap (λ (l : List Found). old ++ l) (sym (found_more names went.steps last_step last))
+        let of_step = found_of_result sought last.store result in
+        is ∙ ap (λ (l : List Found). l ++ of_step) went.found ∙ append_assoc old (found_by sought went.steps s') of_step
+        ∙ ap (λ (l : List Found). old ++ l) (sym (found_more sought went.steps last_step last))
 
     -- the step along a walk
     from_here : (h : IsHonest s) → s''.stores_added ≡ s.stores_added → {start : Place} {walk : List Row} {end : WalkEnd}
@@ -222,7 +177,7 @@ module _ {names : List (List ℕ)} {tries : Tries} {begun now : CursorState} {s 
 
   -- there are no more records
   module _ {next : CursorState} {s'' : Seen} (step : IsStep now next s' s'' (Ok None)) where
-    pub search_done : IsHonest s → SearchesBy names tries begun next s s'' old new (Ok tt)
+    pub search_done : IsHonest s → SearchesBy sought tries begun next s s'' old new (Ok tt)
     search_done h = record {
       why = all_ends step h;
       finds = record {
@@ -238,7 +193,7 @@ module _ {names : List (List ℕ)} {tries : Tries} {begun now : CursorState} {s 
 
   -- the cursor returned no record, for this reason
   module _ {next : CursorState} {s'' : Seen} (ended : Ended) (step : IsStep now next s' s'' (Err ended)) where
-    pub search_ended : IsHonest s → SearchesBy names tries begun next s s'' old new (Err (Failure.Ended ended))
+    pub search_ended : IsHonest s → SearchesBy sought tries begun next s s'' old new (Err (Failure.Ended ended))
     search_ended h = record {
       why = all_ends step h;
       finds = record {
@@ -261,24 +216,24 @@ module _ {names : List (List ℕ)} {tries : Tries} {begun now : CursorState} {s 
     pub lost_calls : SearchCalls tries begun s last
     lost_calls = λ some. (called_stopped (most_for_one with_readings tries) (kept.count + 1) None begun next s last (Err Failure.OutOfMemory) more_called).all some
 
-    row_ends : {cause : Cause} → (h : IsHonest s) → AsksAt (found_points names row) tries s'' last cause
+    row_ends : {cause : Cause} → (h : IsHonest s) → AsksAt (found_points sought row) tries s'' last cause
         → EndsFor tries (IsTrue s.plain × CursorHoldsCurrent begun s) s last cause
     row_ends h asks = ends_since (all_ends step h) (λ p. (all_ends step h).stays.plain p.0) asks.ends
 
     -- the walk after it
-    along_more : {cause : Cause} → (h : IsHonest s) → AsksAt (found_points names row) tries s'' last cause
+    along_more : {cause : Cause} → (h : IsHonest s) → AsksAt (found_points sought row) tries s'' last cause
         → last.stores_added ≡ s.stores_added → (start : Place) (walk : List Row) (end : WalkEnd) (k : ℕ)
         → IsOnWalk (rows_of Sdr s.store) start walk end k begun
         → IsAlong with_readings tries None (kept.count + 1) (kept.count + 1) begun next s last start walk k
     along_more h asks same start walk end k on =
         let apart = between s s'' last (all_ends step h).stays asks.ends.stays same in
         one_more (from_here step h apart.0 on) last
-        (omega (arith, asks.calls (reading_kept names row s'' last), found_calls names row tries s''.store s.store))
+        (omega (arith, asks.calls (reading_kept sought row s'' last), found_calls sought row tries s''.store s.store))
 
     -- its reading was not found
     pub search_lost : (unread : ReadError)
-        → (IsHonest s'' → FindsNone (found_points names row) tries s'' last (cause_of_unread unread))
-        → IsHonest s → SearchesBy names tries begun next s last old new (Err (failure_of unread))
+        → (IsHonest s'' → FindsNone (found_points sought row) tries s'' last (cause_of_unread unread))
+        → IsHonest s → SearchesBy sought tries begun next s last old new (Err (failure_of unread))
     search_lost unread none h =
         let lost = none (honest_step step h).stays.honest in record {
           why = row_ends h lost.asks;
@@ -292,8 +247,8 @@ module _ {names : List (List ℕ)} {tries : Tries} {begun now : CursorState} {s 
 
     -- it was searched
     pub search_more : (more : List Found)
-        → (IsHonest s'' → FindsIt (λ store. more ≡ new ++ found_of names store row) (found_points names row) tries s'' last)
-        → Searching names tries begun next s last old more
+        → (IsHonest s'' → FindsIt (λ store. more ≡ new ++ found_of sought store row) (found_points sought row) tries s'' last)
+        → Searching sought tries begun next s last old more
     search_more more finds = record {
       shelf = step.same.shelf ∙ kept.shelf;
       tries_are = step.same.tries ∙ kept.tries_are;
@@ -308,7 +263,7 @@ module _ {names : List (List ℕ)} {tries : Tries} {begun now : CursorState} {s 
                 record { held = λ n is. current-kept next.shelf s'' last (found.asks.keeps (ends.stays.plain p)) ∙ on.held n is };
             steps = all_steps step h;
             traced = all_traced step h last found.asks.ends.stays;
-            found = all_found step h last more (found.is (reading_kept names row s'' last));
+            found = all_found step h last more (found.is (reading_kept sought row s'' last));
             along = along_more h found.asks;
           };
     }
@@ -320,27 +275,27 @@ same_shelf : (c : CursorState) (s : Seen) (steps : List Stepped) → AreSteps c 
 same_shelf c s [] are = refl
 same_shelf c s (step ∷ steps) are = same_shelf step.cursor step.seen steps are.2 ∙ are.1.same.shelf
 
-found_result : (names : List (List ℕ)) (store : Store) (result : Result (Option Row) Ended) (rows : List Row)
-    → found_among names store (with_handed result rows)
-    ≡ found_of_result names store result ++ found_among names store rows
-found_result names store (Ok (Some row)) rows = refl
-found_result names store (Ok None) rows = refl
-found_result names store (Err ended) rows = refl
+found_result : (sought : Sought) (store : Store) (result : Result (Option Row) Ended) (rows : List Row)
+    → found_among sought store (with_handed result rows)
+    ≡ found_of_result sought store result ++ found_among sought store rows
+found_result sought store (Ok (Some row)) rows = refl
+found_result sought store (Ok None) rows = refl
+found_result sought store (Err ended) rows = refl
 
 -- each reading is over the same store
-found_steps : (names : List (List ℕ)) (c : CursorState) (s : Seen) (steps : List Stepped) (last : Seen)
+found_steps : (sought : Sought) (c : CursorState) (s : Seen) (steps : List Stepped) (last : Seen)
     → IsHonest s → AreSteps c s steps → StaysHonest (seen_after s steps) last → last.stores_added ≡ s.stores_added
-    → found_by names steps last ≡ found_among names s.store (handed_out steps)
-found_steps names c s [] last honest are stays same = refl
-found_steps names c s (step ∷ steps) last honest are stays same =
+    → found_by sought steps last ≡ found_among sought s.store (handed_out steps)
+found_steps sought c s [] last honest are stays same = refl
+found_steps sought c s (step ∷ steps) last honest are stays same =
     let made = (are.1.honest are.0.honest).stays in
     let to_here = stays_trans s step.before step.seen are.0 made in
     let next = next_stays step.cursor step.seen steps last made.honest are.2 stays in
     let on = stays_trans s step.seen (seen_next steps last) to_here next.0 in
     let here = between s step.seen last to_here (stays_trans step.seen (seen_next steps last) last next.0 next.1) same in
     let there = between s (seen_next steps last) last on next.1 same in
-    let rest = found_steps names step.cursor step.seen steps last made.honest are.2 stays here.1 in
-    rw (on.store.stays there.0, rest, to_here.store.stays here.0) (sym (found_result names s.store step.result (handed_out steps)))
+    let rest = found_steps sought step.cursor step.seen steps last made.honest are.2 stays here.1 in
+    rw (on.store.stays there.0, rest, to_here.store.stays here.0) (sym (found_result sought s.store step.result (handed_out steps)))
 
 -- the place after a whole walk is the end only if the walk ends with `Done`
 last_at_end : (next : ℕ) (walk : List Row) → place_after_rows (place_after next) walk ≡ End → last_next next walk ≡ 0xFFFF
@@ -367,20 +322,20 @@ empty_done rows [] (CycleAt n) w ends none = absurd ends
 empty_done rows [] (MissingAt n) w ends none = absurd ends
 empty_done rows (row ∷ walk) end w ends none = let is = w.first in cc (is, none)
 
-module _ (names : List (List ℕ)) (begun now : CursorState) (s s' : Seen) (old new : List Found) (start : Place)
+module _ (sought : Sought) (begun now : CursorState) (s s' : Seen) (old new : List Found) (start : Place)
     (honest : IsHonest s) (same : s'.stores_added ≡ s.stores_added) (walk : List Row) (end : WalkEnd)
     (w : IsWalk (rows_of begun.shelf s.store) start walk) (ends : EndsBy (rows_of begun.shelf s.store) start walk end)
     (stands : StandsAt (rows_of begun.shelf s.store) start walk 0 begun) where
   -- what was found by some steps is what is found of the first rows
   first_found : (steps : List Stepped) (last : Seen) → AreSteps begun s steps → StaysHonest (seen_after s steps) last
-      → last.stores_added ≡ s.stores_added → new ≡ old ++ found_by names steps last
-      → (count : ℕ) × (new ≡ old ++ found_among names s.store (take count walk))
+      → last.stores_added ≡ s.stores_added → new ≡ old ++ found_by sought steps last
+      → (count : ℕ) × (new ≡ old ++ found_among sought s.store (take count walk))
       × StandsAt (rows_of begun.shelf s.store) start walk count (cursor_after begun steps)
   first_found steps last are stays unchanged found =
       let parts = between s (seen_after s steps) last (steps_stay begun s steps honest are) stays unchanged in
       let at = steps_follow begun s steps start walk end honest w ends stands are parts.0 in
-      let those = found_steps names begun s steps last honest are stays unchanged in
-      (at.0, found ∙ ap (λ (l : List Found). old ++ l) (those ∙ ap (found_among names s.store) at.1), at.2)
+      let those = found_steps sought begun s steps last honest are stays unchanged in
+      (at.0, found ∙ ap (λ (l : List Found). old ++ l) (those ∙ ap (found_among sought s.store) at.1), at.2)
 
   -- a cursor at the end is after the whole walk
   whole_walk : (k : ℕ) (c : CursorState) → c.shelf ≡ begun.shelf → StandsAt (rows_of begun.shelf s.store) start walk k c
@@ -398,11 +353,11 @@ module _ (names : List (List ℕ)) (begun now : CursorState) (s s' : Seen) (old 
       )
 
   abbrev Along : Ending → Type 0
-  Along = FindsAlong names s.store walk end old new
+  Along = FindsAlong sought s.store walk end old new
 
   -- a step that failed after the first k rows
   along_ended : (k : ℕ) (c next : CursorState) (ended : Ended) → WalkStep (rows_of begun.shelf s.store) start walk end k c next (Err ended)
-      → new ≡ old ++ found_among names s.store (take k walk) → Along (Err (Failure.Ended ended))
+      → new ≡ old ++ found_among sought s.store (take k walk) → Along (Err (Failure.Ended ended))
   along_ended k c next (Ended.Cycle n) at found = (at.1, rw (take_all k walk (omega (arith, at.0))) at found)
   along_ended k c next (Ended.Missing n) at found = (at.1, rw (take_all k walk (omega (arith, at.0))) at found)
   along_ended k c next (Ended.GaveUp n) at found = (k, found)
@@ -412,24 +367,24 @@ module _ (names : List (List ℕ)) (begun now : CursorState) (s s' : Seen) (old 
 
   -- a reading that was not found
   along_lost : (k : ℕ) (points : List ReadPoint) (failure : Failure) → IsStopAmong points (cause_of (Err failure))
-      → new ≡ old ++ found_among names s.store (take k walk) → Along (Err failure)
+      → new ≡ old ++ found_among sought s.store (take k walk) → Along (Err failure)
   along_lost k points (Failure.Ended (Ended.Cycle n)) there found = absurd there
   along_lost k points (Failure.Ended (Ended.Missing n)) there found = absurd there
   along_lost k points _ there found = (k, found)
 
   along_stopped : (k : ℕ) (c next : CursorState) (result : Result (Option Row) Ended) (failure : Failure)
-      → WalkStep (rows_of begun.shelf s.store) start walk end k c next result → StopsAtResult names result failure
-      → new ≡ old ++ found_among names s.store (take k walk) → Along (Err failure)
-  along_stopped k c next (Ok (Some row)) failure at stops found = along_lost k (found_points names row) failure stops found
+      → WalkStep (rows_of begun.shelf s.store) start walk end k c next result → StopsAtResult sought result failure
+      → new ≡ old ++ found_among sought s.store (take k walk) → Along (Err failure)
+  along_stopped k c next (Ok (Some row)) failure at stops found = along_lost k (found_points sought row) failure stops found
   along_stopped k c next (Ok None) failure at stops found = absurd stops
   along_stopped k c next (Err ended) failure at stops found =
       subst (λ (f : Failure). Along (Err f)) (sym stops) (along_ended k c next ended at found)
 
-  along : (ending : Ending) → FindsBy names begun now s s' old new ending → Along ending
+  along : (ending : Ending) → FindsBy sought begun now s s' old new ending → Along ending
   along (Ok done) f =
       let at = first_found f.steps s' f.traced.are f.traced.stays same f.ends.1 in
       let all = whole_walk at.0 (cursor_after begun f.steps) (same_shelf begun s f.steps f.traced.are) at.2 (ap (λ (c : CursorState). c.place) f.traced.cursor ∙ f.ends.0) in
-      (all.0, at.1 ∙ ap (λ (l : List Row). old ++ found_among names s.store l) all.1)
+      (all.0, at.1 ∙ ap (λ (l : List Row). old ++ found_among sought s.store l) all.1)
   along (Err failure) f =
       let done = f.ends.done in
       let step = f.ends.step in
@@ -447,16 +402,16 @@ module _ (names : List (List ℕ)) (begun now : CursorState) (s s' : Seen) (old 
 
 -- ---- along a log that grew
 
-module _ (names : List (List ℕ)) (first last : Seen) where
+module _ (sought : Sought) (first last : Seen) where
   found_then : (result : Result (Option Row) Ended) (store : Store) (rows : List Row) (rest : List Found)
-      → WasHeld first last store → AreFoundWhile names first last rows rest
-      → AreFoundWhile names first last (with_handed result rows) (found_of_result names store result ++ rest)
+      → WasHeld first last store → AreFoundWhile sought first last rows rest
+      → AreFoundWhile sought first last (with_handed result rows) (found_of_result sought store result ++ rest)
   found_then (Ok (Some row)) store rows rest held are = record { store = store; held = held; rest = rest; is_rest = are; joined = refl }
   found_then (Ok None) store rows rest held are = are
   found_then (Err ended) store rows rest held are = are
 
   found_while : (c : CursorState) (s : Seen) (steps : List Stepped) (now : Seen) → StaysHonest first s → AreSteps c s steps
-      → StaysHonest (seen_after s steps) now → StaysHonest now last → AreFoundWhile names first last (handed_out steps) (found_by names steps now)
+      → StaysHonest (seen_after s steps) now → StaysHonest now last → AreFoundWhile sought first last (handed_out steps) (found_by sought steps now)
   found_while c s [] now before are stays after = refl
   found_while c s (step ∷ steps) now before are stays after =
       let made = (are.1.honest are.0.honest).stays in
@@ -465,21 +420,21 @@ module _ (names : List (List ℕ)) (first last : Seen) where
       let there = seen_next steps now in
       let to_there = stays_trans first step.seen there to_here next.0 in
       let on = stays_trans there now last next.1 after in
-      found_then step.result there.store (handed_out steps) (found_by names steps now)
+      found_then step.result there.store (handed_out steps) (found_by sought steps now)
       (held_in_first first there last to_there.store on.store there.store (held_at_last first there))
       (found_while step.cursor step.seen steps now to_here are.2 stays after)
 
-module _ (names : List (List ℕ)) (begun now : CursorState) (s s' : Seen) (old new : List Found) (start : Place)
+module _ (sought : Sought) (begun now : CursorState) (s s' : Seen) (old new : List Found) (start : Place)
     (honest : IsHonest s) (first : List Row) (log : IsLog begun.shelf start s.store first)
     (stands : StandsAt (rows_of begun.shelf s.store) start first 0 begun) (grew : OnlyGrew begun.shelf start s s') where
-  grown : (ending : Ending) → FindsBy names begun now s s' old new ending
-      → (rows : List Row) × WasLog begun.shelf start s s' first rows × FindsWhile names rows s s' old new ending
+  grown : (ending : Ending) → FindsBy sought begun now s s' old new ending
+      → (rows : List Row) × WasLog begun.shelf start s s' first rows × FindsWhile sought rows s s' old new ending
   grown (Ok done) f =
       let m = moment begun s s' start first honest log stands f.steps f.traced.are f.traced.stays grew in
       let whole = m.whole (ap (λ (c : CursorState). c.place) f.traced.cursor ∙ f.ends.0) in
       let last = stays_refl s' f.traced.stays.honest in
-      let those = found_while names s s' begun s f.steps s' (stays_refl s honest) f.traced.are f.traced.stays last in
-      (m.rows, m.was, (found_by names f.steps s', f.ends.1, subst (λ (l : List Row). AreFoundWhile names s s' l (found_by names f.steps s')) whole those))
+      let those = found_while sought s s' begun s f.steps s' (stays_refl s honest) f.traced.are f.traced.stays last in
+      (m.rows, m.was, (found_by sought f.steps s', f.ends.1, subst (λ (l : List Row). AreFoundWhile sought s s' l (found_by sought f.steps s')) whole those))
   grown (Err failure) f =
       let m = moment begun s s' start first honest log stands f.steps f.traced.are f.traced.stays grew in
       let done = f.ends.done in
@@ -487,21 +442,21 @@ module _ (names : List (List ℕ)) (begun now : CursorState) (s s' : Seen) (old 
       let parts = split_last begun s done step (subst (AreSteps begun s) f.ends.are f.traced.are) in
       let made = (parts.2.honest parts.1.honest).stays in
       let after = stays_trans step.before step.seen s' made (subst (λ (x : Seen). StaysHonest x s') (ap (seen_after s) f.ends.are ∙ seen_more s done step) f.traced.stays) in
-      let those = found_while names s s' begun s done step.before (stays_refl s honest) parts.0 parts.1 after in
+      let those = found_while sought s s' begun s done step.before (stays_refl s honest) parts.0 parts.1 after in
       let hd = handed_out done in
       let all : handed_out f.steps ≡ hd ++ handed_out (step ∷ []) = ap handed_out f.ends.are ∙ handed_joined done (step ∷ []) in
       let few : length hd ≤ length (handed_out f.steps) = omega (arith, ap (length {A = Row}) all, length-append hd (handed_out (step ∷ []))) in
       let rows : hd ≡ take (length hd) m.rows = sym (take-append_seam hd (handed_out (step ∷ []))) ∙ ap (take (length hd)) (sym all ∙ m.begins) ∙ take-take (length hd) (length (handed_out f.steps)) m.rows few in
-      (m.rows, m.was, (length hd, found_by names done step.before, f.ends.found, subst (λ (l : List Row). AreFoundWhile names s s' l (found_by names done step.before)) rows those))
+      (m.rows, m.was, (length hd, found_by sought done step.before, f.ends.found, subst (λ (l : List Row). AreFoundWhile sought s s' l (found_by sought done step.before)) rows those))
 
 -- ---- a new cursor
 
-pub search_by_cursor : {limits : RequestLimits} {form : Form} {from : Option ℕ} {names : List (List ℕ)} {tries : Tries}
+pub search_by_cursor : {limits : RequestLimits} {form : Form} {from : Option ℕ} {sought : Sought} {tries : Tries}
     {begun now : CursorState} {s s' : Seen} {old new : List Found} {ending : Ending}
     → IsFresh limits form from begun → shelf_of form ≡ Sdr → IsHonest s
-    → SearchesBy names tries begun now s s' old new ending
-    → Searches names (start_of from) tries s s' old new ending
-search_by_cursor {form = form} {from = from} {names} {tries} {begun = begun} {now = now} {s = s} {s' = s'} {old = old} {new = new} {ending = ending} fresh on honest by_cursor =
+    → SearchesBy sought tries begun now s s' old new ending
+    → Searches sought (start_of from) tries s s' old new ending
+search_by_cursor {form = form} {from = from} {sought} {tries} {begun = begun} {now = now} {s = s} {s' = s'} {old = old} {new = new} {ending = ending} fresh on honest by_cursor =
     let shelf : begun.shelf ≡ Sdr = ap (λ (c : CursorState). c.shelf) fresh.is ∙ on in
     record {
       why = record { stays = by_cursor.why.stays; grows = by_cursor.why.grows; counts = by_cursor.why.counts; plain = λ p. by_cursor.why.plain (p, holds_none fresh s) };
@@ -513,14 +468,14 @@ search_by_cursor {form = form} {from = from} {names} {tries} {begun = begun} {no
         ids = ap (λ (c : CursorState). c.ids) fresh.is;
         finds = by_cursor.finds;
       });
-      along = λ same. subst (λ (x : Shelf). OnWalk x (start_of from) s.store (λ walk end. FindsAlong names s.store walk end old new ending
+      along = λ same. subst (λ (x : Shelf). OnWalk x (start_of from) s.store (λ walk end. FindsAlong sought s.store walk end old new ending
           × (s'.calls ≤ s.calls + walk_call_bound with_readings s.store tries walk))) shelf
           (λ walk end w ends. (
-            along names begun now s s' old new (start_of from) honest same walk end w ends (fresh.stands (rows_of begun.shelf s.store) walk) ending by_cursor.finds,
+            along sought begun now s s' old new (start_of from) honest same walk end w ends (fresh.stands (rows_of begun.shelf s.store) walk) ending by_cursor.finds,
             calls_on same walk end (subst (λ (x : Shelf). IsOnWalk (rows_of x s.store) (start_of from) walk end 0 begun) shelf (record { walks = w; ends = ends; stands = fresh.stands (rows_of begun.shelf s.store) walk })),
           ));
-      grows = subst (λ (x : Shelf). OnGrowing x (start_of from) s s' (λ log. FindsWhile names log s s' old new ending)) shelf
-          (λ first log grew. grown names begun now s s' old new (start_of from) honest first log (fresh.stands (rows_of begun.shelf s.store) first) grew ending by_cursor.finds);
+      grows = subst (λ (x : Shelf). OnGrowing x (start_of from) s s' (λ log. FindsWhile sought log s s' old new ending)) shelf
+          (λ first log grew. grown sought begun now s s' old new (start_of from) honest first log (fresh.stands (rows_of begun.shelf s.store) first) grew ending by_cursor.finds);
     }
   where
     calls_on : s'.stores_added ≡ s.stores_added → (walk : List Row) (end : WalkEnd)
@@ -529,8 +484,8 @@ search_by_cursor {form = form} {from = from} {names} {tries} {begun = begun} {no
     calls_on same walk end on = omega (arith, by_cursor.calls same (start_of from) walk end 0 on fresh.some, fresh.falls)
 
 -- without memory for one
-pub search_without_memory : {names : List (List ℕ)} {start : Place} {tries : Tries} {s : Seen} {old : List Found} → IsHonest s
-    → Searches names start tries s s old old (Err Failure.OutOfMemory)
+pub search_without_memory : {sought : Sought} {start : Place} {tries : Tries} {s : Seen} {old : List Found} → IsHonest s
+    → Searches sought start tries s s old old (Err Failure.OutOfMemory)
 search_without_memory {s = s} {old = old} honest = record {
   why = ends_here honest refl tt;
   traces = inl (refl, refl, refl);

@@ -1,6 +1,7 @@
--- Sensors that one walk of the sensor data records finds by their names, and the blocks that are printed of them.
-use Rattle.std.specs.Prelude.{◌≡◌, ◌⊎◌, ℕ, ◌+◌, ◌*◌, ◌<◌, ◌≤◌, ◌==◌, Bool, true, false, IsTrue, if◌then◌else◌, Option, None, Some, Result, Ok, Err, List, [], ◌∷◌, ◌++◌, length, take, drop}
+-- Sensors that one walk of the sensor data records finds, and the blocks that are printed of them.
+use Rattle.std.specs.Prelude.{◌≡◌, ◌⊎◌, ℕ, ◌+◌, ◌*◌, ◌<◌, ◌≤◌, ◌==◌, ◌&&◌, Bool, true, false, IsTrue, if◌then◌else◌, Option, None, Some, Result, Ok, Err, List, [], ◌∷◌, ◌++◌, length, take, drop}
 use Rattle.std.specs.FinSet as set
+use Rattle.std.specs.Borrow.{Bor}
 use Rattle.std.specs.List.{Contains}
 use Rattle.ipmi_commands.specs.Below.{CursorState, CursorHoldsCurrent, CycleAt, digits, Done, End, Ended, Ending, Failure, Kind, known, LastCallSays, MissingAt, OnGrowing, Place, Reading, RefusesRecord, Row, Sdr, SdrFault, SdrView, sdr_view_of, Seen, Stepped, Store, WalkEnd, WasHeld}
 use Rattle.ipmi_commands.specs.declared.limits.Tries.{Tries}
@@ -13,9 +14,29 @@ use Rattle.ipmi_commands.specs.Calls.{most_for_one, walk_call_bound}
 use Rattle.ipmi_commands.specs.Listing.{CallsAlong, OnEachWalk}
 use Rattle.ipmi_commands.specs.Output.{and_then, IsCut, no_output, Output, piece_of}
 use Rattle.ipmi_commands.specs.Plan.{OnWalk, reading_points, row_items, rows_end, ReadPoint}
-use Rattle.ipmi_commands.specs.Selection.{has_one_of, is_name, of_kind}
+use Rattle.ipmi_command_line.specs.declared.filters.Filters.{Filters}
+use Rattle.ipmi_commands.specs.Selection.{has_one_of, is_among, is_name, is_wanted, of_kind, passes}
+use Rattle.ipmi_commands.specs.declared.sensors.Sought.{Sought}
 use Rattle.ipmi_commands.specs.Texts.{IfChosen, IsPieceOver, reading_for}
 use Rattle.ipmi_commands.specs.Traced.{IsStopAmong, IsTraced, seen_next}
+
+-- ---- what is sought
+
+-- a check looks at the sensors that pass the filters, and at each record with a fault, which may be one of a sensor, unless its id
+-- is filtered out
+abbrev pub checks_view : Filters → Row → Result SdrView SdrFault → Bool
+checks_view filters row (Err fault) = true
+checks_view filters row (Ok (SdrView.Full bytes)) = passes filters row
+checks_view filters row (Ok (SdrView.Compact bytes)) = passes filters row
+checks_view filters row (Ok view) = false
+
+abbrev pub checks : Filters → Row → Bool
+checks filters row =
+    is_wanted is_among filters.ids (Some row.id) && checks_view filters row (sdr_view_of row.bytes)
+
+abbrev pub seeks : Sought → Row → Bool
+seeks (Sought.Named names) row = has_one_of names.now (sdr_view_of row.bytes)
+seeks (Sought.Sensors filters) row = checks filters.now row
 
 -- ---- what is found
 
@@ -24,6 +45,10 @@ pub record Found : Type 0 where
   pub id : ℕ
   pub bytes : List ℕ
   pub reading : Option Reading
+
+-- the row that was found; which one is next is not kept
+abbrev pub row_of_found : Found → Row
+row_of_found found = record { id = found.id; next = 0; bytes = found.bytes }
 
 -- the store's reading that belongs to a record; a record with a fault has none
 abbrev pub reading_in : Store → Result SdrView SdrFault → Option Reading
@@ -35,27 +60,27 @@ abbrev pub found_row : Store → Row → Found
 found_row store row =
     record { id = row.id; bytes = row.bytes; reading = reading_in store (sdr_view_of row.bytes) }
 
--- what is found of a row: the row if it has one of the names
-abbrev pub found_of : List (List ℕ) → Store → Row → List Found
-found_of names store row =
-    if has_one_of names (sdr_view_of row.bytes) then found_row store row ∷ [] else []
+-- what is found of a row: the row if it is sought
+abbrev pub found_of : Sought → Store → Row → List Found
+found_of sought store row =
+    if seeks sought row then found_row store row ∷ [] else []
 
 -- what is found of the rows over one store, in their order
-abbrev pub found_among : List (List ℕ) → Store → List Row → List Found
-found_among names store [] = []
-found_among names store (row ∷ rows) = found_of names store row ++ found_among names store rows
+abbrev pub found_among : Sought → Store → List Row → List Found
+found_among sought store [] = []
+found_among sought store (row ∷ rows) = found_of sought store row ++ found_among sought store rows
 
 -- what is found of what a step returned
-abbrev pub found_of_result : List (List ℕ) → Store → Result (Option Row) Ended → List Found
-found_of_result names store (Ok (Some row)) = found_of names store row
-found_of_result names store _ = []
+abbrev pub found_of_result : Sought → Store → Result (Option Row) Ended → List Found
+found_of_result sought store (Ok (Some row)) = found_of sought store row
+found_of_result sought store _ = []
 
 -- what is found by these steps, in their order: each reading is that of the store which the controller
 -- held after the requests for it
-abbrev pub found_by : List (List ℕ) → List Stepped → Seen → List Found
-found_by names [] last = []
-found_by names (step ∷ steps) last =
-    found_of_result names (seen_next steps last).store step.result ++ found_by names steps last
+abbrev pub found_by : Sought → List Stepped → Seen → List Found
+found_by sought [] last = []
+found_by sought (step ∷ steps) last =
+    found_of_result sought (seen_next steps last).store step.result ++ found_by sought steps last
 
 -- ---- a search over any controller
 
@@ -63,15 +88,15 @@ found_by names (step ∷ steps) last =
 abbrev pub with_readings : Form
 with_readings = Form.Record Detail.Line (of_kind Kind.All)
 
--- each has one of the names
-abbrev pub AreNamed : List (List ℕ) → List Found → Type 0
-AreNamed names [] = Unit {0}
-AreNamed names (found ∷ rest) = (has_one_of names (sdr_view_of found.bytes) ≡ true) × AreNamed names rest
+-- each is sought
+abbrev pub AreSought : Sought → List Found → Type 0
+AreSought sought [] = Unit {0}
+AreSought sought (found ∷ rest) = (seeks sought (row_of_found found) ≡ true) × AreSought sought rest
 
--- records with one of the names were added at the end, and nothing else
-pub record AddsNamed (names : List (List ℕ)) (old new : List Found) : Type 0 where
+-- records that are sought were added at the end, and nothing else
+pub record AddsSought (sought : Sought) (old new : List Found) : Type 0 where
   pub more : List Found
-  pub named : AreNamed names more
+  pub are_sought : AreSought sought more
   pub new_is : new ≡ old ++ more
 
 -- the possible ends of a search: a failure at a record or a reading agrees with the last call
@@ -83,49 +108,49 @@ EndsSearch seen _ = ⊥
 
 -- ---- a search over an honest controller, whatever its store does
 
--- the point of the reading of a row with one of the names
-abbrev pub found_points : List (List ℕ) → Row → List ReadPoint
-found_points names row =
-    if has_one_of names (sdr_view_of row.bytes) then reading_points row.id (sdr_view_of row.bytes) else []
+-- the point of the reading of a row that is sought
+abbrev pub found_points : Sought → Row → List ReadPoint
+found_points sought row =
+    if seeks sought row then reading_points row.id (sdr_view_of row.bytes) else []
 
 -- why a search stops at the result of a step: the step failed for this reason; or the record that it returned
--- has one of the names, and its reading was given up or refused; or memory ran out
-abbrev pub StopsAtResult : List (List ℕ) → Result (Option Row) Ended → Failure → Type 0
-StopsAtResult names (Ok (Some row)) failure = IsStopAmong (found_points names row) (cause_of (Err failure))
-StopsAtResult names (Ok None) failure = ⊥
-StopsAtResult names (Err ended) failure = failure ≡ Failure.Ended ended
+-- is sought, and its reading was given up or refused; or memory ran out
+abbrev pub StopsAtResult : Sought → Result (Option Row) Ended → Failure → Type 0
+StopsAtResult sought (Ok (Some row)) failure = IsStopAmong (found_points sought row) (cause_of (Err failure))
+StopsAtResult sought (Ok None) failure = ⊥
+StopsAtResult sought (Err ended) failure = failure ≡ Failure.Ended ended
 
 -- the search stopped at the last step; what the steps before it returned was searched
-pub record StopsAtLast (names : List (List ℕ)) (steps : List Stepped) (old new : List Found)
+pub record StopsAtLast (sought : Sought) (steps : List Stepped) (old new : List Found)
     (failure : Failure) : Type 0 where
   pub done : List Stepped
   pub step : Stepped
   pub are : steps ≡ done ++ step ∷ []
-  pub stops : StopsAtResult names step.result failure
-  pub found : new ≡ old ++ found_by names done step.before
+  pub stops : StopsAtResult sought step.result failure
+  pub found : new ≡ old ++ found_by sought done step.before
 
 -- at Ok the cursor is at the end, and all that it returned was searched
-abbrev pub EndsFound : List (List ℕ) → CursorState → List Stepped → Seen → List Found → List Found
+abbrev pub EndsFound : Sought → CursorState → List Stepped → Seen → List Found → List Found
     → Ending → Type 0
-EndsFound names now steps last old new (Ok done) = (now.place ≡ End) × (new ≡ old ++ found_by names steps last)
-EndsFound names now steps last old new (Err failure) = StopsAtLast names steps old new failure
+EndsFound sought now steps last old new (Ok done) = (now.place ≡ End) × (new ≡ old ++ found_by sought steps last)
+EndsFound sought now steps last old new (Err failure) = StopsAtLast sought steps old new failure
 
 -- the steps of a cursor, and what was found by them
-pub record FindsBy (names : List (List ℕ)) (begun now : CursorState) (s s' : Seen)
+pub record FindsBy (sought : Sought) (begun now : CursorState) (s s' : Seen)
     (old new : List Found) (ending : Ending) : Type 0 where
   pub steps : List Stepped
   pub traced : IsTraced begun now s s' steps
-  pub ends : EndsFound names now steps s' old new ending
+  pub ends : EndsFound sought now steps s' old new ending
 
 -- from this place with a new cursor, which has returned nothing
-pub record FindsFrom (names : List (List ℕ)) (start : Place) (s s' : Seen) (old new : List Found)
+pub record FindsFrom (sought : Sought) (start : Place) (s s' : Seen) (old new : List Found)
     (ending : Ending) : Type 0 where
   pub begun : CursorState
   pub now : CursorState
   pub shelf : begun.shelf ≡ Sdr
   pub place : begun.place ≡ start
   pub ids : begun.ids ≡ set.empty
-  pub finds : FindsBy names begun now s s' old new ending
+  pub finds : FindsBy sought begun now s s' old new ending
 
 -- without memory for the cursor nothing was requested, and nothing found
 abbrev pub HasNoMemory : Seen → Seen → List Found → List Found → Ending → Type 0
@@ -133,57 +158,57 @@ HasNoMemory s s' old new ending = (ending ≡ Err Failure.OutOfMemory) × (s' �
 
 -- Along a walk: all its rows were searched at Ok, when it ends with `Done`, and when the search ended with its
 -- cycle or its missing id; otherwise its first `count` rows were.
-abbrev pub FindsAlong : List (List ℕ) → Store → List Row → WalkEnd → List Found → List Found → Ending
+abbrev pub FindsAlong : Sought → Store → List Row → WalkEnd → List Found → List Found → Ending
     → Type 0
-FindsAlong names store walk end old new (Ok done) =
-    (end ≡ Done) × (new ≡ old ++ found_among names store walk)
-FindsAlong names store walk end old new (Err (Failure.Ended (Ended.Cycle n))) =
-    (end ≡ CycleAt n) × (new ≡ old ++ found_among names store walk)
-FindsAlong names store walk end old new (Err (Failure.Ended (Ended.Missing n))) =
-    (end ≡ MissingAt n) × (new ≡ old ++ found_among names store walk)
-FindsAlong names store walk end old new (Err failure) =
-    (count : ℕ) × (new ≡ old ++ found_among names store (take count walk))
+FindsAlong sought store walk end old new (Ok done) =
+    (end ≡ Done) × (new ≡ old ++ found_among sought store walk)
+FindsAlong sought store walk end old new (Err (Failure.Ended (Ended.Cycle n))) =
+    (end ≡ CycleAt n) × (new ≡ old ++ found_among sought store walk)
+FindsAlong sought store walk end old new (Err (Failure.Ended (Ended.Missing n))) =
+    (end ≡ MissingAt n) × (new ≡ old ++ found_among sought store walk)
+FindsAlong sought store walk end old new (Err failure) =
+    (count : ℕ) × (new ≡ old ++ found_among sought store (take count walk))
 
 -- what is found of a row over a store that the controller held meanwhile, followed by what is found of the rest
-pub record FoundThen (names : List (List ℕ)) (s s' : Seen) (row : Row) (IsRest : List Found → Type 0)
+pub record FoundThen (sought : Sought) (s s' : Seen) (row : Row) (IsRest : List Found → Type 0)
     (found : List Found) : Type 0 where
   pub store : Store
   pub held : WasHeld s s' store
   pub rest : List Found
   pub is_rest : IsRest rest
-  pub joined : found ≡ found_of names store row ++ rest
+  pub joined : found ≡ found_of sought store row ++ rest
 
 -- what is found of the rows, in their order; each perhaps over another store
-abbrev pub AreFoundWhile : List (List ℕ) → Seen → Seen → List Row → List Found → Type 0
-AreFoundWhile names s s' [] found = found ≡ []
-AreFoundWhile names s s' (row ∷ rows) found =
-    FoundThen names s s' row (λ rest. AreFoundWhile names s s' rows rest) found
+abbrev pub AreFoundWhile : Sought → Seen → Seen → List Row → List Found → Type 0
+AreFoundWhile sought s s' [] found = found ≡ []
+AreFoundWhile sought s s' (row ∷ rows) found =
+    FoundThen sought s s' row (λ rest. AreFoundWhile sought s s' rows rest) found
 
 -- along a log that was held meanwhile: all its rows were searched at Ok, otherwise its first `count` rows
-abbrev pub FindsWhile : List (List ℕ) → List Row → Seen → Seen → List Found → List Found → Ending → Type 0
-FindsWhile names log s s' old new (Ok done) =
-    (more : List Found) × (new ≡ old ++ more) × AreFoundWhile names s s' log more
-FindsWhile names log s s' old new (Err failure) =
-    (count : ℕ) × (more : List Found) × (new ≡ old ++ more) × AreFoundWhile names s s' (take count log) more
+abbrev pub FindsWhile : Sought → List Row → Seen → Seen → List Found → List Found → Ending → Type 0
+FindsWhile sought log s s' old new (Ok done) =
+    (more : List Found) × (new ≡ old ++ more) × AreFoundWhile sought s s' log more
+FindsWhile sought log s s' old new (Err failure) =
+    (count : ℕ) × (more : List Found) × (new ≡ old ++ more) × AreFoundWhile sought s s' (take count log) more
 
 -- a search over an honest controller: why it ended; what was found, whatever the store does; along the walk, with
 -- the number of calls, if no store was added; and along the log as it was meanwhile, if records were only appended
-pub record Searches (names : List (List ℕ)) (start : Place) (tries : Tries) (s s' : Seen)
+pub record Searches (sought : Sought) (start : Place) (tries : Tries) (s s' : Seen)
     (old new : List Found) (ending : Ending) : Type 0 where
   pub why : EndsFor tries (IsTrue s.plain) s s' (cause_of ending)
-  pub traces : HasNoMemory s s' old new ending ⊎ FindsFrom names start s s' old new ending
+  pub traces : HasNoMemory s s' old new ending ⊎ FindsFrom sought start s s' old new ending
   pub along : s'.stores_added ≡ s.stores_added
-      → OnWalk Sdr start s.store (λ walk end. FindsAlong names s.store walk end old new ending
+      → OnWalk Sdr start s.store (λ walk end. FindsAlong sought s.store walk end old new ending
       × (s'.calls ≤ s.calls + walk_call_bound with_readings s.store tries walk))
-  pub grows : OnGrowing Sdr start s s' (λ log. FindsWhile names log s s' old new ending)
+  pub grows : OnGrowing Sdr start s s' (λ log. FindsWhile sought log s s' old new ending)
 
 -- ---- for the contracts of private functions
 
 -- a search by a cursor, over an honest controller
-pub record SearchesBy (names : List (List ℕ)) (tries : Tries) (begun now : CursorState) (s s' : Seen)
+pub record SearchesBy (sought : Sought) (tries : Tries) (begun now : CursorState) (s s' : Seen)
     (old new : List Found) (ending : Ending) : Type 0 where
   pub why : EndsFor tries (IsTrue s.plain × CursorHoldsCurrent begun s) s s' (cause_of ending)
-  pub finds : FindsBy names begun now s s' old new ending
+  pub finds : FindsBy sought begun now s s' old new ending
   pub calls : s'.stores_added ≡ s.stores_added → OnEachWalk Sdr begun s.store
       (λ start walk end k. CallsAlong with_readings tries (drop k walk) begun s s')
 
@@ -250,9 +275,9 @@ PrintsFound x name found old new (Err failure) = ⊥
 -- listing of this name prints of the walk; and nothing is counted if and only if that listing fails, as no row
 -- has the name
 abbrev pub BlocksAreOfListing : Texts → Type 0
-BlocksAreOfListing x = (names : List (List ℕ)) (name : List ℕ) (store : Store) (start : Place)
-    (walk : List Row) (old new : Output) → Contains names name
-    → PrintsBlocks x name (found_among names store walk) old new
+BlocksAreOfListing x = (names : Bor (List (List ℕ))) (name : List ℕ) (store : Store) (start : Place)
+    (walk : List Row) (old new : Output) → Contains names.now name
+    → PrintsBlocks x name (found_among (Sought.Named names) store walk) old new
     → Printed (IsPieceOver x store) (row_items (Form.Block name) start walk) old new
     × ((if new.pieces == old.pieces then Err (Failure.NoName name) else Ok tt)
     ≡ rows_end (Form.Block name) walk Done)

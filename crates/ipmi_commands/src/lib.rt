@@ -29,5 +29,5 @@ pub use limits::{LIVE_PART, RequestLimits, Tries};
 pub use perform::{execute, execute_pages};
 pub use plain::{Descriptive, Plain};
 pub use runs::{answer, execute_image, report, run, run_pages, write_image, write_snapshot};
-pub use sensors::{FoundSensors, find_sensors, print_sensors};
+pub use sensors::{FoundSensor, FoundSensors, Sought, find_sensors, print_sensors};
 pub use summary::Summary;

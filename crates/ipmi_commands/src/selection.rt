@@ -1,7 +1,8 @@
 //! Which sensor data records and which entries of the event log a listing prints.
 ghost use Rattle.std.specs.Prelude.{◌≡◌, ◌≤◌, IfOk, length, option_map, Some, string_bytes};
 ghost use Rattle.std.specs.List.{list_any};
-ghost use Rattle.ipmi_commands.specs.Below.{row_of_record};
+ghost use Rattle.ipmi_commands.specs.Below.{row_of_record, sdr_view_of};
+ghost use Rattle.ipmi_commands.specs.Sensors.{checks};
 ghost use Rattle.ipmi_commands.specs.Selection.{entity_in, entity_of, has_one_of, is_among, is_at_least, is_entity, is_name, is_number, is_of_kind, is_wanted, LooksInside, of_kind, passes, selects, sensor_type_of, with_filters};
 ghost use Rattle.ipmi_commands.specs.Selection.{clock_time, event_sensor_type, in_detail, is_between, is_passed, passes_entry, selects_entry, severity_of, time_of, with_entry_filters};
 
@@ -161,14 +162,14 @@ pub(crate) fn is_name(name: &str, own: &Option<String>) -> bool
 }
 
 /// Whether a record with the printed name `own` has one of these names.
-pub(crate) fn is_one_of(names: &[Word], own: &Option<String>) -> bool
+fn is_one_of(names: &[Word], own: &Option<String>) -> bool
     ensures { result ≡ list_any (λ name. is_name name (option_map (λ text. string_bytes text) own.now)) names.now }
 {
     names.iter().any(|name| is_name(name.as_str(), own))
 }
 
 /// Whether the record has one of these names.
-fn has_one_of(
+pub(crate) fn has_one_of(
     alloc: Global,
     names: &[Word],
     view: &Result<SdrView<'_>, SdrFault>,
@@ -277,6 +278,27 @@ fn passes(alloc: Global, filters: &Filters, lent: &Record<'_>) -> Result<bool, A
     }
     let excluded = has_one_of(alloc, filters.excluded.as_slice(), &view)?;
     Ok(!excluded)
+}
+
+/// Whether a check looks at the record: at a sensor that passes the filters, and at a record with a fault, unless its id is filtered
+/// out.
+pub(crate) fn checks(
+    alloc: Global,
+    filters: &Filters,
+    lent: &Record<'_>,
+    view: &Result<SdrView<'_>, SdrFault>,
+) -> Result<bool, AllocError>
+    requires { view.now ≡ sdr_view_of lent.now.bytes.now }
+    ensures { IfOk result (λ is. is ≡ checks filters.now (row_of_record lent.now)) }
+{
+    if !has_id(&filters.ids, lent.id) {
+        return Ok(false);
+    }
+    match view {
+        Ok(SdrView::Full(_) | SdrView::Compact(_)) => passes(alloc, filters, lent),
+        Ok(_) => Ok(false),
+        Err(_) => Ok(true),
+    }
 }
 
 /// The sensor type of an event. Other entries have none.

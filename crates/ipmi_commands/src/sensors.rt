@@ -1,11 +1,9 @@
-//! Finds sensors by their names in one walk of the sensor data records, and prints their blocks.
-ghost use Rattle.std.specs.Prelude.{◌≡◌, [], ◌∷◌, ◌+◌, ◌++◌, ◌≤◌, IfErr, IfOk, Ok, OnErr, OnOk, option_map, string_bytes};
+//! Finds sensors in one walk of the sensor data records, with their readings, and prints their blocks.
+ghost use Rattle.std.specs.Prelude.{◌≡◌, [], ◌∷◌, ◌+◌, ◌++◌, ◌≤◌, IfErr, IfOk, Ok, OnErr, OnOk};
 ghost use Rattle.std.specs.FinSet as set;
-ghost use Rattle.std.specs.List.{list_any};
-ghost use Rattle.ipmi_records.specs.Sdr.{name_of};
 ghost use Rattle.ipmi_commands.specs.Below.{AsksAtMost, End, IsHonest, row_of_record, Sdr, sdr_view_of, start_of, write_faults};
-ghost use Rattle.ipmi_commands.specs.Prelude.{Finds, IsFrom, LacksValue, most_on_walk, printed};
-ghost use Rattle.ipmi_commands.specs.Sensors.{AddsNamed, EndsSearch, Found, found_of, found_points, IsBlockOfFound, PrintsFound, SearchCalls, Searches, SearchesBy, with_readings};
+ghost use Rattle.ipmi_commands.specs.Prelude.{Finds, IsFrom, LacksValue, most_on_walk, printed, reading_points};
+ghost use Rattle.ipmi_commands.specs.Sensors.{AddsSought, EndsSearch, Found, found_of, found_points, IsBlockOfFound, PrintsFound, reading_in, SearchCalls, Searches, SearchesBy, seeks, with_readings};
 
 use crate::format::{Detail, Format};
 use crate::job::Form;
@@ -14,19 +12,47 @@ use crate::pages::start_cursor;
 use crate::perform::write_piece;
 use crate::piece::reading_for;
 use crate::read_error::ReadError;
-use crate::selection::{is_name, is_one_of};
+use crate::selection::{checks, has_one_of, is_name};
 use crate::summary::Summary;
 use ipmi_bus::{Controller, Cursor, Record};
-use ipmi_command_line::Word;
+use ipmi_command_line::{Filters, Word};
 use ipmi_output::{Failure, Sink};
-use ipmi_records::{KnownReading, SdrView};
+use ipmi_records::{KnownReading, SdrFault, SdrView};
 use ipmi_text::Reading;
 use std::alloc::{AllocError, Global};
 use std::marker::Model;
 
-/// A record that was found by its name.
+/// Which records a search looks for.
+#[derive(Clone, Copy)]
+pub enum Sought<'a> {
+    /// Those with one of these names.
+    Named(&'a [Word]),
+    /// Those of the sensors that pass these filters, and each record with a fault, which may be one of a sensor, unless its id is
+    /// filtered out.
+    Sensors(&'a Filters),
+}
+
+impl Sought<'_> {
+    /// Whether the record is one of them.
+    fn seeks(
+        self,
+        alloc: Global,
+        lent: &Record<'_>,
+        view: &Result<SdrView<'_>, SdrFault>,
+    ) -> Result<bool, AllocError>
+        requires { view.now ≡ sdr_view_of lent.now.bytes.now }
+        ensures { IfOk result (λ one. one ≡ seeks self.entry (row_of_record lent.now)) }
+    {
+        match self {
+            Sought::Named(names) => has_one_of(alloc, names, view),
+            Sought::Sensors(filters) => checks(alloc, filters, lent, view),
+        }
+    }
+}
+
+/// A record that was found.
 #[derive(Drop)]
-struct FoundSensor {
+pub struct FoundSensor {
     id: u16,
     bytes: Vec<u8>,
     /// The reading that belongs to the record, if there is one.
@@ -41,7 +67,30 @@ impl Model for FoundSensor {
     ghost view = { λ f. record { id = f.id; bytes = f.bytes.items; reading = f.reading } };
 }
 
-/// The sensor data records that a search found by their names, in the order of its walk, each with its reading.
+impl FoundSensor {
+    /// The id of the record.
+    pub fn id(&self) -> u16
+        ensures { result ≡ self.now.id }
+    {
+        self.id
+    }
+
+    /// What the record says, or its fault.
+    pub fn view(&self) -> Result<SdrView<'_>, SdrFault>
+        ensures { result ≡ sdr_view_of self.now.bytes }
+    {
+        SdrView::read(&self.bytes)
+    }
+
+    /// The reading that belongs to the record, if there is one.
+    pub fn reading(&self) -> Option<Reading>
+        ensures { result ≡ self.now.reading }
+    {
+        self.reading
+    }
+}
+
+/// The sensor data records that a search found, in the order of its walk, each with its reading.
 #[derive(Drop)]
 pub struct FoundSensors {
     sensors: Vec<FoundSensor>,
@@ -66,6 +115,13 @@ impl FoundSensors {
         }
     }
 
+    /// The records.
+    pub fn as_slice(&self) -> &[FoundSensor]
+        ensures { result.now ≡ self.now }
+    {
+        &self.sensors
+    }
+
     /// Appends a record with its reading. If out of memory, nothing changes.
     fn push(
         &mut self,
@@ -84,13 +140,33 @@ impl FoundSensors {
     }
 }
 
-/// Appends the record and its reading to `found` if it has one of these names. If this fails, `found` is unchanged.
+/// Requests the reading that belongs to a record. A record with a fault has none.
+fn reading_in<C: Controller>(
+    ctl: &mut C,
+    id: u16,
+    view: &Result<SdrView<'_>, SdrFault>,
+    tries: Tries,
+) -> Result<Option<Reading>, ReadError>
+    ensures calls { (C.seen ctl.new).calls ≤ (C.seen ctl.old).calls + (tries.count + 1) }
+    ensures asked { AsksAtMost 0 (C.seen ctl.old) (C.seen ctl.new) }
+    ensures says { IfErr result (λ unread. LacksValue unread (C.seen ctl.new)) }
+    ensures honest { IsHonest (C.seen ctl.old) →
+        Finds (λ store reading. reading ≡ reading_in store view.now) (reading_points id view.now)
+        tries (C.seen ctl.old) (C.seen ctl.new) result }
+{
+    match view {
+        Ok(view) => reading_for(ctl, id, view, tries),
+        Err(_) => Ok(None),
+    }
+}
+
+/// Appends the record and its reading to `found` if it is sought. If this fails, `found` is unchanged.
 #[tactic(auto, using(crate::proofs::SensorLemmas::adds_none))]
 fn find_in<C: Controller>(
     alloc: Global,
     ctl: &mut C,
     tries: Tries,
-    names: &[Word],
+    sought: Sought<'_>,
     lent: &Record<'_>,
     found: &mut FoundSensors,
 ) -> Result<(), ReadError>
@@ -98,19 +174,16 @@ fn find_in<C: Controller>(
     ensures asked { AsksAtMost 0 (C.seen ctl.old) (C.seen ctl.new) }
     ensures says { IfErr result (λ unread. LacksValue unread (C.seen ctl.new)) }
     ensures kept { OnErr result (found.new ≡ found.old) }
-    ensures adds { AddsNamed names.now found.old found.new }
+    ensures adds { AddsSought sought.entry found.old found.new }
     ensures honest { let row = row_of_record lent.now in IsHonest (C.seen ctl.old) →
-        Finds (λ store _. found.new ≡ found.old ++ found_of names.now store row) (found_points names.now row)
+        Finds (λ store _. found.new ≡ found.old ++ found_of sought.entry store row) (found_points sought.entry row)
         tries (C.seen ctl.old) (C.seen ctl.new) result }
 {
-    let Ok(view) = SdrView::read(lent.bytes) else {
-        return Ok(());
-    };
-    let own = view.name(alloc)?;
-    if !is_one_of(names, &own) {
+    let view = SdrView::read(lent.bytes);
+    if !sought.seeks(alloc, lent, &view)? {
         return Ok(());
     }
-    let reading = reading_for(ctl, lent.id, &view, tries)?;
+    let reading = reading_in(ctl, lent.id, &view, tries)?;
     found.push(alloc, lent, reading)?;
     Ok(())
 }
@@ -121,7 +194,7 @@ fn find_after<'a, C: Controller>(
     cursor: &mut Cursor,
     ctl: &mut C,
     tries: Tries,
-    names: &[Word],
+    sought: Sought<'_>,
     found: &mut FoundSensors,
 ) -> Result<(), Failure<'a>>
     requires shelf { cursor.old.shelf ≡ Sdr }
@@ -130,10 +203,10 @@ fn find_after<'a, C: Controller>(
     ensures asked { AsksAtMost cursor.old.part (C.seen ctl.old) (C.seen ctl.new) }
     ensures ends { EndsSearch (C.seen ctl.new) result }
     ensures reaches { OnOk result (cursor.new.place ≡ End) }
-    ensures adds { AddsNamed names.now found.old found.new }
+    ensures adds { AddsSought sought.entry found.old found.new }
     ensures calls { SearchCalls tries cursor.old (C.seen ctl.old) (C.seen ctl.new) }
     ensures honest { IsHonest (C.seen ctl.old) →
-        SearchesBy names.now tries cursor.old cursor.new (C.seen ctl.old) (C.seen ctl.new)
+        SearchesBy sought.entry tries cursor.old cursor.new (C.seen ctl.old) (C.seen ctl.new)
         found.old found.new result }
 {
     'records: loop {
@@ -142,37 +215,36 @@ fn find_after<'a, C: Controller>(
             Ok(None) => return Ok(()),
             Err(ended) => return Err(Failure::Ended(ended)),
         };
-        match find_in(alloc, ctl, tries, names, &record, found) {
+        match find_in(alloc, ctl, tries, sought, &record, found) {
             Ok(()) => {}
             Err(unread) => return Err(Failure::from(unread)),
         }
     }
 }
 
-/// Appends each record with one of these names to `found`, with its reading, in one walk of the sensor data records
-/// that starts at the id `from` or at the first record. A record with a fault is passed over. If the walk breaks
-/// off, `found` has the records that were found before.
+/// Appends each record that is sought to `found`, with its reading, in one walk of the sensor data records that starts at the id
+/// `from` or at the first record. If the walk breaks off, `found` has the records that were found before.
 #[tactic(auto, using(crate::proofs::SensorLemmas::adds_none))]
 pub fn find_sensors<'a, C: Controller>(
     alloc: Global,
     ctl: &mut C,
     limits: RequestLimits,
-    names: &[Word],
+    sought: Sought<'_>,
     from: Option<u16>,
     found: &mut FoundSensors,
 ) -> Result<(), Failure<'a>>
     requires { IsFrom from }
     ensures asked { AsksAtMost limits.part (C.seen ctl.old) (C.seen ctl.new) }
     ensures ends { EndsSearch (C.seen ctl.new) result }
-    ensures adds { AddsNamed names.now found.old found.new }
+    ensures adds { AddsSought sought.entry found.old found.new }
     ensures calls { (C.seen ctl.new).calls ≤ (C.seen ctl.old).calls + most_on_walk with_readings
         limits.tries }
     ensures searches { IsHonest (C.seen ctl.old) →
-        Searches names.now (start_of from) limits.tries (C.seen ctl.old) (C.seen ctl.new)
+        Searches sought.entry (start_of from) limits.tries (C.seen ctl.old) (C.seen ctl.new)
         found.old found.new result }
 {
     let mut cursor = start_cursor(alloc, limits, &Form::Bytes, from)?;
-    find_after(alloc, &mut cursor, ctl, limits.tries(), names, found)
+    find_after(alloc, &mut cursor, ctl, limits.tries(), sought, found)
 }
 
 /// The block of a found sensor with this name. Empty for any other.

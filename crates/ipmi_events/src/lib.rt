@@ -34,6 +34,7 @@ pub use sensor_blocks::sensor_block;
 pub use sensor_lines::sensor_line;
 pub use sensors::Sensors;
 pub use severity::{Severity, event_severity};
+pub use shown::push_reading_in_words;
 pub use status::status_in_words;
 pub use words::{EventInWords, event_words};
 pub use worst::sensor_severity;

@@ -54,7 +54,7 @@ fn push_discrete(
 
 /// Appends the reading column of a record's sensor: for a discrete sensor its states in words, for any other the
 /// reading column of `sdr_line`.
-pub(crate) fn push_reading_in_words(
+pub fn push_reading_in_words(
     text: &mut String,
     view: &SdrView,
     reading: KnownReading,

@@ -14,5 +14,5 @@ pub use causes::cause_words;
 pub use input::{InputFault, MOST_BYTES, input_name, read_image, read_input, read_words, words_of};
 pub use labels::{labels_of, wrong_label};
 pub use printing::flush;
-pub use with_lacks::{WithLacks, others_stay};
+pub use with_lacks::{WithLacks, captured, others_stay};
 pub use wording::{Wording, table_of};

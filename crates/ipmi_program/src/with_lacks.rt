@@ -48,7 +48,7 @@ fn lacks_reading(lacks: &[Lack], key: Option<(u8, u8)>) -> bool
 }
 
 /// What is known of the reading of the sensor that a record names, given what the image lacks.
-fn captured(lacks: &[Lack], view: &SdrView<'_>, reading: KnownReading) -> KnownReading
+pub fn captured(lacks: &[Lack], view: &SdrView<'_>, reading: KnownReading) -> KnownReading
     ensures { result ≡ captured lacks.now view.now reading }
 {
     if reading == KnownReading::Absent && lacks_reading(lacks, view.reading_of()) {

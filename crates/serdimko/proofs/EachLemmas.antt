@@ -8,15 +8,16 @@ use Rattle.serdimko.specs.Printing.{Each}
 use Rattle.serdimko.specs.RunError.{and, outcome_of}
 use Rattle.serdimko.specs.declared.outcome.Outcome.{Outcome}
 
-made : ℕ → Bool → Bool → Outcome
-made status is_open lacks = record {
+made : ℕ → Bool → Bool → Bool → Outcome
+made status is_open lacks verdict = record {
   status = status;
   is_output_open = is_open;
   lacks_name = lacks;
+  has_verdict = verdict;
 }
 
-outcome_is : (s s' : ℕ) (o o' l l' : Bool) → s ≡ s' → o ≡ o' → l ≡ l' → made s o l ≡ made s' o' l'
-outcome_is s s' o o' l l' status is_open lacks = cc (status, is_open, lacks)
+outcome_is : (s s' : ℕ) (o o' l l' v v' : Bool) → s ≡ s' → o ≡ o' → l ≡ l' → v ≡ v' → made s o l v ≡ made s' o' l' v'
+outcome_is s s' o o' l l' v v' status is_open lacks verdict = cc (status, is_open, lacks, verdict)
 
 and_true : (b : Bool) → (b && true) ≡ b
 and_true true = refl
@@ -36,17 +37,18 @@ or_assoc false b c = refl
 
 pub and_nothing : (a : Outcome) → and a (outcome_of None) ≡ a
 unfolding made
-and_nothing a = outcome_is _ _ _ _ _ _ (max-zero a.status) (and_true a.is_output_open) (or_false a.lacks_name)
+and_nothing a = outcome_is _ _ _ _ _ _ _ _ (max-zero a.status) (and_true a.is_output_open) (or_false a.lacks_name) (or_false a.has_verdict)
 
 pub nothing_and : (a : Outcome) → and (outcome_of None) a ≡ a
 unfolding made
-nothing_and a = outcome_is _ _ a.is_output_open _ a.lacks_name _ (zero-max a.status) refl refl
+nothing_and a = outcome_is _ _ a.is_output_open _ a.lacks_name _ a.has_verdict _ (zero-max a.status) refl refl refl
 
 pub and_and : (a b c : Outcome) → and (and a b) c ≡ and a (and b c)
 unfolding made
 and_and a b c =
     let status : max (max a.status b.status) c.status ≡ max a.status (max b.status c.status) = omega arith in
-    outcome_is _ _ _ _ _ _ status (and_assoc a.is_output_open b.is_output_open c.is_output_open) (or_assoc a.lacks_name b.lacks_name c.lacks_name)
+    outcome_is _ _ _ _ _ _ _ _ status (and_assoc a.is_output_open b.is_output_open c.is_output_open) (or_assoc a.lacks_name b.lacks_name c.lacks_name)
+    (or_assoc a.has_verdict b.has_verdict c.has_verdict)
 
 pub not_is_true : (b : Bool) → not b ≡ true → b ≡ false
 not_is_true false h = refl

@@ -1,4 +1,5 @@
 pub mod CapturedLemmas
+pub mod CheckLemmas
 pub mod EachLemmas
 pub mod EndingLemmas
 pub mod ImagesLemmas

@@ -17,6 +17,7 @@ use Rattle.serdimko.specs.RunError.{faults_of_error}
 abbrev pub table_of_query : Query → Table
 table_of_query (Query.Print task from filters) = table_of task
 table_of_query (Query.Sensors names from) = Table.Records
+table_of_query (Query.Check filters) = Table.Records
 
 -- the names of a table's columns and of labels
 pub record IsHeader (separator : Separator) (texts : List (List ℕ)) (image : Option (List ℕ)) (table : Table) (line : List ℕ) : Type 0 where

@@ -1,5 +1,6 @@
 -- What a run prints, how it ends, and what is reported.
-use Rattle.std.specs.Prelude.{◌≡◌, ◌⊎◌, ◌+◌, ◌-◌, ◌^◌, ◌≤◌, ◌==◌, ◌&&◌, not, if◌then◌else◌, ℕ, Bool, true, false, List, [], ◌++◌, ◌∷◌, min, Option, Some, None, Result, Ok, Err, String, option_map}
+use Rattle.std.specs.Prelude.{◌≡◌, ◌⊎◌, ◌+◌, ◌-◌, ◌^◌, ◌≤◌, ◌==◌, ◌&&◌, not, if◌then◌else◌, ℕ, Bool, true, false, List, [], ◌++◌, ◌∷◌, min, is_some, Option, Some, None, Result, Ok, Err, String, option_map}
+use Rattle.std.specs.Borrow.{Bor}
 use Rattle.std.specs.Str.Lossy.{utf8_lossy}
 use Rattle.std.specs.declared.alloc.AllocError.{AllocError}
 use Rattle.std.specs.declared.alloc.Global.{Global}
@@ -12,7 +13,8 @@ use Rattle.ipmi_commands.specs.declared.job.Job.{Job}
 use Rattle.ipmi_command_line.specs.Filters.{are_given}
 use Rattle.ipmi_commands.specs.Prelude.{change, choosing, job_of, keeping_last, most_on_walk, Output, RunsCommand}
 use Rattle.ipmi_program.specs.declared.wording.Wording.{Wording}
-use Rattle.ipmi_commands.specs.Sensors.{AddsNamed, EndsSearch, Found, PrintsFound, Searches, with_readings}
+use Rattle.ipmi_commands.specs.Sensors.{AddsSought, EndsSearch, Found, PrintsFound, Searches, with_readings}
+use Rattle.ipmi_commands.specs.declared.sensors.Sought.{Sought}
 use Rattle.ipmi_commands.specs.declared.limits.RequestLimits.{RequestLimits}
 use Rattle.ipmi_json.specs.Info.{end_members}
 use Rattle.ipmi_json.specs.Object.{IsLineOf}
@@ -22,6 +24,10 @@ use Rattle.ipmi_output.specs.Received.{Received}
 use Rattle.ipmi_output.specs.Sink.{TakesPart}
 use Rattle.ipmi_output.specs.declared.failure.Failure.{Failure}
 use Rattle.ipmi_program.specs.Printing.{IsFlushed}
+use Rattle.ipmi_check.specs.Laws.{AllFine}
+use Rattle.ipmi_check.specs.Text.{IsCheckText, short_text}
+use Rattle.ipmi_check.specs.Verdict.{status_of, verdict_of}
+use Rattle.ipmi_check.specs.declared.verdict.Verdict.{Verdict}
 use Rattle.serdimko.specs.declared.driver.Query.{Query}
 use Rattle.serdimko.specs.declared.outcome.Outcome.{Outcome}
 use Rattle.serdimko.specs.declared.report.Report.{Report}
@@ -30,7 +36,7 @@ use Rattle.ipmi_raw.specs.LastWords.{IsLastLine}
 use Rattle.serdimko.specs.Out.{Out, State}
 use Rattle.serdimko.specs.Reason.{reason_of}
 use Rattle.serdimko.specs.Settings.{texts_for}
-use Rattle.serdimko.specs.RunError.{and, error_of, error_text, faults_of_error, is_output_open, is_recoverable, lost_error, outcome_of, output_error, status_of_error, Tells}
+use Rattle.serdimko.specs.RunError.{and, error_of, error_text, faults_of_error, is_output_open, is_recoverable, lost_error, outcome_of, outcome_of_verdict, output_error, status_of_error, Tells}
 
 -- ---- the object at the end of a run
 
@@ -188,10 +194,48 @@ pub record PrintsSensors (limits : RequestLimits) (names : List (List ℕ)) (fro
   pub asked : AsksAtMost limits.part old.seen new.seen
   pub calls : new.seen.calls ≤ old.seen.calls + most_on_walk with_readings limits.tries
   pub may_end : EndsSearch new.seen searched
-  pub named : AddsNamed names [] found
+  pub sought : Bor (List (List ℕ))
+  pub names_are : sought.now ≡ names
+  pub named : AddsSought (Sought.Named sought) [] found
   pub searches : IsHonest old.seen
-      → Searches names (start_of from) limits.tries old.seen new.seen [] found searched
+      → Searches (Sought.Named sought) (start_of from) limits.tries old.seen new.seen [] found searched
   pub prints : PrintsSearched searched report found names old new said said' result
+
+-- ---- a check
+
+-- the whole text was printed, and the status is that of the verdict; or the output failed, and nothing is known
+abbrev pub SaysVerdict : Verdict → List ℕ → Out → Out → ℕ → Type 0
+SaysVerdict verdict text old new status =
+    ((new.taken ≡ old.taken ++ text) × (new.held ≡ []) × (new.faults ≡ old.faults) × (status ≡ status_of verdict))
+    ⊎ (TakesPart old.taken new.taken text × (new.faults ≡ old.faults + 1) × (status ≡ status_of Verdict.Unknown))
+
+-- the verdict on what was found, and why the search failed, if it did; or memory for the text ran out
+abbrev pub PrintsVerdict : Report → List Found → Option RunError → Out → Out → ℕ → Type 0
+PrintsVerdict report found error old new status =
+    ((text : List ℕ) × IsCheckText report.format.lacks.now found (message_of report error) text
+    × SaysVerdict (verdict_of report.format.lacks.now found (is_some error)) text old new status)
+    ⊎ SaysVerdict (verdict_of report.format.lacks.now found true) (short_text (verdict_of report.format.lacks.now found true)) old new status
+
+-- One walk finds the sensors that pass the filters, with their readings, and records with a fault; then the verdict is printed. Over an
+-- honest controller status 0 means that all of them are fine.
+pub record Checks (limits : RequestLimits) (filters : Filters) (report : Report) (old new : State) (result : Outcome) : Type 0 where
+  pub found : List Found
+  pub searched : Ending
+  pub line : Result (Option (String Global)) AllocError
+  pub asked : AsksAtMost limits.part old.seen new.seen
+  pub calls : new.seen.calls ≤ old.seen.calls + most_on_walk with_readings limits.tries
+  pub may_end : EndsSearch new.seen searched
+  pub sought : Bor Filters
+  pub filters_are : sought.now ≡ filters
+  pub are_sought : AddsSought (Sought.Sensors sought) [] found
+  pub searches : IsHonest old.seen
+      → Searches (Sought.Sensors sought) (start_of None) limits.tries old.seen new.seen [] found searched
+  pub last_line : IsLastLine new.lost line
+  pub status : ℕ
+  pub prints : PrintsVerdict report found (lost_error line (error_of searched false false)) old.out new.out status
+  pub result_is : result ≡ outcome_of_verdict status
+  pub fine : IsHonest old.seen → status ≡ 0
+      → AllFine report.format.lacks.now (Sought.Sensors sought) (start_of None) old.seen new.seen
 
 -- ---- a query
 
@@ -200,3 +244,5 @@ PrintsQuery limits (Query.Print task from filters) report old new said said' res
     (last : Option RunError) × PrintsTask limits task from filters report old new last × Reports report last said said' result
 PrintsQuery limits (Query.Sensors names from) report old new said said' result =
     PrintsSensors limits names from report old new said said' result
+PrintsQuery limits (Query.Check filters) report old new said said' result =
+    Checks limits filters report old new result × (said' ≡ said)

@@ -136,6 +136,16 @@ outcome_of error = record {
   status = status_of_error error;
   is_output_open = is_output_open error;
   lacks_name = lacks_name error;
+  has_verdict = false;
+}
+
+-- that of a check with this status, whose verdict was printed
+abbrev pub outcome_of_verdict : ℕ → Outcome
+outcome_of_verdict status = record {
+  status = status;
+  is_output_open = true;
+  lacks_name = false;
+  has_verdict = true;
 }
 
 -- that of runs one after another
@@ -144,6 +154,7 @@ and first next = record {
   status = max first.status next.status;
   is_output_open = first.is_output_open && next.is_output_open;
   lacks_name = first.lacks_name || next.lacks_name;
+  has_verdict = first.has_verdict || next.has_verdict;
 }
 
 -- the message of the error is written, or nothing if there is no error

@@ -1,5 +1,5 @@
 -- What the settings of a request ask for.
-use Rattle.std.specs.Prelude.{ℕ, Bool, false, not, List, []}
+use Rattle.std.specs.Prelude.{ℕ, Bool, false, not, List, [], ⊤}
 use Rattle.std.specs.Borrow.{Bor}
 use Rattle.ipmi_command_line.specs.Command.{IsTask}
 use Rattle.ipmi_command_line.specs.declared.request.Format.{Format}
@@ -16,6 +16,7 @@ use Rattle.serdimko.specs.declared.report.Report.{Report}
 abbrev pub IsQuery : Query → Type 0
 IsQuery (Query.Print task from filters) = IsTask task × IsFrom from
 IsQuery (Query.Sensors names from) = IsFrom from
+IsQuery (Query.Check filters) = ⊤
 
 -- texts of one of several images follow its name
 abbrev pub is_headed : Format → Bool → Bool

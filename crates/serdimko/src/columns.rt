@@ -23,7 +23,7 @@ fn table_of_query(query: &Query) -> Table
 {
     match query {
         Query::Print(task, ..) => table_of(task),
-        Query::Sensors(..) => Table::Records,
+        Query::Sensors(..) | Query::Check(_) => Table::Records,
     }
 }
 

@@ -9,6 +9,7 @@ ghost use Rattle.ipmi_raw.specs.LastWords.{IsLastLine};
 ghost use Rattle.serdimko.specs.Settings.{IsQuery};
 ghost use Rattle.serdimko.specs.Printing.{chosen_job, PrintsName, PrintsNames, PrintsQuery, PrintsSensors, PrintsTask, Each, PrintsBroken, RunsName, RunsThenEnds};
 
+use crate::check::check;
 use crate::closable::Output;
 use crate::ending::end_run;
 use crate::outcome::Outcome;
@@ -17,7 +18,7 @@ use crate::run_error::RunError;
 use ipmi_bus::Controller;
 use ipmi_command_line::{Filters, Task, Word, Words};
 use ipmi_commands::{
-    Format, FoundSensors, Job, RequestLimits, Summary, execute, find_sensors, print_sensors,
+    Format, FoundSensors, Job, RequestLimits, Sought, Summary, execute, find_sensors, print_sensors,
 };
 use ipmi_image::SnapshotController;
 use ipmi_output::{Failure, MessageSink, RecordName};
@@ -60,6 +61,8 @@ pub(crate) enum Query {
     Print(Task, Option<u16>, Filters),
     /// The block of each sensor with one of these names, from this id on.
     Sensors(Words, Option<u16>),
+    /// The verdict on the sensors that pass the filters.
+    Check(Filters),
 }
 
 /// The job of the task, for the records that pass the filters, if any are given.
@@ -230,7 +233,7 @@ fn print_by_name<C: Connection, W: Write + Drop, E: MessageSink>(
         (E.received err.old) (E.received err.new) result }
 {
     let mut found = FoundSensors::new(alloc);
-    match find_sensors(alloc, ctl, limits, names, from, &mut found) {
+    match find_sensors(alloc, ctl, limits, Sought::Named(names), from, &mut found) {
         Ok(()) => print_each_name(alloc, &found, names, report, out, err),
         Err(failure) => {
             let said = ctl.last_line(alloc);
@@ -265,5 +268,6 @@ pub(crate) fn print_query<C: Connection, W: Write + Drop, E: MessageSink>(
             let names = names.as_slice();
             print_by_name(alloc, ctl, limits, names, *from, report, out, err)
         }
+        Query::Check(filters) => check(alloc, ctl, limits, filters, report, out),
     }
 }

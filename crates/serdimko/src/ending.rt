@@ -45,7 +45,7 @@ fn text_of(
 }
 
 /// The message of an error, if there is one.
-fn message_of(
+pub(crate) fn message_of(
     alloc: Global,
     error: &Option<RunError<'_>>,
     report: &Report<'_, '_>,

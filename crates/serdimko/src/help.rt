@@ -11,7 +11,7 @@ proved with Rattle, logic dac8208d650f15bf
 /// The message if there are no words and standard input is a terminal.
 pub(crate) const SHORT: &str =
     "usage: serdimko [OPTIONS] COMMAND, for example: serdimko --image FILE sdr list
-Commands: sdr, sensor, sel, fru, capture, image, help. More: serdimko --help";
+Commands: sdr, sensor, sel, fru, check, capture, image, help. More: serdimko --help";
 
 /// The general help before the commands.
 const BEFORE_COMMANDS: &str =
@@ -150,6 +150,20 @@ const IMAGE: &str = "Prints the image as version 2, in a fixed order and spellin
 Images with the same content give the same bytes.
 ";
 
+const CHECK: &str =
+    "Prints whether sensors are in trouble, in the form of monitoring plugins (Nagios,
+Icinga): a line with the verdict, then a line for each sensor in trouble.
+
+  serdimko-live -I lanplus -H HOST -U USER -E -- check
+  serdimko --image FILE check --type fan
+
+Status 0: OK. 1: WARNING, the worst sensor needs a look. 2: CRITICAL, a sensor
+that was read needs help. 3: UNKNOWN, something was not read, a record can't be
+judged, or there is no sensor; the line says why, also for a wrong command line.
+Sensors without a reading, and those of other owners, are counted in the line.
+--exclude NAME, --type, --entity and --id choose the sensors.
+";
+
 const CAPTURE: &str = "Saves what a live controller holds as an image: both repositories of records,
 their infos, the readings of the sensors and the inventories that records name.
 
@@ -192,6 +206,7 @@ pub(crate) fn help_on(alloc: Global, topic: Topic) -> Result<String, AllocError>
             Topic::Sensor => SENSOR,
             Topic::Sel => SEL,
             Topic::Fru => FRU,
+            Topic::Check => CHECK,
             Topic::Capture => CAPTURE,
             Topic::Image => IMAGE,
             Topic::SensorTypes => return sensor_types(alloc),

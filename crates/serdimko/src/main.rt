@@ -8,6 +8,7 @@ ghost use Rattle.serdimko.specs.Images.{IsImageQuery};
 ghost use Rattle.serdimko.specs.Settings.{IsQuery};
 
 mod capture;
+mod check;
 mod closable;
 mod columns;
 mod driver;
@@ -22,13 +23,15 @@ mod report;
 mod run_error;
 
 use capture::{Counter, Target, capture_live};
+use check::unknown_text;
 use closable::{Closable, Output};
 use driver::Query;
 use help::{SHORT, VERSION, help_on};
 use images::{ImageQuery, fail, image_of, print_images};
 use ipmi_bus::Shelf;
+use ipmi_check::{Verdict, text_without_memory};
 use ipmi_command_line::{
-    Action, Format, Limits, LiveTool, Request, Source, UsageError, UsageFault, Word, Words,
+    Action, Format, Limits, LiveTool, Request, Source, UsageError, UsageFault, VALUED, Word, Words,
     request_of,
 };
 use ipmi_commands::{LIVE_PART, RequestLimits, report};
@@ -62,27 +65,70 @@ fn main(rt: HostRuntime) -> ExitCode {
     let mut err = Written::new(rt.stderr());
     let status = match program(&rt, &mut err) {
         Ok(status) => status,
+        Err(AllocError) if has_check(&rt) => print_unknown(&rt, Err(AllocError)),
         Err(AllocError) => report(Err(Failure::OutOfMemory), &mut err),
     };
     ExitCode::from(status)
 }
 
+/// Whether the command of this line is `check`, as far as a line shows that can't be read: its first word that is no option and no value
+/// of one.
+fn is_check(words: &Words) -> bool {
+    let mut is_value = false;
+    for word in words.as_slice().iter().skip(1) {
+        let word = word.as_str();
+        if is_value {
+            is_value = false;
+        } else if let Some(name) = word.strip_prefix("--") {
+            is_value = VALUED.contains(&name) || ["from", "part", "tries"].contains(&name);
+        } else if !word.starts_with('-') {
+            return word == "check";
+        } else {
+            is_value = word == "-o";
+        }
+    }
+    false
+}
+
+/// Whether an argument is the word `check`: of a line whose words can't be read.
+fn has_check<R: Env>(rt: &R) -> bool {
+    let mut argument = *b"check";
+    for place in 1..usize::MAX {
+        match rt.arg(place, &mut argument) {
+            Ok(len) if &argument[..len] == b"check".as_slice() => return true,
+            Ok(_) | Err(FillError::TooLong) => {}
+            Err(FillError::NotPresent) => break,
+        }
+    }
+    false
+}
+
+/// Prints the text of a check that knows nothing, and returns its exit status.
+fn print_unknown(rt: &HostRuntime, text: Result<Vec<u8>, AllocError>) -> u8 {
+    let text = match &text {
+        Ok(text) => text.as_slice(),
+        Err(AllocError) => text_without_memory(Verdict::Unknown).as_bytes(),
+    };
+    // if this fails, the status still says it
+    let _ = io::writer(rt).write_all(text);
+    Verdict::Unknown.status()
+}
+
 /// Reports which argument is not UTF-8, counted from 1, unless it is too long to be checked, and returns the exit status.
-fn refuse_argument<R: Env, E: MessageSink>(rt: &R, err: &mut E) -> u8 {
+fn refuse_argument<E: MessageSink>(rt: &HostRuntime, err: &mut E) -> u8 {
     let mut argument = [0; LONGEST_LOOKED_AT];
     for place in 1..usize::MAX {
         match rt.arg(place, &mut argument) {
             Ok(len) if str::from_utf8(&argument[..len]).is_err() => {
-                return refuse(
-                    &[Text("argument "), Number(place), Text(" is not UTF-8")],
-                    err,
-                );
+                let line = [Text("argument "), Number(place), Text(" is not UTF-8")];
+                return refuse_line(rt, has_check(rt), &line, err);
             }
             Ok(_) | Err(FillError::TooLong) => {}
             Err(FillError::NotPresent) => break,
         }
     }
-    refuse(&[Text("an argument is not UTF-8")], err)
+    let line = [Text("an argument is not UTF-8")];
+    refuse_line(rt, has_check(rt), &line, err)
 }
 
 /// Reads the command line, runs it, and returns the exit status.
@@ -111,7 +157,8 @@ fn run_line<E: MessageSink>(
         return Ok(refuse(&[Text(SHORT)], err));
     }
     let Some(clock) = clock(rt) else {
-        return Ok(refuse(&[Text("the clock can't be read")], err));
+        let line = [Text("the clock can't be read")];
+        return Ok(refuse_line(rt, is_check(words), &line, err));
     };
     match request_of(rt.alloc(), clock, words.as_slice()) {
         Ok(request) => run(rt, request, err),
@@ -119,7 +166,7 @@ fn run_line<E: MessageSink>(
         Err(error) => {
             let text = format!(in rt.alloc(); "{error}")?;
             // what the user typed is escaped in it
-            Ok(refuse(&[Text(text.as_str())], err))
+            Ok(refuse_line(rt, is_check(words), &[Text(text.as_str())], err))
         }
     }
 }
@@ -154,6 +201,10 @@ fn run<E: MessageSink>(rt: &HostRuntime, request: Request, err: &mut E) -> Resul
             return run_capture(rt, &source, settings.limits, target, quiet, err);
         }
         Action::Rewrite => return run_rewrite(rt, &source, &settings, err),
+        Action::Check => {
+            let query = Query::Check(filters);
+            return Ok(run_check(rt, &query, &source, records, &settings, err));
+        }
         Action::Print(task, from) => Query::Print(task, from, filters),
         Action::GetSensors(names, from) => Query::Sensors(names, from),
     };
@@ -184,25 +235,64 @@ fn run_query<E: MessageSink>(
     if let Some(line) = wrong_label(rt.alloc(), settings.is_csv(), settings.labels())? {
         return Ok(refuse(&line, err));
     }
-    let outcome = match source {
-        Source::Images(images) => {
-            run_images(
-                rt,
-                ImageQuery::Print(query),
-                images.as_slice(),
-                settings,
-                err,
-            )?
-        }
-        Source::Live(tool, folder, host) => match live_of(rt, *tool, folder.as_str(), err)? {
-            Some(live) => run_live(rt, query, live, host.as_ref(), records, settings, err)?,
-            None => return Ok(USAGE),
-        },
+    tell_waiting(rt, source, err);
+    let Some(outcome) = print_inputs(rt, query, source, records, settings, err)? else {
+        return Ok(USAGE);
     };
     if let Query::Sensors(names, _) = query {
         advise(rt, outcome, names.as_slice(), err);
     }
     Ok(outcome.status)
+}
+
+/// Checks the sensors, and always prints a verdict: what another command would report is the reason of UNKNOWN. Returns the exit status.
+fn run_check<E: MessageSink>(
+    rt: &HostRuntime,
+    query: &Query,
+    source: &Source,
+    records: Option<&Word>,
+    settings: &Settings,
+    err: &mut E,
+) -> u8
+    requires { IsQuery query.now }
+{
+    tell_waiting(rt, source, err);
+    let mut said = Vec::new(rt.alloc());
+    match print_inputs(rt, query, source, records, settings, &mut said) {
+        Ok(Some(outcome)) if outcome.has_verdict => {
+            // that the records were read from the machine is no reason for the verdict
+            if !said.is_empty() {
+                let _ = err.offer(said.as_slice());
+            }
+            outcome.status
+        }
+        Ok(_) => print_unknown(rt, unknown_text(rt.alloc(), said.as_slice())),
+        Err(AllocError) => print_unknown(rt, Err(AllocError)),
+    }
+}
+
+/// Prints what a query asks for, from each input. None if there is no input, which is reported.
+fn print_inputs<E: MessageSink>(
+    rt: &HostRuntime,
+    query: &Query,
+    source: &Source,
+    records: Option<&Word>,
+    settings: &Settings,
+    err: &mut E,
+) -> Result<Option<Outcome>, AllocError>
+    requires { IsQuery query.now }
+{
+    let outcome = match source {
+        Source::Images(images) => {
+            let (query, images) = (ImageQuery::Print(query), images.as_slice());
+            run_images(rt, query, images, settings, err)?
+        }
+        Source::Live(tool, folder, host) => match live_of(rt, *tool, folder.as_str(), err)? {
+            Some(live) => run_live(rt, query, live, host.as_ref(), records, settings, err)?,
+            None => return Ok(None),
+        },
+    };
+    Ok(Some(outcome))
 }
 
 /// Prints each image in its canonical spelling.
@@ -212,6 +302,7 @@ fn run_rewrite<E: MessageSink>(
     settings: &Settings,
     err: &mut E,
 ) -> Result<u8, AllocError> {
+    tell_waiting(rt, source, err);
     match source {
         Source::Images(images) => {
             Ok(run_images(rt, ImageQuery::Rewrite, images.as_slice(), settings, err)?.status)
@@ -363,14 +454,38 @@ fn run_images<E: MessageSink>(
 ) -> Result<Outcome, AllocError>
     requires { IsImageQuery query }
 {
-    if images.is_empty() && rt.stdin().is_terminal() {
-        // otherwise it would wait for an image in silence
-        let _ = write_message(err, &[Text(WAITING)]);
-    }
     let mut out = buffered_output(rt)?;
     let outcome = print_images(rt, settings, query, images, &mut out, err);
     discard(out);
     Ok(outcome)
+}
+
+/// Says that an image is read from a terminal, if it is.
+fn tell_waiting<E: MessageSink>(rt: &HostRuntime, source: &Source, err: &mut E) {
+    if let Source::Images(images) = source
+        && images.as_slice().is_empty()
+        && rt.stdin().is_terminal()
+    {
+        let _ = write_message(err, &[Text(WAITING)]);
+    }
+}
+
+/// Reports what is wrong with the command line, for a check as its verdict, and returns the exit status.
+fn refuse_line<E: MessageSink>(
+    rt: &HostRuntime,
+    is_check: bool,
+    line: &[Part<'_>],
+    err: &mut E,
+) -> u8 {
+    if !is_check {
+        return refuse(line, err);
+    }
+    let mut said = Vec::new(rt.alloc());
+    let text = match write_message(&mut said, line) {
+        Ok(()) => unknown_text(rt.alloc(), said.as_slice()),
+        Err(_) => Err(AllocError),
+    };
+    print_unknown(rt, text)
 }
 
 /// Reports what is wrong with the command line, and returns the exit status.

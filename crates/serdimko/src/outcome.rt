@@ -1,6 +1,6 @@
 //! How runs ended: what the exit status is, and what may follow.
 ghost use Rattle.std.specs.Prelude.{◌≡◌};
-ghost use Rattle.serdimko.specs.RunError.{and, outcome_of};
+ghost use Rattle.serdimko.specs.RunError.{and, outcome_of, outcome_of_verdict};
 
 use crate::run_error::RunError;
 use ipmi_output::Failure;
@@ -14,6 +14,8 @@ pub(crate) struct Outcome {
     pub(crate) is_output_open: bool,
     /// Whether nothing has a name that was given.
     pub(crate) lacks_name: bool,
+    /// Whether the verdict of a check was printed.
+    pub(crate) has_verdict: bool,
 }
 
 impl Outcome {
@@ -28,6 +30,19 @@ impl Outcome {
             },
             is_output_open: RunError::is_output_open(error),
             lacks_name: matches!(error, Some(RunError::Failed(Failure::NoName(_)))),
+            has_verdict: false,
+        }
+    }
+
+    /// How a check with this status ended, whose verdict was printed.
+    pub(crate) fn of_verdict(status: u8) -> Outcome
+        ensures { result ≡ outcome_of_verdict status }
+    {
+        Outcome {
+            status,
+            is_output_open: true,
+            lacks_name: false,
+            has_verdict: true,
         }
     }
 
@@ -39,6 +54,7 @@ impl Outcome {
             status: self.status.max(next.status),
             is_output_open: self.is_output_open && next.is_output_open,
             lacks_name: self.lacks_name || next.lacks_name,
+            has_verdict: self.has_verdict || next.has_verdict,
         }
     }
 }

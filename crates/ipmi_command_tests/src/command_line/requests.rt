@@ -65,6 +65,7 @@ fn action_text(rt: &impl Abort, alloc: Global, action: &Action) -> String {
             let file = file_text(output.as_ref());
             format!(in alloc; "capture {file} {quiet} {partial}").expect(rt, "memory")
         }
+        Action::Check => String::from_str(alloc, "check").expect(rt, "memory"),
         Action::Rewrite => String::from_str(alloc, "rewrite").expect(rt, "memory"),
         Action::Help(topic) => format!(in alloc; "help {topic:?}").expect(rt, "memory"),
         Action::Version => String::from_str(alloc, "version").expect(rt, "memory"),
@@ -225,6 +226,10 @@ sel,list,--csv,--separator,semicolon,--label,a=1|SelList(All) None; images; None
 sdr,info,--live,ipmitool:/tmp/x|Info(Sdr) None; Ipmitool /tmp/x ; None 5; plain; false
 --live,freeipmi:x,capture,-o,file,--quiet|capture file true false; FreeIpmi x ; None 5; plain; false
 --live,freeipmi:x,capture,--partial|capture - false true; FreeIpmi x ; None 5; plain; false
+check|check; images; None 5; plain; false
+check,--image,a,--exclude,Fan 1,--type,fan|check type 4 not Fan 1; images a; None 5; plain; false
+--live,ipmitool:x,--records,a,check,--tries,1|check; Ipmitool x a; None 1; plain; false
+help,check|help Check; images; None 5; plain; false
 --live,ipmitool:/tmp/x:fe80::1%eth0,fru|Fru(None) None; Ipmitool /tmp/x fe80::1%eth0; None 5; plain; false
 --live,ipmitool:x,--records,r.image,sensor|List(Sensors) None; Ipmitool x r.image; None 5; words; false
 image,rewrite,--image,a|rewrite; images a; None 5; plain; false
@@ -242,7 +247,7 @@ fn lines_ask_for_this(rt: HostRuntime) {
 
 /// `words|why they are refused`.
 const REFUSED: &str = "srd|unknown command 'srd': did you mean 'sdr'?
-foo|unknown command 'foo': use one of sdr sensor sel fru capture image help
+foo|unknown command 'foo': use one of sdr sensor sel fru check capture image help
 server.image|unknown command 'server.image': a file comes after --image
 sdr,lst|unknown word 'lst' after 'sdr': did you mean 'list'?
 sel,cl\u{7}ear|unknown word 'cl\\x07ear' after 'sel': use one of info list elist tail get
@@ -294,6 +299,11 @@ sdr,info,--from,0001|--from does not go with 'sdr info'
 --live,ipmitool:x,--image,a|--image does not go with a live controller
 capture|'capture' needs a live controller: see serdimko-live --help
 --image,a,--image,b,image,rewrite|'image rewrite' takes one image
+--image,a,--image,b,check|'check' takes one image
+check,--from,0001|--from does not go with 'check'
+check,sensors|unexpected word 'sensors' with 'check'
+check,--worse,warning|--worse does not go with 'check'
+--json,check|--json does not go with 'check'
 --label,a=1|--label goes only with --json or --csv
 --csv,--json|--json does not go with --csv
 --separator,comma|--separator goes only with --csv

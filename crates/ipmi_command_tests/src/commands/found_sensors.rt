@@ -3,7 +3,7 @@ use super::over_images::scripted;
 use crate::writers::assert_written_text;
 use ipmi_bus::Ended;
 use ipmi_command_line::Words;
-use ipmi_commands::{FoundSensors, RequestLimits, Summary, find_sensors, print_sensors};
+use ipmi_commands::{FoundSensors, RequestLimits, Sought, Summary, find_sensors, print_sensors};
 use ipmi_fixtures::{CPU_TEMP_BLOCK, PSU1_BLOCK};
 use ipmi_output::{Failure, Written};
 use ipmi_program::Wording;
@@ -54,7 +54,8 @@ fn search_in_moods(rt: &impl Abort, alloc: Global, moods: &str) -> Search {
     let names = names(rt, alloc);
     let limits = RequestLimits::new(32, 1);
     let mut found = FoundSensors::new(alloc);
-    let ending = find_sensors(alloc, &mut ctl, limits, names.as_slice(), None, &mut found);
+    let sought = Sought::Named(names.as_slice());
+    let ending = find_sensors(alloc, &mut ctl, limits, sought, None, &mut found);
     let calls = ctl.calls;
     drop(ctl);
     drop(names);

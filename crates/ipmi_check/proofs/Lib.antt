@@ -1,0 +1,2 @@
+pub mod OkLemmas
+pub mod TextLemmas
