@@ -13,7 +13,7 @@ built_of = $(shell scripts/rests_on $1 | sed 's/[: ].*//' | while read -r crate;
     find "crates/$$crate" \( -name out -o -name must-fail \) -prune -o \( -name '*.rt' -o -name '*.antt' \) -print; done) \
   $(shell cd crates/$1/out 2> /dev/null && ! [ $1 -nt $1.crates ] && ../../../scripts/rests_on $1 | cmp -s - $1.crates || echo crates.txt)
 
-.PHONY: demo try test memory turns bench live-test database-test build install uninstall package package-test
+.PHONY: demo try test memory turns bench live-test monitor-test database-test build install uninstall package package-test
 
 # Runs the program on the image of a server (its sensors, one sensor in full, events and inventories), and on three records in
 # hex.
@@ -51,6 +51,12 @@ bench: $(PROGRAM)
 # troubles. Takes minutes. Needs Debian's ipmitool, openipmi and freeipmi-tools.
 live-test: $(PROGRAM)
 	@scripts/live_test
+
+# Gives metrics and checks to promtool, node_exporter, Prometheus, ipmi_exporter and check_ipmi_sensor. Takes a minute, and skips what is
+# not installed: Debian's prometheus, prometheus-node-exporter, prometheus-ipmi-exporter, monitoring-plugins-contrib, libipc-run-perl,
+# freeipmi-tools, ipmitool and openipmi.
+monitor-test: $(PROGRAM)
+	@scripts/monitor_test $(PROGRAM)
 
 # Runs the blocks of docs/databases.md, with SQLite and PostgreSQL. Needs Debian's jq, sqlite3 and postgresql.
 database-test: $(PROGRAM)
