@@ -12,7 +12,7 @@ _serdimko_live() {
     word=${COMP_WORDS[place]}
     if [[ $value ]]; then
       value=
-    elif [[ $word == -- || $word == @(sdr|sensor|sel|fru|check|capture|image|help) ]]; then
+    elif [[ $word == -- || $word == @(sdr|sensor|sel|fru|check|metrics|capture|image|help) ]]; then
       [[ $word == -- ]] || ((place--))
       COMP_WORDS=(serdimko "${COMP_WORDS[@]:place + 1}")
       ((COMP_CWORD -= place))
@@ -31,7 +31,7 @@ _serdimko_live() {
   elif [[ $cur == -* ]]; then
     COMPREPLY=($(compgen -W '--ipmitool --freeipmi --deadline --help' -- "$cur"))
   else
-    COMPREPLY=($(compgen -W 'fru sdr sensor sel check capture help' -- "$cur"))
+    COMPREPLY=($(compgen -W 'fru sdr sensor sel check metrics capture help' -- "$cur"))
   fi
 }
 

@@ -3,7 +3,7 @@
 # It calls no function of the package bash-completion, so that a shell may also read it by itself.
 
 _serdimko() {
-  local options='--image --live --records --from --part --tries --id --type --entity --exclude --since --until --now --worse --strict --json --csv --separator --label --output --partial --quiet --help --version -h -V'
+  local options='--image --live --records --from --part --tries --id --type --entity --exclude --since --until --now --worse --strict --json --csv --separator --label --output --partial --quiet --perfdata --openmetrics --help --version -h -V'
   local cur=${COMP_WORDS[COMP_CWORD]} word value= plain= line= next=
 
   # What comes before the word: the option whose value it is, whether -- came, and the words without options.
@@ -38,7 +38,7 @@ _serdimko() {
 
   # What may follow the words before. Names and numbers are not completed.
   case $line in
-    '') next='fru sdr sensor sel check capture image help' ;;
+    '') next='fru sdr sensor sel check metrics capture image help' ;;
     'fru') next='print list' ;;
     'sdr') next='list elist type entity get info hex' ;;
     'sdr list') next='all full compact event generic mclocator fru' ;;
@@ -48,7 +48,7 @@ _serdimko() {
     'sel list') next='first last' ;;
     'sel elist') next='first last' ;;
     'image') next='rewrite' ;;
-    'help') next='fru sdr sensor sel check capture image' ;;
+    'help') next='fru sdr sensor sel check metrics capture image' ;;
   esac
   COMPREPLY=($(compgen -W "$next" -- "$cur"))
 }

@@ -437,7 +437,7 @@ if [ "$status" -ne 3 ] || [ "$(cat "$work/out")" != "IPMI UNKNOWN - cannot run $
 (
   exec 9>> "$work/image.part"
   flock 9
-  says 4 "live: cannot write $work/image: another capture does" capture "-o$work/image"
+  says 4 "live: cannot write $work/image: another run does" capture "-o$work/image"
   [ -e "$work/image.part" ] || fault 'two captures: the file of the first is gone'
   exit $failed
 ) || failed=1

@@ -172,7 +172,7 @@ expect 'critical warning' --worse ''
 expect critical sel list --worse c
 expect '--label' --json --label a=b --la
 expect '--exclude' --exclude Fan1 --ex
-expect '--csv --entity --exclude --help --id --image --json --label --live --now --output --partial --quiet --records --separator --since --tries --type --until --version --worse' --strict --from=0001 --part 4 --image = x --
+expect '--csv --entity --exclude --help --id --image --json --label --live --now --openmetrics --output --partial --perfdata --quiet --records --separator --since --tries --type --until --version --worse' --strict --from=0001 --part 4 --image = x --
 expect 'list' --strict -h sdr li
 expect '' -- --
 expect 'sdr sel sensor' -- s
@@ -197,10 +197,10 @@ offers() {
   _serdimko_live
   [ "${#COMPREPLY[@]}" -eq 0 ] || printf '%s\n' "${COMPREPLY[@]}"
 }
-expect 'capture check fru help sdr sel sensor' ''
+expect 'capture check fru help metrics sdr sel sensor' ''
 expect '--deadline --freeipmi --help --ipmitool' -
 expect 'sdr sel sensor' -I open -H sdr -v s
-expect 'capture check fru help sdr sel sensor' -Hsdr ''
+expect 'capture check fru help metrics sdr sel sensor' -Hsdr ''
 expect '' --deadline ''
 expect files -vf ''
 expect 'list' -I open -U sel sel li

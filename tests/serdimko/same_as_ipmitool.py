@@ -127,7 +127,7 @@ def free_words(words):
 
 
 def is_own(words):
-    """Whether the line uses an option or a word that only serdimko has, or several names."""
+    """Whether the line uses an option or a word that only serdimko has, or several names or ids."""
     names = [word.split("=")[0] for word in words]
     has = lambda command, word: word in names[names.index(command) :] if command in names else False
     free = free_words(words)
@@ -139,7 +139,7 @@ def is_own(words):
         or has("fru", "list")
         or has("sdr", "type")
         or has("sdr", "entity")
-        or (free[:2] == ["sdr", "get"] and len(free) > 3)
+        or (free[:2] in (["sdr", "get"], ["sel", "get"], ["fru", "print"]) and len(free) > 3)
     )
 
 

@@ -10,12 +10,12 @@ use Rattle.ipmi_capture.specs.Laws.{AreOfCapture, CapturesPrintTheSame, Captures
 use Rattle.ipmi_capture.specs.Left.{EndIsNoted, LacksInfo, LacksInventory, LacksReading, LacksRecords, SameOrLeft}
 use Rattle.ipmi_capture.specs.declared.left.Left.{Left}
 use Rattle.ipmi_records.specs.Prelude.{known}
-use Rattle.ipmi_commands.specs.Prelude.{first_rows, SelectedEntries, of_kind, after_names, after_points, AtInventory, AtRecord, bytes_of_rows, devices_job, events_job, named_entries, has_last, IfChosen, info_plan, inventories_plan, inventory_plan, is_name, IsBlockOfName, IsDevicePiece, IsLocatorPiece, IsRecordText, IsRowText, IsTextOfRecord, Texts, Item, kept_items, kept_plan, last_rows, listing, listing_plan, OfInventory, OnEntries, OnTail, OnTailFrom, OnTried, OnWalk, OnWhole, Plan, points_of_walk, reading_by, reading_for, row_is_of_kind, row_items, ReadPoint, tail_from, walk_call_bound, points_before, view_has_name, with_first_points}
+use Rattle.ipmi_commands.specs.Prelude.{first_rows, after_names, after_points, AtInventory, AtRecord, bytes_of_rows, devices_job, events_job, named_entries, has_last, IfChosen, info_plan, inventories_plan, inventory_plan, IsBlockOfName, IsDevicePiece, IsLocatorPiece, IsRecordText, IsRowText, IsTextOfRecord, Texts, Item, kept_items, kept_plan, last_rows, listing, listing_plan, OfInventory, OnEntries, OnTail, OnTailFrom, OnTried, OnWalk, OnWhole, Plan, points_of_walk, reading_by, reading_for, row_items, ReadPoint, tail_from, walk_call_bound, points_before, view_has_name, with_first_points}
 use Rattle.ipmi_command_line.specs.declared.filters.Filters.{Filters}
 use Rattle.ipmi_commands.specs.Job.{choosing, entries_job, keeping_last}
-use Rattle.ipmi_commands.specs.Selection.{chosen, if_passes, in_detail, passes, Selected, selects, with_entry_filters, with_filters}
+use Rattle.ipmi_selection.specs.Selection.{chosen, if_passes, in_detail, is_name, of_kind, passes, row_is_of_kind, Selected, SelectedEntries, selects, with_entry_filters, with_filters}
 use Rattle.ipmi_commands.specs.declared.job.NameLookup.{NameLookup}
-use Rattle.ipmi_commands.specs.declared.format.Detail.{Detail}
+use Rattle.ipmi_selection.specs.declared.detail.Detail.{Detail}
 use Rattle.ipmi_commands.specs.declared.job.EntryText.{EntryText}
 use Rattle.ipmi_commands.specs.declared.job.Form.{Form}
 use Rattle.ipmi_commands.specs.declared.job.Job.{Job}

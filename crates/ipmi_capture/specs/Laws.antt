@@ -9,12 +9,12 @@ use Rattle.ipmi_commands.specs.Format.{Texts}
 use Rattle.ipmi_command_line.specs.declared.filters.Filters.{Filters}
 use Rattle.ipmi_commands.specs.Job.{choosing, job_of, keeping_last}
 use Rattle.ipmi_commands.specs.declared.job.Job.{Job}
-use Rattle.ipmi_commands.specs.declared.format.Detail.{Detail}
+use Rattle.ipmi_selection.specs.declared.detail.Detail.{Detail}
 use Rattle.ipmi_commands.specs.declared.limits.Tries.{Tries}
 use Rattle.ipmi_commands.specs.Plan.{Item, view_has_name}
 use Rattle.ipmi_commands.specs.Run.{FollowsPlan}
 use Rattle.ipmi_commands.specs.Tail.{tail_from}
-use Rattle.ipmi_commands.specs.Selection.{row_is_of_kind}
+use Rattle.ipmi_selection.specs.Selection.{row_is_of_kind}
 use Rattle.ipmi_commands.specs.Texts.{IsTextOver}
 use Rattle.ipmi_command_line.specs.declared.task.Count.{Count}
 use Rattle.ipmi_command_line.specs.declared.task.Task.{Task}

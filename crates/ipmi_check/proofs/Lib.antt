@@ -1,2 +1,3 @@
 pub mod OkLemmas
+pub mod PerformanceLemmas
 pub mod TextLemmas

@@ -1,8 +1,8 @@
 -- What follows if a check says OK.
 use Rattle.std.proofs.Common.{◌≡◌, ◌⊎◌, inl, inr, Bool, true, false, if◌then◌else◌, ◌||◌, List, [], ◌∷◌, ◌++◌, Ok, Err, is_err, refl, cond}
 use Rattle.ipmi_commands.specs.Below.{Ending, Row, Seen, Store, WasHeld}
-use Rattle.ipmi_commands.specs.Sensors.{AreFoundWhile, Found, found_among, found_row, Searches, seeks}
-use Rattle.ipmi_commands.specs.declared.sensors.Sought.{Sought}
+use Rattle.ipmi_sensors.specs.Sensors.{AreFoundWhile, Found, found_among, found_row, Searches, seeks}
+use Rattle.ipmi_sensors.specs.declared.sensors.Sought.{Sought}
 use Rattle.ipmi_check.specs.Laws.{AllFine, AreFine, AreFineWhile, FailureIsNotOk, IsFine, OkIsTrue}
 use Rattle.ipmi_check.specs.Standing.{is_in, standing_of}
 use Rattle.ipmi_check.specs.Verdict.{has, has_none, verdict_of}

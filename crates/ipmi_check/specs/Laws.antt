@@ -3,9 +3,9 @@ use Rattle.std.specs.Prelude.{◌≡◌, ◌⊎◌, true, is_err, List, [], ◌�
 use Rattle.ipmi_commands.specs.Below.{Done, Ending, OnGrowing, Place, Row, Sdr, Seen, Store, WasHeld}
 use Rattle.ipmi_image.specs.declared.lack.Lack.{Lack}
 use Rattle.ipmi_commands.specs.Plan.{OnWalk}
-use Rattle.ipmi_commands.specs.Sensors.{Found, found_row, Searches, seeks}
+use Rattle.ipmi_sensors.specs.Sensors.{Found, found_row, Searches, seeks}
 use Rattle.ipmi_commands.specs.declared.limits.Tries.{Tries}
-use Rattle.ipmi_commands.specs.declared.sensors.Sought.{Sought}
+use Rattle.ipmi_sensors.specs.declared.sensors.Sought.{Sought}
 use Rattle.ipmi_check.specs.Standing.{standing_of}
 use Rattle.ipmi_check.specs.Verdict.{verdict_of}
 use Rattle.ipmi_check.specs.declared.standing.Standing.{Standing}

@@ -1,4 +1,6 @@
 pub mod Laws
+pub mod Name
+pub mod Performance
 pub mod Standing
 pub mod Text
 pub mod Verdict

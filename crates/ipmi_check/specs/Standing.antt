@@ -8,7 +8,7 @@ use Rattle.ipmi_records.specs.declared.sdr.SdrFault.{SdrFault}
 use Rattle.ipmi_records.specs.declared.sensor.Sensor.{Sensor}
 use Rattle.ipmi_events.specs.Worst.{sensor_severity}
 use Rattle.ipmi_events.specs.declared.severity.Severity.{Severity}
-use Rattle.ipmi_commands.specs.Sensors.{Found}
+use Rattle.ipmi_sensors.specs.Sensors.{Found}
 use Rattle.ipmi_image.specs.declared.lack.Lack.{Lack}
 use Rattle.ipmi_program.specs.WithLacks.{captured}
 use Rattle.ipmi_check.specs.declared.standing.Standing.{Standing}

@@ -2,6 +2,7 @@
 use Rattle.std.specs.Prelude.{◌≡◌, ℕ, ◌==◌, not, is_some, Option, None, Some, Result, Ok, Err, List, [], ◌∷◌, ◌++◌, codes, count_by, decimal, if◌then◌else◌, map, nat_lt}
 use Rattle.std.specs.List.{find}
 use Rattle.ipmi_text.specs.Hex.{hex_word}
+use Rattle.ipmi_text.specs.Texts.{AreTexts}
 use Rattle.ipmi_records.specs.Prelude.{has_thresholds, known, printed_name, sensor_of, shown_of, sdr_view_of}
 use Rattle.ipmi_records.specs.declared.column.KnownReading.{KnownReading}
 use Rattle.ipmi_records.specs.declared.sdr.SdrView.{SdrView}
@@ -9,10 +10,13 @@ use Rattle.ipmi_records.specs.declared.sdr.SdrFault.{SdrFault}
 use Rattle.ipmi_records.specs.declared.sensor.Sensor.{Sensor}
 use Rattle.ipmi_events.specs.Shown.{IsReadingInWords}
 use Rattle.ipmi_events.specs.Status.{status_in_words}
-use Rattle.ipmi_commands.specs.Sensors.{Found}
+use Rattle.ipmi_sensors.specs.Sensors.{Found}
+use Rattle.ipmi_check.specs.Name.{name_or_id}
+use Rattle.ipmi_check.specs.Performance.{IsDataPart}
 use Rattle.ipmi_check.specs.Standing.{is_in, standing_of}
 use Rattle.ipmi_image.specs.declared.lack.Lack.{Lack}
 use Rattle.ipmi_check.specs.Verdict.{has, verdict_of, verdict_words}
+use Rattle.ipmi_check.specs.declared.performance.Detail.{Detail}
 use Rattle.ipmi_check.specs.declared.standing.Standing.{Standing}
 use Rattle.ipmi_check.specs.declared.verdict.Verdict.{Verdict}
 
@@ -26,11 +30,6 @@ status_of_sensor (Some sensor) reading =
 
 abbrev pub status_part : SdrView → KnownReading → List ℕ
 status_part view reading = status_of_sensor (sensor_of view) reading
-
--- the name, or the id of a record without a name
-abbrev pub name_or_id : ℕ → List ℕ → List ℕ
-name_or_id id [] = codes "record " ++ hex_word id
-name_or_id id (first ∷ rest) = first ∷ rest
 
 -- the name, and in parentheses the reading column of `sensor`, with the status of a sensor with thresholds
 pub record IsTroubleOf (id : ℕ) (view : SdrView) (reading : KnownReading) (text : List ℕ) : Type 0 where
@@ -60,18 +59,8 @@ IsLine Standing.Unknown found text =
     text ≡ codes "unknown: record " ++ (hex_word found.id ++ codes " can't be judged\n")
 IsLine standing found text = text ≡ []
 
--- one text after another
-pub record Joined (IsFirst IsRest : List ℕ → Type 0) (text : List ℕ) : Type 0 where
-  pub first : List ℕ
-  pub rest : List ℕ
-  pub is_first : IsFirst first
-  pub is_rest : IsRest rest
-  pub text_is : text ≡ first ++ rest
-
 abbrev pub AreLines : List Lack → List Found → List ℕ → Type 0
-AreLines lacks [] text = text ≡ []
-AreLines lacks (found ∷ more) text =
-    Joined (λ first. IsLine (standing_of lacks found) found first) (λ rest. AreLines lacks more rest) text
+AreLines lacks found text = AreTexts (λ one line. IsLine (standing_of lacks one) one line) found text
 
 -- ---- the first line
 
@@ -140,10 +129,11 @@ why_after verdict why = []
 abbrev pub verdict_part : Verdict → List ℕ
 verdict_part verdict = codes "IPMI " ++ (verdict_words verdict ++ codes " - ")
 
+-- without its line feed
 pub record IsHeadline (lacks : List Lack) (verdict : Verdict) (found : List Found) (why : Option (List ℕ)) (text : List ℕ) : Type 0 where
   pub lead : List ℕ
   pub is_lead : IsLead lacks verdict found why lead
-  pub text_is : text ≡ verdict_part verdict ++ (lead ++ (counts_beside lacks verdict found ++ (why_after verdict why ++ codes "\n")))
+  pub text_is : text ≡ verdict_part verdict ++ (lead ++ (counts_beside lacks verdict found ++ why_after verdict why))
 
 -- ---- both
 
@@ -151,13 +141,21 @@ pub record IsHeadline (lacks : List Lack) (verdict : Verdict) (found : List Foun
 abbrev pub without_bar : ℕ → ℕ
 without_bar byte = if byte == 0x7c then 0x2f else byte
 
--- `why`: why the search failed, if it did
-pub record IsCheckText (lacks : List Lack) (found : List Found) (why : Option (List ℕ)) (text : List ℕ) : Type 0 where
+-- a text with a slash for each bar
+pub record WithoutBars (IsText : List ℕ → Type 0) (text : List ℕ) : Type 0 where
+  pub with_bars : List ℕ
+  pub is_text : IsText with_bars
+  pub text_is : text ≡ map without_bar with_bars
+
+-- `why`: why the search failed, if it did. Only performance data have a bar.
+pub record IsCheckText (lacks : List Lack) (found : List Found) (why : Option (List ℕ)) (detail : Detail) (text : List ℕ) : Type 0 where
   pub headline : List ℕ
+  pub data_part : List ℕ
   pub lines : List ℕ
-  pub is_headline : IsHeadline lacks (verdict_of lacks found (is_some why)) found why headline
-  pub are_lines : AreLines lacks found lines
-  pub text_is : text ≡ map without_bar (headline ++ lines)
+  pub is_headline : WithoutBars (IsHeadline lacks (verdict_of lacks found (is_some why)) found why) headline
+  pub is_data : IsDataPart found detail data_part
+  pub are_lines : WithoutBars (AreLines lacks found) lines
+  pub text_is : text ≡ headline ++ (data_part ++ (codes "\n" ++ lines))
 
 -- if memory ran out
 abbrev pub short_text : Verdict → List ℕ

@@ -1,7 +1,7 @@
 -- What a check says of all sensors.
 use Rattle.std.specs.Prelude.{ℕ, ◌||◌, Bool, not, List, codes, if◌then◌else◌}
 use Rattle.std.specs.List.{list_any}
-use Rattle.ipmi_commands.specs.Sensors.{Found}
+use Rattle.ipmi_sensors.specs.Sensors.{Found}
 use Rattle.ipmi_image.specs.declared.lack.Lack.{Lack}
 use Rattle.ipmi_check.specs.Standing.{is_in, standing_of}
 use Rattle.ipmi_check.specs.declared.standing.Standing.{Standing}

@@ -2,10 +2,13 @@
 #![tactic(auto)]
 
 pub mod laws;
+mod name;
+mod performance;
 mod standing;
 mod text;
 mod verdict;
 
+pub use performance::Detail;
 pub use standing::Standing;
 pub use text::{check_text, text_without_memory};
 pub use verdict::Verdict;

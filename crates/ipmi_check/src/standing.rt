@@ -3,11 +3,11 @@ ghost use Rattle.std.specs.Prelude.{◌≡◌};
 ghost use Rattle.ipmi_records.specs.Prelude.{shown_of};
 ghost use Rattle.ipmi_check.specs.Standing.{by_severity, is_in, of_sensor, standing_of};
 
-use ipmi_commands::FoundSensor;
 use ipmi_events::{Severity, sensor_severity};
 use ipmi_image::Lack;
 use ipmi_program::captured;
 use ipmi_records::{KnownReading, Sensor, Shown, shown_of};
+use ipmi_sensors::FoundSensor;
 
 /// Whether a record's sensor is in trouble, by its reading.
 #[derive(Clone, Copy, Debug, PartialEq, Eq)]

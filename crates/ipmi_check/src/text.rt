@@ -1,17 +1,18 @@
 //! What a check prints: a line with the verdict, and a line for each sensor in trouble.
 ghost use Rattle.std.specs.Prelude.{◌≡◌, ◌++◌, IfOk, map, OnOk, option_map, string_bytes};
 ghost use Rattle.std.specs.List.{find};
-ghost use Rattle.ipmi_records.specs.Prelude.{printed_name};
 ghost use Rattle.ipmi_text.specs.Appended.{Appends};
 ghost use Rattle.ipmi_check.specs.Standing.{is_in, standing_of};
-ghost use Rattle.ipmi_check.specs.Text.{after_first, AreLines, count_in, count_sensors, counts_beside, IsCheckText, IsFirst, IsHeadline, IsLead, IsLine, IsTrouble, IsTroubled, IsTroubleOf, IsWorst, labelled, name_or_id, sensor_word, share, short_text, status_part, verdict_part, warnings_beside, why_after, why_unknown, without_bar};
+ghost use Rattle.ipmi_check.specs.Text.{after_first, AreLines, count_in, count_sensors, counts_beside, IsCheckText, IsFirst, IsHeadline, IsLead, IsLine, IsTrouble, IsTroubled, IsTroubleOf, IsWorst, labelled, sensor_word, share, short_text, status_part, verdict_part, warnings_beside, why_after, why_unknown, without_bar, WithoutBars};
 
+use crate::name::push_name;
+use crate::performance::{Detail, push_data};
 use crate::standing::Standing;
 use crate::verdict::{Verdict, has};
-use ipmi_commands::{FoundSensor, FoundSensors};
 use ipmi_events::{push_reading_in_words, status_in_words};
 use ipmi_image::Lack;
 use ipmi_records::{KnownReading, SdrView, has_thresholds};
+use ipmi_sensors::{FoundSensor, FoundSensors};
 use ipmi_text::HexWord;
 use std::alloc::{AllocError, Global};
 
@@ -52,24 +53,6 @@ fn push_status(
             write!(text, ", {status}")
         }
         _ => Ok(()),
-    }
-}
-
-/// Appends the name of a sensor, or the id of its record if it has none.
-fn push_name(
-    alloc: Global,
-    text: &mut String,
-    id: u16,
-    view: &SdrView<'_>,
-) -> Result<(), AllocError>
-    ensures { OnOk result (string_bytes text.new ≡ string_bytes text.old ++ name_or_id id (printed_name view.now)) }
-{
-    match view.name(alloc)? {
-        Some(name) if !name.as_bytes().is_empty() => text.push_str(name.as_str()),
-        _ => {
-            let id = HexWord(id);
-            write!(text, "record {id}")
-        }
     }
 }
 
@@ -344,7 +327,7 @@ fn without_bars(alloc: Global, bytes: &[u8]) -> Result<Vec<u8>, AllocError>
     bytes.iter().map(|byte| without_bar(*byte)).collect(alloc)
 }
 
-/// Appends the first line.
+/// Appends the first line, without performance data and its line feed.
 #[tactic(auto, using(crate::proofs::TextLemmas::headline_made))]
 fn push_headline(
     alloc: Global,
@@ -360,9 +343,32 @@ fn push_headline(
     push_verdict(text, verdict)?;
     push_lead(alloc, text, verdict, found, lacks, why)?;
     push_counts(text, verdict, found, lacks)?;
-    push_why(text, verdict, why)?;
-    text.push_str("\n")?;
-    Ok(())
+    push_why(text, verdict, why)
+}
+
+/// The first line, without performance data and its line feed.
+fn headline(
+    alloc: Global,
+    verdict: Verdict,
+    found: &[FoundSensor],
+    lacks: &[Lack],
+    why: Option<&str>,
+) -> Result<Vec<u8>, AllocError>
+    ensures { IfOk result (λ line. WithoutBars (IsHeadline lacks.now verdict found.now (option_map (λ why. why.now) why.entry))
+        line.items) }
+{
+    let mut text = String::with_capacity(alloc, TEXT_CAPACITY)?;
+    push_headline(alloc, &mut text, verdict, found, lacks, why)?;
+    without_bars(alloc, text.as_bytes())
+}
+
+/// The lines after the first.
+fn lines(alloc: Global, found: &[FoundSensor], lacks: &[Lack]) -> Result<Vec<u8>, AllocError>
+    ensures { IfOk result (λ lines. WithoutBars (AreLines lacks.now found.now) lines.items) }
+{
+    let mut text = String::with_capacity(alloc, TEXT_CAPACITY)?;
+    push_lines(alloc, &mut text, found, lacks)?;
+    without_bars(alloc, text.as_bytes())
 }
 
 /// What a check prints of the sensors that a search found, in an image that lacks these items. `why` says why the search failed, if it
@@ -372,15 +378,18 @@ pub fn check_text(
     found: &FoundSensors,
     lacks: &[Lack],
     why: Option<&str>,
+    detail: Detail,
 ) -> Result<Vec<u8>, AllocError>
-    ensures { IfOk result (λ text. IsCheckText lacks.now found.now (option_map (λ why. why.now) why.entry) text.items) }
+    ensures { IfOk result (λ text. IsCheckText lacks.now found.now (option_map (λ why. why.now) why.entry) detail text.items) }
 {
     let verdict = Verdict::of(found, lacks, why.is_some());
     let found = found.as_slice();
-    let mut text = String::with_capacity(alloc, TEXT_CAPACITY)?;
-    push_headline(alloc, &mut text, verdict, found, lacks, why)?;
-    push_lines(alloc, &mut text, found, lacks)?;
-    without_bars(alloc, text.as_bytes())
+    let mut text = headline(alloc, verdict, found, lacks, why)?;
+    push_data(alloc, &mut text, detail, found)?;
+    text.extend_from_slice(b"\n")?;
+    let lines = lines(alloc, found, lacks)?;
+    text.extend_from_slice(&lines)?;
+    Ok(text)
 }
 
 /// What a check with this verdict prints if memory ran out.

@@ -3,8 +3,8 @@ ghost use Rattle.std.specs.Prelude.{◌≡◌};
 ghost use Rattle.ipmi_check.specs.Verdict.{has, has_none, status_of, verdict_of, verdict_words};
 
 use crate::standing::Standing;
-use ipmi_commands::{FoundSensor, FoundSensors};
 use ipmi_image::Lack;
+use ipmi_sensors::{FoundSensor, FoundSensors};
 
 /// What a check says of all sensors.
 #[derive(Clone, Copy, Debug, PartialEq, Eq)]

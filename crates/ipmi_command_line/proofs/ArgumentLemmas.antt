@@ -5,7 +5,7 @@ use Rattle.clap.specs.Words.{Text, matched_of, raw_values, rows_of}
 use Rattle.clap.specs.declared.parser.matches.Found.{Found}
 pub use Rattle.clap.proofs.WalkLemmas.{first_value-rows}
 use Rattle.clap.proofs.WalkLemmas.{raw_values-rows}
-use Rattle.ipmi_command_line.specs.Arguments.{values_of}
+use Rattle.ipmi_command_line.specs.Values.{values_of}
 
 -- `get_strs(name).unwrap_or(&[])` has all values of the option
 pub values_are : (r : Option (Bor (List (Bor Text)))) (d : Bor (List (Bor Text))) (f : Found) (name : Text)

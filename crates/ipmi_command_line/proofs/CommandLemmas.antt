@@ -1,9 +1,10 @@
 -- The table of commands: words as `starts_with` compares them, and rows as `find` finds them.
 use Rattle.std.proofs.Common.{◌≡◌, ◌≤◌, ◌<◌, ◌∙◌, ap, arith, refl, List, [], ◌∷◌, Bool, true, false, Bor, bytes_eq, ◌&&◌, ◌||◌, codes, get_or, if◌then◌else◌, length, map, Option, None, Some, option_map, unwrap_or}
-use Rattle.std.specs.List.{find, list_any, starts_with}
+use Rattle.std.specs.List.{cons_option, filter_map, find, list_any, starts_with}
 use Rattle.clap.proofs.WalkLemmas.{find-map}
-use Rattle.clap.specs.Words.{Text}
-use Rattle.ipmi_command_line.specs.Request.{asks_for_types, events_of, has_option, help_of, tail_of, topic_named, topic_of}
+use Rattle.clap.specs.Words.{Text, Row as Found}
+use Rattle.ipmi_command_line.specs.Options.{OptionRow, OptionState, option_state}
+use Rattle.ipmi_command_line.specs.Request.{asks_for_types, events_of, has_option, help_of, named_of, records_named, start_of, tail_of, topic_named, topic_of}
 use Rattle.ipmi_command_line.specs.Number.{number_of, within}
 use Rattle.ipmi_command_line.specs.Table.{entries_of, oldest, task_of_four}
 use Rattle.ipmi_command_line.specs.declared.request.Topic.{Topic}
@@ -32,12 +33,28 @@ pub has_option_is : (options : List (Bor Text)) (name : Text)
 has_option_is [] name = refl
 has_option_is (option ∷ options) name = ap (λ b. bytes_eq option.now name || b) (has_option_is options name)
 
--- the first name of a list that passes
-pub name_found : (passes : Text → Bool) (r : Option (Bor (Bor Text))) (names : List (Bor Text))
-    → option_map (λ name. name.now) r ≡ find (λ (name : Bor Text). passes name.now) names
-    → option_map (λ (name : Bor Text). name.now) (option_map (λ (name : Bor (Bor Text)). name.now) r) ≡ find passes (texts names)
-name_found passes r names found = ap (option_map (λ (name : Bor Text). name.now)) found
-    ∙ find-map passes (λ (name : Bor Text). name.now) names
+-- ---- the table of options: rows as `find` and `filter_map` find them
+
+name_of : (r : Option (Bor OptionRow)) → option_map (λ (row : Bor OptionRow). row.now.0.now) r
+    ≡ option_map (λ (row : OptionRow). row.0.now) (option_map (λ (row : Bor OptionRow). row.now) r)
+name_of None = refl
+name_of (Some row) = refl
+
+state_name : (r : Option OptionRow) → option_map (λ (row : OptionRow). row.0.now) r
+    ≡ option_map (λ (option : OptionState). option.name) (option_map option_state r)
+state_name None = refl
+state_name (Some row) = refl
+
+pub option_found : (passes : OptionState → Bool) (r : Option (Bor OptionRow)) (table : List OptionRow)
+    → option_map (λ row. row.now) r ≡ find (λ (row : OptionRow). passes (option_state row)) table
+    → option_map (λ (row : Bor OptionRow). row.now.0.now) r ≡ option_map (λ option. option.name) (find passes (map option_state table))
+option_found passes r table found =
+    name_of r ∙ ap (option_map (λ (row : OptionRow). row.0.now)) found ∙ state_name (find (λ (row : OptionRow). passes (option_state row)) table)
+    ∙ ap (option_map (λ (option : OptionState). option.name)) (find-map passes option_state table)
+
+pub filter_map-map : {A B C : Type 0} (f : B → Option C) (h : A → B) (xs : List A) → filter_map (λ x. f (h x)) xs ≡ filter_map f (map h xs)
+filter_map-map f h [] = refl
+filter_map-map f h (x ∷ xs) = ap (cons_option (f (h x))) (filter_map-map f h xs)
 
 -- ---- the words of `sel elist`
 
@@ -136,3 +153,12 @@ asks_more (a ∷ b ∷ c ∷ d ∷ words) h = refl
 asks_more _ h = absurd (omega arith)
 
 pub ruleset asks = (asks_none, asks_two, asks_three, asks_more)
+
+-- ---- names
+
+pub not_one_name : (words : List (Bor Text)) (rows : List Found) → (length words ≡ 3 → ⊥) → records_named (texts words) rows ≡ named_of (texts words) (start_of rows)
+not_one_name [] rows h = refl
+not_one_name (a ∷ []) rows h = refl
+not_one_name (a ∷ b ∷ []) rows h = refl
+not_one_name (a ∷ b ∷ c ∷ []) rows h = absurd (h refl)
+not_one_name (a ∷ b ∷ c ∷ d ∷ words) rows h = refl

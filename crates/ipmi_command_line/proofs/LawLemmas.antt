@@ -1,6 +1,6 @@
 -- Each line that the reference program takes is the same request: the words name a row of the table, and no other option is given.
 use Rattle.std.specs.Bool.{⊤}
-use Rattle.std.specs.List.{find}
+use Rattle.std.specs.List.{filter_map, find, list_any}
 use Rattle.std.specs.Option.{option_and_then}
 use Rattle.std.proofs.lemmas.Bool.{false≢true, true≢false}
 use Rattle.std.proofs.lemmas.Bool.Decides.{nat_tests}
@@ -10,12 +10,15 @@ use Rattle.std.proofs.lemmas.Bool.{and_parts}
 use Rattle.std.proofs.lemmas.Option.{none-some}
 use Rattle.std.proofs.lemmas.Slice.Eq.{bytes_eq-Decides}
 use Rattle.clap.specs.Words.{Row, Text, first_of}
-use Rattle.ipmi_command_line.specs.Arguments.{free_words, has_other_flag, has_other_value, has_value, is_given, is_reference, is_taken, rows_of_words, values_of}
+use Rattle.ipmi_command_line.specs.Arguments.{has_other, is_reference, is_taken, rows_of_words}
+use Rattle.ipmi_command_line.specs.Options.{OptionState, form_in, is_present, options}
+use Rattle.ipmi_command_line.specs.Values.{free_words, has_value, is_given, values_of}
 use Rattle.ipmi_command_line.specs.Filters.{filters_of, no_filters}
 use Rattle.ipmi_command_line.specs.Laws.{CommandsAreRequests, action_of_task, images_of, same_request}
 use Rattle.ipmi_command_line.specs.Task.{takes_from}
 use Rattle.ipmi_command_line.specs.declared.command.UsageFault.{UsageFault}
 use Rattle.ipmi_command_line.specs.declared.filters.Filters.{Filters}
+use Rattle.ipmi_command_line.specs.declared.numbered.Numbered.{Numbered}
 use Rattle.ipmi_command_line.specs.declared.request.Action.{Action}
 use Rattle.ipmi_command_line.specs.declared.request.Format.{Format}
 use Rattle.ipmi_command_line.specs.declared.request.Limits.{Limits}
@@ -24,7 +27,7 @@ use Rattle.ipmi_command_line.specs.declared.request.Source.{Source}
 use Rattle.ipmi_command_line.specs.Command.{CommandState, command_of_task, meaning_of, number_or, start_of_text, with_options}
 use Rattle.ipmi_command_line.specs.Commands.{RowState, commands, row_of}
 use Rattle.ipmi_command_line.specs.Number.{digits_of, number_of, within}
-use Rattle.ipmi_command_line.specs.Request.{entry_of, format_of, has_option, limits_of, misplaced, part_of_text, printed_of, records_named, records_of, request_of, request_of_found, request_of_words, rewrite_of, source_of, text_format, with_parts}
+use Rattle.ipmi_command_line.specs.Request.{action_of, format_of, goes_with, has_option, limits_of, misplaced, numbered_of, part_of_text, printed_of, records_named, records_of, request_of, request_of_found, request_of_row, request_of_words, rewrite_of, source_of, task_of_row, text_format, with_parts}
 use Rattle.ipmi_command_line.specs.Table.{are, entries_of, newest, oldest, task_of, task_of_four, task_of_one, task_of_three, task_of_two}
 use Rattle.ipmi_command_line.specs.declared.commands.Verb.{Verb}
 use Rattle.ipmi_command_line.specs.declared.task.Task.{Task}
@@ -36,7 +39,8 @@ is_rewrite task = false
 -- the row's command is the task, and takes an image
 abbrev pub Reads : Verb → List Text → Task → Type 0
 Reads Verb.Task words task = is_rewrite task ≡ false
-Reads Verb.GetEntry words task = is_rewrite task ≡ false
+Reads Verb.GetEntries words task = (is_rewrite task ≡ false) × (nat_le (length words) 3 ≡ true)
+Reads Verb.PrintInventories words task = (is_rewrite task ≡ false) × (nat_le (length words) 3 ≡ true)
 Reads Verb.GetRecords words task = (a : Text) × (b : Text) × (name : Text) × (words ≡ a ∷ b ∷ name ∷ []) × (task ≡ Task.Get name)
 Reads Verb.Rewrite words task = (length words ≡ 2) × (task ≡ Task.Rewrite)
 Reads verb words task = ⊥
@@ -92,7 +96,7 @@ found_two : (a b : Text) (task : Task) → task_of_two a b ≡ Some task
 unfolding row_of commands rewrites
 found_two a b task is =
     let P : Text → Text → Type 0 = λ a b. IsFound (row_of (a ∷ b ∷ [])) (a ∷ b ∷ []) task in
-    branch _ _ _ task is (λ eq at. same_words a b (codes "fru") (codes "print") P eq (plain _ task at refl, refl))
+    branch _ _ _ task is (λ eq at. same_words a b (codes "fru") (codes "print") P eq ((plain _ task at refl, refl), refl))
     (λ more0. branch _ _ _ task more0 (λ eq at. same_words a b (codes "sdr") (codes "list") P eq (plain _ task at refl, refl))
     (λ more1. branch _ _ _ task more1 (λ eq at. same_words a b (codes "sdr") (codes "elist") P eq (plain _ task at refl, refl))
     (λ more2. branch _ _ _ task more2 (λ eq at. same_words a b (codes "sdr") (codes "hex") P eq (plain _ task at refl, refl))
@@ -107,12 +111,12 @@ found_three : (a b c : Text) (task : Task) → task_of_three a b c ≡ Some task
 unfolding row_of commands rewrites
 found_three a b c task is =
     let P : Text → Text → Type 0 = λ a b. IsFound (row_of (a ∷ b ∷ c ∷ [])) (a ∷ b ∷ c ∷ []) task in
-    branch _ _ _ task is (λ eq at. same_words a b (codes "fru") (codes "print") P eq (plain _ task at (mapped _ (λ id. Task.Fru (Some id)) (λ x. refl)), refl))
+    branch _ _ _ task is (λ eq at. same_words a b (codes "fru") (codes "print") P eq ((plain _ task at (mapped _ (λ id. Task.Fru (Some id)) (λ x. refl)), refl), refl))
     (λ more0. branch _ _ _ task more0 (λ eq at. same_words a b (codes "sdr") (codes "list") P eq (plain _ task at (mapped _ (λ kind. Task.List kind) (λ x. refl)), refl))
     (λ more1. branch _ _ _ task more1 (λ eq at. same_words a b (codes "sdr") (codes "elist") P eq (plain _ task at (mapped _ (λ kind. Task.Elist kind) (λ x. refl)), refl))
     (λ more2. branch _ _ _ task more2 (λ eq at. same_words a b (codes "sdr") (codes "get") P eq ((codes "sdr", codes "get", c, refl, sym (ap (λ o. unwrap_or o Task.Hex) at)), refl))
     (λ more3. branch _ _ _ task more3 (λ eq at. same_words a b (codes "sel") (codes "list") P eq (plain _ task at (mapped _ (λ n. Task.SelList (oldest n)) (λ x. refl)), refl))
-    (λ more4. branch _ _ _ task more4 (λ eq at. same_words a b (codes "sel") (codes "get") P eq (plain _ task at (mapped _ (λ id. Task.SelGet id) (λ x. refl)), refl))
+    (λ more4. branch _ _ _ task more4 (λ eq at. same_words a b (codes "sel") (codes "get") P eq ((plain _ task at (mapped _ (λ id. Task.SelGet id) (λ x. refl)), refl), refl))
     (λ more5. absurd (none-some task more5)))))))
 
 found_four : (a b c d : Text) (task : Task) → task_of_four a b c d ≡ Some task
@@ -147,6 +151,7 @@ not_true true is = absurd (false≢true is)
 not_true false is = refl
 
 record Alone (rows : List Row) : Type 0 where
+  table : list_any (is_present rows) options ≡ false
   label : has_value (codes "label") rows ≡ false
   live : has_value (codes "live") rows ≡ false
   records : has_value (codes "records") rows ≡ false
@@ -159,22 +164,20 @@ record Alone (rows : List Row) : Type 0 where
   until : has_value (codes "until") rows ≡ false
   now : has_value (codes "now") rows ≡ false
   worse : has_value (codes "worse") rows ≡ false
-  output : has_value (codes "output") rows ≡ false
   strict : is_given (codes "strict") rows ≡ false
-  json : is_given (codes "json") rows ≡ false
-  csv : is_given (codes "csv") rows ≡ false
-  quiet : is_given (codes "quiet") rows ≡ false
-  partial : is_given (codes "partial") rows ≡ false
   version : is_given (codes "version") rows ≡ false
   help : is_given (codes "help") rows ≡ false
   images : nat_le (length (values_of (codes "image") rows)) 1 ≡ true
 
 alone : (rows : List Row) → is_reference rows ≡ true → Alone rows
-unfolding has_other_value has_other_flag
+unfolding has_other options
 alone rows is =
-    let all = and_parts (not (has_other_value rows)) _ is in
-    let rest = and_parts (not (has_other_flag rows)) (nat_le (length (values_of (codes "image") rows)) 1) all.1 in
-    let label = none_or (has_value (codes "label") rows) _ (not_true _ all.0) in
+    let all = and_parts (not (has_other rows)) (nat_le (length (values_of (codes "image") rows)) 1) is in
+    let both = none_or (list_any (is_present rows) options) (is_given (codes "version") rows || is_given (codes "help") rows) (not_true _ all.0) in
+    let version = none_or (is_given (codes "version") rows) (is_given (codes "help") rows) both.1 in
+    let json = none_or (is_given (codes "json") rows) _ both.0 in
+    let csv = none_or (is_given (codes "csv") rows) _ json.1 in
+    let label = none_or (has_value (codes "label") rows) _ csv.1 in
     let live = none_or (has_value (codes "live") rows) _ label.1 in
     let records = none_or (has_value (codes "records") rows) _ live.1 in
     let id = none_or (has_value (codes "id") rows) _ records.1 in
@@ -185,14 +188,11 @@ alone rows is =
     let since = none_or (has_value (codes "since") rows) _ exclude.1 in
     let until = none_or (has_value (codes "until") rows) _ since.1 in
     let now = none_or (has_value (codes "now") rows) _ until.1 in
-    let worse = none_or (has_value (codes "worse") rows) (has_value (codes "output") rows) now.1 in
-    let strict = none_or (is_given (codes "strict") rows) _ (not_true _ rest.0) in
-    let json = none_or (is_given (codes "json") rows) _ strict.1 in
-    let csv = none_or (is_given (codes "csv") rows) _ json.1 in
-    let quiet = none_or (is_given (codes "quiet") rows) _ csv.1 in
-    let partial = none_or (is_given (codes "partial") rows) _ quiet.1 in
-    let version = none_or (is_given (codes "version") rows) (is_given (codes "help") rows) partial.1 in
+    let worse = none_or (has_value (codes "worse") rows) _ now.1 in
+    let output = none_or (has_value (codes "output") rows) _ worse.1 in
+    let strict = none_or (is_given (codes "strict") rows) _ output.1 in
     record {
+      table = both.0;
       label = label.0;
       live = live.0;
       records = records.0;
@@ -205,26 +205,36 @@ alone rows is =
       until = until.0;
       now = now.0;
       worse = worse.0;
-      output = worse.1;
       strict = strict.0;
-      json = json.0;
-      csv = csv.0;
-      quiet = quiet.0;
-      partial = partial.0;
       version = version.0;
       help = version.1;
-      images = rest.1;
+      images = all.1;
     }
 
 no_value : (o : Option Text) → is_some o ≡ false → o ≡ None
 no_value None is = refl
 no_value (Some text) is = absurd (true≢false is)
 
--- every option that is given goes with a command that takes an image
-all_placed : (options : List Text) (rows : List Row) → Alone rows → has_option options (codes "image") ≡ true
-    → misplaced options rows ≡ None
+-- no option is misplaced if none is given
+none_found : (table : List OptionState) (names : List Text) (rows : List Row) → list_any (is_present rows) table ≡ false
+    → find (λ option. is_present rows option && not (goes_with names option)) table ≡ None
+none_found [] names rows none = refl
+none_found (option ∷ table) names rows none =
+    let both = none_or (is_present rows option) (list_any (is_present rows) table) none in
+    rw (both.0) (none_found table names rows both.1)
+
+all_placed : (names : List Text) (rows : List Row) → Alone rows → has_option names (codes "image") ≡ true
+    → misplaced names rows ≡ None
 unfolding misplaced
-all_placed options rows h takes = grind (arith, takes, h.label, h.live, h.records, h.id, h.separator, h.type, h.entity, h.exclude, h.since, h.until, h.now, h.worse, h.output, h.strict, h.json, h.csv, h.quiet, h.partial)
+all_placed names rows h takes =
+    grind (arith, takes, ap (option_map (λ (option : OptionState). option.name)) (none_found options names rows h.table))
+
+-- nor is a form of output asked for
+no_forms : (table : List OptionState) (rows : List Row) → list_any (is_present rows) table ≡ false → filter_map (form_in rows) table ≡ []
+no_forms [] rows none = refl
+no_forms (option ∷ table) rows none =
+    let both = none_or (is_present rows option) (list_any (is_present rows) table) none in
+    rw (both.0) (no_forms table rows both.1)
 
 -- ---- the images
 
@@ -271,11 +281,8 @@ AsksAll Verb.ListOfType = ⊥
 AsksAll Verb.ListOfEntity = ⊥
 AsksAll verb = ⊤
 
-all_pass : (clock : ℕ) (verb : Verb) (words : List Text) (rows : List Row) → AsksAll verb → Alone rows
-    → filters_of clock verb words rows ≡ Some no_filters
-all_pass clock Verb.ListOfType words rows asks h = absurd asks
-all_pass clock Verb.ListOfEntity words rows asks h = absurd asks
-all_pass clock Verb.GetEntry words rows asks h =
+none_given : (clock : ℕ) (rows : List Row) → Alone rows → filters_of clock Verb.GetEntries [] rows ≡ Some no_filters
+none_given clock rows h =
     rw (
       no_value (first_of (codes "type") rows) h.type,
       no_value (first_of (codes "entity") rows) h.entity,
@@ -285,6 +292,13 @@ all_pass clock Verb.GetEntry words rows asks h =
       no_value (first_of (codes "until") rows) h.until,
       no_value (first_of (codes "worse") rows) h.worse,
     ) refl
+
+all_pass : (clock : ℕ) (verb : Verb) (words : List Text) (rows : List Row) → AsksAll verb → Alone rows
+    → filters_of clock verb words rows ≡ Some no_filters
+all_pass clock Verb.ListOfType words rows asks h = absurd asks
+all_pass clock Verb.ListOfEntity words rows asks h = absurd asks
+all_pass clock Verb.GetEntries words rows asks h = none_given clock rows h
+all_pass clock Verb.PrintInventories words rows asks h = none_given clock rows h
 all_pass clock verb words rows asks h =
     rw (
       no_value (first_of (codes "type") rows) h.type,
@@ -362,7 +376,7 @@ plain_action Task.Rewrite from h = absurd (true≢false h)
 plain_action task from h = refl
 
 plain_format : (rows : List Row) (verb : Verb) → Alone rows → text_format verb ≡ Format.Plain → format_of verb rows ≡ Some Format.Plain
-plain_format rows verb h is = rw (no_value (first_of (codes "separator") rows) h.separator, h.csv, h.json, h.label, is) refl
+plain_format rows verb h is = rw (no_value (first_of (codes "separator") rows) h.separator, no_forms options rows h.table, h.label, is) refl
 
 limits_are : (rows : List Row) (part : Option ℕ) (tries : ℕ) → part_of_text (first_of (codes "part") rows) ≡ Some part
     → number_or 5 0 255 (first_of (codes "tries") rows) ≡ Some tries → limits_of rows ≡ Some (record { part = part; tries = tries })
@@ -389,43 +403,44 @@ rewriting words rows task from h two is start taken =
     let unset = no_start (first_of (codes "from") rows) (start ∙ ap (λ o. Some o) none) in
     rw (two, is, unset, h.images) refl
 
+numbered : (kind : Numbered) (row : RowState) (words : List Text) (rows : List Row) → Alone rows → nat_le (length words) 3 ≡ true
+    → numbered_of kind row words rows ≡ printed_of (start_of_text (first_of (codes "from") rows)) (task_of_row row words)
+numbered kind row words rows h few = rw (h.id, few) refl
+
+-- the row's command does what the task is, with no other option
+carried : (clock : ℕ) (row : RowState) (words : List Text) (rows : List Row) (task : Task) (command : CommandState) → Alone rows
+    → AsksAll row.verb → text_format row.verb ≡ Format.Plain → has_option row.options (codes "image") ≡ true
+    → (parts : Options rows task command) → action_of row words rows ≡ Some (action_of_task task parts.from)
+    → (part : Option ℕ) × (unwrap_or part 32 ≡ command.part) × (request_of_row clock row words rows ≡ Some (same_request part command))
+carried clock row words rows task command h asks plain takes parts action =
+    let part = part_is (first_of (codes "part") rows) parts.n parts.part_is in (
+      part.0,
+      part.2 ∙ ap (λ c. c.part) parts.command_is,
+      assembled _ _ _ _ _ _ _ _ _ _ _ (all_placed row.options rows h takes) action (all_pass clock row.verb words rows asks h) (sources rows h)
+          (no_records rows h) (limits_are rows part.0 parts.t part.1 parts.tries_is) (plain_format rows row.verb h plain) h.strict
+          ∙ ap (λ c. Some (same_request part.0 c)) parts.command_is,
+    )
+
 same : (clock : ℕ) (w : List Text) (v : Verb) (o words : List Text) (rows : List Row) (task : Task) (command : CommandState) → Alone rows
     → Reads v words task → has_option o (codes "image") ≡ true → task_of words ≡ Some task → Options rows task command
     → IsSame clock (record { words = w; verb = v; options = o }) words rows command
 same clock w Verb.Task o words rows task command h reads takes is parts =
-    let part = part_is (first_of (codes "part") rows) parts.n parts.part_is in
-    let action = printed _ _ task parts.from parts.start_is is parts.taken ∙ ap (λ a. Some a) (plain_action task parts.from reads) in (
-      part.0,
-      part.2 ∙ ap (λ c. c.part) parts.command_is,
-      assembled _ _ _ _ _ _ _ _ _ _ _ (all_placed o rows h takes) action (all_pass clock Verb.Task words rows tt h) (sources rows h) (no_records rows h) (limits_are rows part.0 parts.t part.1 parts.tries_is)
-          (plain_format rows Verb.Task h refl) h.strict ∙ ap (λ c. Some (same_request part.0 c)) parts.command_is,
-    )
-same clock w Verb.GetEntry o words rows task command h reads takes is parts =
-    let part = part_is (first_of (codes "part") rows) parts.n parts.part_is in
-    let entry = ap (entry_of words) (no_value (first_of (codes "id") rows) h.id) ∙ is in
-    let action = printed _ _ task parts.from parts.start_is entry parts.taken ∙ ap (λ a. Some a) (plain_action task parts.from reads) in (
-      part.0,
-      part.2 ∙ ap (λ c. c.part) parts.command_is,
-      assembled _ _ _ _ _ _ _ _ _ _ _ (all_placed o rows h takes) action (all_pass clock Verb.GetEntry words rows tt h) (sources rows h) (no_records rows h) (limits_are rows part.0 parts.t part.1 parts.tries_is)
-          (plain_format rows Verb.GetEntry h refl) h.strict ∙ ap (λ c. Some (same_request part.0 c)) parts.command_is,
-    )
+    carried clock (record { words = w; verb = Verb.Task; options = o }) words rows task command h tt refl takes parts
+    (printed _ _ task parts.from parts.start_is is parts.taken ∙ ap (λ a. Some a) (plain_action task parts.from reads))
+same clock w Verb.GetEntries o words rows task command h reads takes is parts =
+    let row : RowState = record { words = w; verb = Verb.GetEntries; options = o } in
+    carried clock row words rows task command h tt refl takes parts (numbered Numbered.Entry row words rows h reads.1
+    ∙ printed _ _ task parts.from parts.start_is is parts.taken ∙ ap (λ a. Some a) (plain_action task parts.from reads.0))
+same clock w Verb.PrintInventories o words rows task command h reads takes is parts =
+    let row : RowState = record { words = w; verb = Verb.PrintInventories; options = o } in
+    carried clock row words rows task command h tt refl takes parts (numbered Numbered.Inventory row words rows h reads.1
+    ∙ printed _ _ task parts.from parts.start_is is parts.taken ∙ ap (λ a. Some a) (plain_action task parts.from reads.0))
 same clock w Verb.GetRecords o words rows task command h reads takes is parts =
-    let part = part_is (first_of (codes "part") rows) parts.n parts.part_is in (
-      part.0,
-      part.2 ∙ ap (λ c. c.part) parts.command_is,
-      assembled _ _ _ _ _ _ _ _ _ _ _ (all_placed o rows h takes) (getting words rows task parts.from reads parts.start_is)
-          (all_pass clock Verb.GetRecords words rows tt h) (sources rows h) (no_records rows h) (limits_are rows part.0 parts.t part.1 parts.tries_is)
-          (plain_format rows Verb.GetRecords h refl) h.strict ∙ ap (λ c. Some (same_request part.0 c)) parts.command_is,
-    )
+    carried clock (record { words = w; verb = Verb.GetRecords; options = o }) words rows task command h tt refl takes parts
+    (getting words rows task parts.from reads parts.start_is)
 same clock w Verb.Rewrite o words rows task command h reads takes is parts =
-    let part = part_is (first_of (codes "part") rows) parts.n parts.part_is in (
-      part.0,
-      part.2 ∙ ap (λ c. c.part) parts.command_is,
-      assembled _ _ _ _ _ _ _ _ _ _ _ (all_placed o rows h takes)
-          (rewriting words rows task parts.from h reads.0 reads.1 parts.start_is parts.taken) (all_pass clock Verb.Rewrite words rows tt h) (sources rows h) (no_records rows h)
-          (limits_are rows part.0 parts.t part.1 parts.tries_is)
-          (plain_format rows Verb.Rewrite h refl) h.strict ∙ ap (λ c. Some (same_request part.0 c)) parts.command_is,
-    )
+    carried clock (record { words = w; verb = Verb.Rewrite; options = o }) words rows task command h tt refl takes parts
+    (rewriting words rows task parts.from h reads.0 reads.1 parts.start_is parts.taken)
 same clock w v o words rows task command h reads takes is parts = absurd reads
 
 same_of : (clock : ℕ) (r : Option RowState) (words : List Text) (rows : List Row) (task : Task) (command : CommandState) → Alone rows

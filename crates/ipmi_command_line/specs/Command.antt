@@ -4,7 +4,8 @@ use Rattle.clap.specs.Words.{Row, first_of}
 use Rattle.ipmi_command_line.specs.declared.task.Count.{Count}
 use Rattle.ipmi_command_line.specs.declared.task.Task.{Task}
 use Rattle.ipmi_command_line.specs.declared.command.UsageFault.{UsageFault}
-use Rattle.ipmi_command_line.specs.Arguments.{free_words, is_reference, is_taken, rows_of_words}
+use Rattle.ipmi_command_line.specs.Arguments.{is_reference, is_taken, rows_of_words}
+use Rattle.ipmi_command_line.specs.Values.{free_words}
 use Rattle.ipmi_command_line.specs.Number.{decimal_of, digits_of, within}
 use Rattle.ipmi_command_line.specs.Table.{task_of}
 use Rattle.ipmi_command_line.specs.Task.{takes_from}

@@ -6,7 +6,7 @@ use Rattle.std.specs.List.{after_first, before_first, filter_map, list_all, posi
 use Rattle.std.specs.Option.{option_or}
 use Rattle.ipmi_text.specs.SensorTypes.{sensor_type_named}
 use Rattle.clap.specs.Words.{Row, Text, first_of}
-use Rattle.ipmi_command_line.specs.Arguments.{values_of}
+use Rattle.ipmi_command_line.specs.Values.{values_of}
 use Rattle.ipmi_command_line.specs.Number.{decimal_of, hex_id_of, number_of, within}
 use Rattle.ipmi_command_line.specs.declared.commands.Verb.{Verb}
 use Rattle.ipmi_command_line.specs.declared.filters.EntityFilter.{EntityFilter}
@@ -135,9 +135,10 @@ abbrev pub entity_text : Verb → List Text → List Row → Option Text
 entity_text Verb.ListOfEntity words rows = slice_get words 2
 entity_text verb words rows = first_of (codes "entity") rows
 
--- `--id` of `sel get` is no filter
+-- `--id` of `sel get` and of `fru print` is no filter
 abbrev pub ids_text : Verb → List Row → Option Text
-ids_text Verb.GetEntry rows = None
+ids_text Verb.GetEntries rows = None
+ids_text Verb.PrintInventories rows = None
 ids_text verb rows = first_of (codes "id") rows
 
 -- the first time is not after the second

@@ -5,6 +5,9 @@ pub mod Filters
 pub mod Hints
 pub mod Laws
 pub mod Number
+pub mod Numbered
+pub mod Options
 pub mod Request
 pub mod Table
 pub mod Task
+pub mod Values

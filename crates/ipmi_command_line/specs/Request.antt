@@ -1,18 +1,22 @@
 -- What a command line asks for: a function of the options and words that `clap` found, and of the table of commands. None if
 -- the line is refused.
-use Rattle.std.specs.Prelude.{ℕ, ◌≤◌, ◌==◌, ◌&&◌, Bool, true, false, not, is_some, List, [], ◌∷◌, Option, Some, None, ⊤, option_map, unwrap_or, codes, bytes_eq, count_by, drop, length, map, nat_le, nat_lt, take, IfSome, IsTrue, OnSome, if◌then◌else◌}
+use Rattle.std.specs.Prelude.{ℕ, ◌≤◌, ◌==◌, ◌&&◌, Bool, true, false, not, is_some, List, [], ◌∷◌, Option, Some, None, ⊤, option_map, unwrap_or, codes, bytes_eq, count_by, drop, length, map, nat_le, nat_lt, IfSome, All, IsTrue, OnSome, if◌then◌else◌}
 use Rattle.std.specs.List.{find, list_any}
-use Rattle.std.specs.Option.{option_or}
+use Rattle.std.specs.Option.{option_and_then}
 use Rattle.clap.specs.Words.{Row, Text, first_of}
-use Rattle.ipmi_command_line.specs.Arguments.{free_words, has_value, is_given, is_taken, rows_of_words, values_of}
+use Rattle.ipmi_command_line.specs.Arguments.{is_taken, rows_of_words}
 use Rattle.ipmi_command_line.specs.Command.{IsTask, number_or, start_of_text}
 use Rattle.ipmi_command_line.specs.Commands.{RowState, row_of}
 use Rattle.ipmi_command_line.specs.Filters.{after_byte, before_byte, filters_of, has_byte, no_filters, optional}
-use Rattle.ipmi_command_line.specs.Number.{decimal_of, hex_id_of, number_of, within}
+use Rattle.ipmi_command_line.specs.Number.{decimal_of, number_of, within}
+use Rattle.ipmi_command_line.specs.Numbered.{tasks_of_ids, tasks_of_words}
+use Rattle.ipmi_command_line.specs.Options.{OptionState, forms_of, is_present, options}
+use Rattle.ipmi_command_line.specs.Values.{free_words, has_value, is_given, values_of}
 use Rattle.ipmi_command_line.specs.Table.{entries_of, oldest, task_of, task_of_four}
 use Rattle.ipmi_command_line.specs.Task.{takes_from}
 use Rattle.ipmi_command_line.specs.declared.commands.Verb.{Verb}
 use Rattle.ipmi_command_line.specs.declared.filters.Filters.{Filters}
+use Rattle.ipmi_command_line.specs.declared.numbered.Numbered.{Numbered}
 use Rattle.ipmi_command_line.specs.declared.request.Action.{Action}
 use Rattle.ipmi_command_line.specs.declared.request.Format.{Format}
 use Rattle.ipmi_command_line.specs.declared.request.Separator.{Separator}
@@ -21,7 +25,9 @@ use Rattle.ipmi_command_line.specs.declared.request.LiveTool.{LiveTool}
 use Rattle.ipmi_command_line.specs.declared.request.Request.{Request}
 use Rattle.ipmi_command_line.specs.declared.request.Source.{Source}
 use Rattle.ipmi_command_line.specs.declared.request.Topic.{Topic}
-use Rattle.ipmi_command_line.specs.declared.request.TheConstants.{BESIDE_TYPES, FLAGS, VALUED}
+use Rattle.ipmi_command_line.specs.declared.options.Form.{Form}
+use Rattle.ipmi_command_line.specs.declared.options.Given.{Given}
+use Rattle.ipmi_command_line.specs.declared.request.TheConstants.{BESIDE_TYPES}
 use Rattle.ipmi_command_line.specs.declared.task.Count.{Count}
 use Rattle.ipmi_command_line.specs.declared.task.Kind.{Kind}
 use Rattle.ipmi_command_line.specs.declared.task.Task.{Task}
@@ -34,6 +40,7 @@ IsId id = (1 ≤ id) × (id ≤ 65534)
 -- a task that takes an id to start from may have one
 abbrev pub IsAction : Action → Type 0
 IsAction (Action.Print task from) = IsTask task × IfSome from IsId × OnSome from (IsTrue (takes_from task))
+IsAction (Action.PrintEach tasks) = All IsTask tasks
 IsAction (Action.GetSensors names from) = IfSome from IsId
 IsAction _ = ⊤
 
@@ -100,10 +107,11 @@ topic_named word =
     else (if bytes_eq word (codes "sel") then Some Topic.Sel
     else (if bytes_eq word (codes "fru") then Some Topic.Fru
     else (if bytes_eq word (codes "check") then Some Topic.Check
+    else (if bytes_eq word (codes "metrics") then Some Topic.Metrics
     else (if bytes_eq word (codes "capture") then Some Topic.Capture
     else (if bytes_eq word (codes "image") then Some Topic.Image
     else (if bytes_eq word (codes "help") then Some Topic.General
-    else None)))))))
+    else None))))))))
 
 -- what `help` prints: the first of these words is `help`
 abbrev pub help_of : List Text → Option Topic
@@ -120,12 +128,6 @@ topic_of (word ∷ second ∷ words) =
 
 -- ---- what is to be done
 
--- `sel get`: the id is a word, or the value of `--id`
-abbrev pub entry_of : List Text → Option Text → Option Task
-entry_of words None = task_of words
-entry_of words (Some id) =
-    if length words == 2 then option_map (λ id. Task.SelGet id) (hex_id_of 1 id) else None
-
 -- `sel elist` takes what `sel list` takes
 abbrev pub events_of : List Text → Option Task
 events_of (a ∷ b ∷ []) = Some (Task.SelList Count.All)
@@ -139,25 +141,38 @@ tail_of (a ∷ b ∷ c ∷ []) = option_map (λ n. Task.SelList (Count.Tail n)) 
 tail_of _ = None
 
 -- a command that prints records; `whole`: nothing follows its own words
-abbrev pub task_of_verb : Verb → Bool → List Text → Option Text → Option Task
-task_of_verb Verb.Task whole words id = task_of words
-task_of_verb Verb.GetEntry whole words id = entry_of words id
-task_of_verb Verb.DescribeEvents whole words id = events_of words
-task_of_verb Verb.TailEvents whole words id = tail_of words
-task_of_verb Verb.ListOfType whole words id = if length words == 3 then Some (Task.Elist Kind.All) else None
-task_of_verb Verb.ListOfEntity whole words id = if length words == 3 then Some (Task.Elist Kind.All) else None
-task_of_verb Verb.DescribeSensors whole words id = if whole then Some (Task.List Kind.Sensors) else None
-task_of_verb Verb.ListDevices whole words id = if whole then Some (Task.Fru None) else None
-task_of_verb _ whole words id = None
+abbrev pub task_of_verb : Verb → Bool → List Text → Option Task
+task_of_verb Verb.Task whole words = task_of words
+task_of_verb Verb.GetEntries whole words = task_of words
+task_of_verb Verb.PrintInventories whole words = task_of words
+task_of_verb Verb.DescribeEvents whole words = events_of words
+task_of_verb Verb.TailEvents whole words = tail_of words
+task_of_verb Verb.ListOfType whole words = if length words == 3 then Some (Task.Elist Kind.All) else None
+task_of_verb Verb.ListOfEntity whole words = if length words == 3 then Some (Task.Elist Kind.All) else None
+task_of_verb Verb.DescribeSensors whole words = if whole then Some (Task.List Kind.Sensors) else None
+task_of_verb Verb.ListDevices whole words = if whole then Some (Task.Fru None) else None
+task_of_verb _ whole words = None
 
-abbrev pub task_of_row : RowState → List Text → Option Text → Option Task
-task_of_row row words id = task_of_verb row.verb (length words == length row.words) words id
+abbrev pub task_of_row : RowState → List Text → Option Task
+task_of_row row words = task_of_verb row.verb (length words == length row.words) words
 
 -- only a task that takes an id to start from may have one
 abbrev pub printed_of : Option (Option ℕ) → Option Task → Option Action
 printed_of (Some from) (Some task) =
     if is_some from && not (takes_from task) then None else Some (Action.Print task from)
 printed_of from task = None
+
+-- the ids after the first two words, or those of `--id`
+abbrev pub tasks_of : Numbered → List Text → Option Text → Option (List Task)
+tasks_of kind words None = tasks_of_words kind (drop 2 words)
+tasks_of kind words (Some id) = if length words == 2 then tasks_of_ids kind id else None
+
+-- one id as a word is a task, and so is none
+abbrev pub numbered_of : Numbered → RowState → List Text → List Row → Option Action
+numbered_of kind row words rows =
+    if not (has_value (codes "id") rows) && nat_le (length words) 3 then printed_of (start_of rows) (task_of_row row words)
+    else (if has_value (codes "from") rows then None
+    else option_map (λ tasks. Action.PrintEach tasks) (tasks_of kind words (first_of (codes "id") rows)))
 
 -- the names after the first two words
 abbrev pub named_of : List Text → Option (Option ℕ) → Option Action
@@ -179,18 +194,26 @@ abbrev pub has_one_image : List Row → Bool
 has_one_image rows = not (has_value (codes "from") rows) && nat_le (length (values_of (codes "image") rows)) 1
 
 abbrev pub check_of : Bool → List Row → Option Action
-check_of whole rows = if whole && has_one_image rows then Some Action.Check else None
+check_of whole rows = if whole && has_one_image rows then Some (Action.Check (is_given (codes "perfdata") rows)) else None
+
+abbrev pub metrics_of : Bool → List Row → Option Action
+metrics_of whole rows = if whole && has_one_image rows
+    then Some (Action.Metrics (is_given (codes "openmetrics") rows) (first_of (codes "output") rows))
+    else None
 
 abbrev pub rewrite_of : Bool → List Row → Option Action
 rewrite_of whole rows = if whole && has_one_image rows then Some Action.Rewrite else None
 
 abbrev pub action_of_verb : Verb → RowState → List Text → List Row → Option Action
+action_of_verb Verb.GetEntries row words rows = numbered_of Numbered.Entry row words rows
+action_of_verb Verb.PrintInventories row words rows = numbered_of Numbered.Inventory row words rows
 action_of_verb Verb.GetRecords row words rows = records_named words rows
 action_of_verb Verb.GetSensors row words rows = named_of words (start_of rows)
 action_of_verb Verb.Check row words rows = check_of (length words == 1) rows
+action_of_verb Verb.Metrics row words rows = metrics_of (length words == 1) rows
 action_of_verb Verb.Capture row words rows = capture_of (length words == 1) rows
 action_of_verb Verb.Rewrite row words rows = rewrite_of (length words == 2) rows
-action_of_verb _ row words rows = printed_of (start_of rows) (task_of_row row words (first_of (codes "id") rows))
+action_of_verb _ row words rows = printed_of (start_of rows) (task_of_row row words)
 
 abbrev pub action_of : RowState → List Text → List Row → Option Action
 action_of row words rows = action_of_verb row.verb row words rows
@@ -200,18 +223,23 @@ action_of row words rows = action_of_verb row.verb row words rows
 abbrev pub has_option : List Text → Text → Bool
 has_option options name = list_any (λ option. bytes_eq option name) options
 
--- the first of these options with a value that was given and is not among those of a command
-abbrev pub among_values : List Text → List Text → List Row → Option Text
-among_values names options rows = find (λ name. has_value name rows && not (has_option options name)) names
+-- an option goes with a command that has these; a form of output goes with labels
+abbrev pub name_among : Given → Text → Text
+name_among (Given.Form form) name = codes "label"
+name_among given name = name
 
--- and without one
-abbrev pub among_flags : List Text → List Text → List Row → Option Text
-among_flags names options rows = find (λ name. is_given name rows && not (has_option options name)) names
+abbrev pub goes_with : List Text → OptionState → Bool
+goes_with names option = has_option names (name_among option.given option.name)
 
--- the first option that was given and is not among those of a command
+-- the first option of a table that was given and does not go with a command that has these
+abbrev pub misplaced_in : List OptionState → List Text → List Row → Option Text
+misplaced_in table names rows =
+    option_map (λ option. option.name) (find (λ option. is_present rows option && not (goes_with names option)) table)
+
 unfoldable pub misplaced : List Text → List Row → Option Text
-misplaced options rows = option_or (among_values (map (λ name. name.now) VALUED) options rows)
-    (among_flags (map (λ name. name.now) FLAGS) options rows)
+misplaced names rows =
+    if has_value (codes "image") rows && not (has_option names (codes "image")) then Some (codes "image")
+    else misplaced_in options names rows
 
 abbrev pub text_format : Verb → Format
 text_format Verb.DescribeEvents = Format.Descriptive
@@ -228,26 +256,28 @@ separator_of (Some text) =
     if bytes_eq text (codes "comma") then Some (Some Separator.Comma)
     else (if bytes_eq text (codes "semicolon") then Some (Some Separator.Semicolon) else None)
 
--- rows have commas unless another separator is said
-abbrev pub csv_format : List Text → Option Separator → Format
-csv_format labels separator = Format.Csv (unwrap_or separator Separator.Comma) labels
+-- only forms of output have labels
+abbrev pub format_in_text : Verb → Option Separator → List Row → Option Format
+format_in_text verb separator rows =
+    if is_some separator then None else (if has_value (codes "label") rows then None else Some (text_format verb))
 
--- only rows have separators, and only objects and rows have labels
-abbrev pub other_format : Verb → List Row → Option Separator → Option Format
-other_format verb rows (Some separator) = None
-other_format verb rows None =
-    if is_given (codes "json") rows then Some (Format.Json (values_of (codes "label") rows))
-    else (if has_value (codes "label") rows then None else Some (text_format verb))
+abbrev pub is_csv : Form → Bool
+is_csv Form.Csv = true
+is_csv form = false
 
-abbrev pub format_by : Verb → List Row → Option (Option Separator) → Option Format
-format_by verb rows None = None
-format_by verb rows (Some separator) =
-    if is_given (codes "csv") rows
-    then (if is_given (codes "json") rows then None else Some (csv_format (values_of (codes "label") rows) separator))
-    else other_format verb rows separator
+-- only CSV has separators, which are commas unless it says otherwise
+abbrev pub format_in_form : Form → Option Separator → List Row → Option Format
+format_in_form form separator rows =
+    if is_some separator && not (is_csv form) then None
+    else Some (Format.Labelled form (unwrap_or separator Separator.Comma) (values_of (codes "label") rows))
+
+abbrev pub format_in_forms : Verb → List Form → List Row → Option Separator → Option Format
+format_in_forms verb [] rows separator = format_in_text verb separator rows
+format_in_forms verb (form ∷ []) rows separator = format_in_form form separator rows
+format_in_forms verb forms rows separator = None
 
 abbrev pub format_of : Verb → List Row → Option Format
-format_of verb rows = format_by verb rows (separator_of (first_of (codes "separator") rows))
+format_of verb rows = option_and_then (format_in_forms verb (forms_of rows) rows) (separator_of (first_of (codes "separator") rows))
 
 -- ---- the request
 

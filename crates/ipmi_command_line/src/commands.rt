@@ -9,8 +9,10 @@ pub enum Verb {
     Task,
     /// The blocks of the records with these names.
     GetRecords,
-    /// The block of an entry, whose id is a word, or the value of `--id`.
-    GetEntry,
+    /// The blocks of entries, whose ids are words, or the value of `--id`.
+    GetEntries,
+    /// Inventories, whose device ids are words, or the value of `--id`; without them all.
+    PrintInventories,
     /// Entries in descriptive words.
     DescribeEvents,
     /// The newest entries in descriptive words, without a walk of the whole log.
@@ -27,6 +29,8 @@ pub enum Verb {
     ListDevices,
     /// Whether a sensor is in trouble, as plugins of monitoring systems print it.
     Check,
+    /// Metrics of sensors and of the event log.
+    Metrics,
     /// A live controller saved as an image.
     Capture,
     /// An image in its canonical spelling.
@@ -52,9 +56,9 @@ pub enum Operand {
     Count,
     /// A number of entries, at least 1.
     EntryCount,
-    /// The id of an entry.
+    /// The ids of one or more entries.
     EntryId,
-    /// The id of a device, or nothing.
+    /// The ids of devices, or nothing.
     DeviceId,
     /// A command, or nothing.
     Topic,
@@ -76,8 +80,6 @@ const PRINTING: &[&str] = &[
     "image",
     "live",
     "records",
-    "json",
-    "csv",
     "separator",
     "label",
     "strict",
@@ -88,8 +90,6 @@ const LISTING: &[&str] = &[
     "image",
     "live",
     "records",
-    "json",
-    "csv",
     "separator",
     "label",
     "strict",
@@ -104,8 +104,6 @@ const LISTING_TYPE: &[&str] = &[
     "image",
     "live",
     "records",
-    "json",
-    "csv",
     "separator",
     "label",
     "strict",
@@ -119,8 +117,6 @@ const LISTING_ENTITY: &[&str] = &[
     "image",
     "live",
     "records",
-    "json",
-    "csv",
     "separator",
     "label",
     "strict",
@@ -134,8 +130,6 @@ const LISTING_ENTRIES: &[&str] = &[
     "image",
     "live",
     "records",
-    "json",
-    "csv",
     "separator",
     "label",
     "strict",
@@ -147,13 +141,11 @@ const LISTING_ENTRIES: &[&str] = &[
     "worse",
 ];
 
-/// The options of the command that prints one entry.
+/// The options of commands that print entries or inventories by their ids.
 const GETTING: &[&str] = &[
     "image",
     "live",
     "records",
-    "json",
-    "csv",
     "separator",
     "label",
     "strict",
@@ -162,7 +154,20 @@ const GETTING: &[&str] = &[
 
 /// The options of `check`.
 const CHECKING: &[&str] = &[
-    "image", "live", "records", "type", "entity", "id", "exclude",
+    "image", "live", "records", "type", "entity", "id", "exclude", "perfdata",
+];
+
+/// The options of `metrics`.
+const METERING: &[&str] = &[
+    "image",
+    "live",
+    "records",
+    "type",
+    "entity",
+    "id",
+    "exclude",
+    "openmetrics",
+    "output",
 ];
 
 /// The options of `capture`.
@@ -175,7 +180,7 @@ const REWRITING: &[&str] = &["image", "strict"];
 const NONE: &[&str] = &[];
 
 /// The commands. A command comes before one whose words begin it.
-pub const COMMANDS: [CommandRow; 24] = [
+pub const COMMANDS: [CommandRow; 25] = [
     (
         &["sdr", "list"],
         Verb::Task,
@@ -277,18 +282,18 @@ pub const COMMANDS: [CommandRow; 24] = [
     ),
     (
         &["sel", "get"],
-        Verb::GetEntry,
+        Verb::GetEntries,
         Operand::EntryId,
         GETTING,
-        "  sel get ID              all about one event\n",
+        "  sel get ID..            all about the events of these ids\n",
     ),
     (&["sel"], Verb::Task, Operand::Nothing, PRINTING, ""),
     (
         &["fru", "print"],
-        Verb::Task,
+        Verb::PrintInventories,
         Operand::DeviceId,
-        PRINTING,
-        "  fru, fru print [ID]     the inventory of each device, or of one\n",
+        GETTING,
+        "  fru, fru print [ID..]   the inventory of each device, or of some\n",
     ),
     (
         &["fru", "list"],
@@ -304,6 +309,13 @@ pub const COMMANDS: [CommandRow; 24] = [
         Operand::Nothing,
         CHECKING,
         "  check                   whether a sensor is in trouble, for monitoring systems\n",
+    ),
+    (
+        &["metrics"],
+        Verb::Metrics,
+        Operand::Nothing,
+        METERING,
+        "  metrics                 sensors and the log's state for Prometheus\n",
     ),
     (
         &["capture"],

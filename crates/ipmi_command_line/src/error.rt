@@ -19,7 +19,7 @@ pub enum Hint<'a> {
     Password,
     /// An option with which stock `ipmitool` connects.
     Connection(&'static str),
-    /// An id as listings print it, with these hex digits. An entry's id also goes with `--id`.
+    /// An id as listings print it, with these hex digits. An entry's or a device's id also goes with `--id`.
     HexId(&'a str, Operand),
     /// The id `0000`, from which a walk begins.
     FirstRecord,
@@ -58,8 +58,8 @@ pub enum UsageError<'a> {
     Value(&'static str, &'a str, Hint<'a>),
     /// The option does not go with the command of these words.
     Misplaced(&'static str, &'static [&'static str]),
-    /// There are both a word and `--id` for the id of an entry.
-    TwoIds,
+    /// There are both words and `--id` for the ids of the command of these words.
+    TwoIds(&'static [&'static str]),
     /// There is no live controller for `capture`.
     NotLive,
     /// There is a live controller for `image rewrite`.
@@ -74,8 +74,8 @@ pub enum UsageError<'a> {
     RecordsWithoutLive,
     /// There is `--label` without `--json` or `--csv`.
     LabelInText,
-    /// There are both `--json` and `--csv`.
-    JsonAndCsv,
+    /// There are two forms of output.
+    TwoForms,
     /// There is `--separator` without `--csv`.
     SeparatorWithoutCsv,
     /// The time of `--since` is after that of `--until`.
@@ -214,7 +214,9 @@ impl fmt::Display for Hint<'_> {
                 let digits = Escaped(digits);
                 match operand {
                     Operand::Nothing => write!(f, ": write {digits}"),
-                    Operand::EntryId => write!(f, ": in hex write 0x{digits}, or --id {digits}"),
+                    Operand::EntryId | Operand::DeviceId => {
+                        write!(f, ": in hex write 0x{digits}, or --id {digits}")
+                    }
                     _ => write!(f, ": in hex write 0x{digits}"),
                 }
             }
@@ -247,7 +249,7 @@ fn rule_of(option: &str) -> &'static str {
         "part" => "a number from 1 to 254, decimal without leading zeros",
         "tries" => "a number from 0 to 255, decimal without leading zeros",
         "id" => {
-            "a hex id from 1 to FFFE; a listing also takes ascending ranges and commas, as 0001-0005,000A"
+            "a list of hex ids (events 1 to FFFE, devices 0 to FE), as 16 or 0001-0005,000A"
         }
         "since" | "until" => {
             "a date, a time with Z or an offset, from 1970 to 2106, or hours or days ago: 2026-11-30, 2026-11-30T12:00Z, 2h or 3d"
@@ -296,6 +298,9 @@ impl fmt::Display for UsageError<'_> {
             UsageError::Misplaced(option, words) => {
                 write!(f, "--{option} does not go with '{}'", Spaced(words))
             }
+            UsageError::TwoIds(words) => {
+                write!(f, "'{}' takes an ID or --id, not both", Spaced(words))
+            }
             UsageError::SeveralImages(words) => write!(f, "'{}' takes one image", Spaced(words)),
             _ => f.write_str(self.rule()),
         }
@@ -326,7 +331,6 @@ impl UsageError<'_> {
     /// The rule that options break together.
     fn rule(&self) -> &'static str {
         match self {
-            UsageError::TwoIds => "'sel get' takes an ID or --id, not both",
             UsageError::NotLive => "'capture' needs a live controller: see serdimko-live --help",
             UsageError::NotSaved => {
                 "'image rewrite' needs a saved image: write serdimko --image FILE image rewrite"
@@ -335,7 +339,7 @@ impl UsageError<'_> {
             UsageError::ImageAndLive => "--image does not go with a live controller",
             UsageError::RecordsWithoutLive => "--records goes only with a live controller",
             UsageError::LabelInText => "--label goes only with --json or --csv",
-            UsageError::JsonAndCsv => "--json does not go with --csv",
+            UsageError::TwoForms => "--json does not go with --csv",
             UsageError::SinceAfterUntil => "--since is later than --until",
             UsageError::SeparatorWithoutCsv => "--separator goes only with --csv",
             _ => "the command line can't be read: see serdimko --help",

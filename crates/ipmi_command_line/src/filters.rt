@@ -2,7 +2,7 @@
 ghost use Rattle.std.specs.Prelude.{◌≡◌, ◌⊎◌, ◌-◌, ◌==◌, codes, IfOk, map, MatchResult, None, option_map, Some, string_bytes};
 ghost use Rattle.std.specs.List.{filter_map, list_all, slice_split};
 ghost use Rattle.clap.specs.Words.{first_of, found_of, rows_of};
-ghost use Rattle.ipmi_command_line.specs.Arguments.{values_of};
+ghost use Rattle.ipmi_command_line.specs.Values.{values_of};
 ghost use Rattle.ipmi_command_line.specs.Commands.{texts};
 ghost use Rattle.ipmi_command_line.specs.Filters.{ago_of, are_given, are_ordered, byte_of, days_of, entity_of, entity_text, filters_of, full_time, id_range, ids_of, ids_text, is_id_range, no_filters, now_of, optional, sensor_type_of, stamp_of, time_from, time_of, type_text, worse_of};
 ghost use Rattle.ipmi_command_line.specs.declared.error.UsageError.{UsageError};
@@ -201,7 +201,7 @@ fn ranges_of(alloc: Global, parts: &[&str]) -> Result<Vec<IdRange>, AllocError>
 }
 
 /// The ids and ranges of ids between commas.
-fn ids_of(alloc: Global, text: &str) -> Result<Option<Ids>, AllocError>
+pub(crate) fn ids_of(alloc: Global, text: &str) -> Result<Option<Ids>, AllocError>
     ensures { IfOk result (λ ids. ids ≡ ids_of text.now) }
 {
     let parts = parts_of(alloc, text)?;
@@ -322,12 +322,12 @@ fn entity_text<'a>(verb: Verb, words: &[&'a str], matches: &ArgMatches<'a>) -> O
     }
 }
 
-/// The ids of `--id`, which of `sel get` is no filter.
+/// The ids of `--id`, which of `sel get` and `fru print` is no filter.
 fn ids_text<'a>(verb: Verb, matches: &ArgMatches<'a>) -> Option<&'a str>
     ensures { option_map (λ text. text.now) result ≡ ids_text verb (rows_of (found_of matches.now)) }
 {
     match verb {
-        Verb::GetEntry => None,
+        Verb::GetEntries | Verb::PrintInventories => None,
         _ => value(matches, "id"),
     }
 }

@@ -9,6 +9,8 @@ mod filters;
 pub mod laws;
 mod mistake;
 mod number;
+mod numbered;
+mod options;
 mod request;
 mod table;
 mod task;
@@ -18,8 +20,9 @@ pub use command::{Command, DEFAULT_PART, DEFAULT_TRIES, UsageFault, command_of};
 pub use commands::{COMMANDS, CommandRow, Operand, Verb};
 pub use error::{Hint, UsageError};
 pub use filters::{EntityFilter, Filters, IdRange, Ids, Worse};
+pub use options::{Form, takes_value};
 pub use request::{
-    Action, FLAGS, Format, Limits, LiveTool, Request, Separator, Source, Topic, VALUED, request_of,
+    Action, Format, Limits, LiveTool, Request, Separator, Source, Topic, request_of,
 };
-pub use task::{Count, Kind, Task};
+pub use task::{Count, Kind, Task, Tasks};
 pub use words::{Word, Words};

@@ -5,6 +5,7 @@ ghost use Rattle.ipmi_command_line.specs.Hints.{after_dash, is_beginning, is_nea
 use crate::commands::{COMMANDS, CommandRow, Operand, Verb};
 use crate::error::{Hint, UsageError, next_word};
 use crate::number::{digits, number};
+use crate::numbered::Numbered;
 use crate::table::{KINDS, kind_of};
 use clap::Error;
 use ipmi_text::SENSOR_TYPES;
@@ -80,7 +81,8 @@ fn bare_digits(text: &str) -> &str {
 pub(crate) fn value_error<'a>(option: &'static str, value: Option<&'a str>) -> UsageError<'a> {
     let value = value.unwrap_or("");
     let id = bare_digits(value);
-    let is_id = id.len() <= 4 && digits(id, 16, 1, 0xFFFE).is_some();
+    let is_longer = id.len() < value.len();
+    let is_id = is_longer && id.len() <= 4 && digits(id, 16, 1, 0xFFFE).is_some();
     let hint = match option {
         "from" if value == "0000" => Hint::FirstRecord,
         "id" if is_id => Hint::HexId(id, Operand::Nothing),
@@ -340,14 +342,31 @@ fn count_error<'a>(
     }
 }
 
-/// What is wrong with the id of an entry or of a device, or with the number of `sel tail`.
-fn id_error<'a>(row: &CommandRow, words: &[&'a str], id: Option<&'a str>) -> UsageError<'a> {
+/// What is wrong with the number of `sel tail`.
+fn tail_error<'a>(row: &CommandRow, words: &[&'a str]) -> UsageError<'a> {
+    match words {
+        [] => UsageError::Missing(row.0, row.2),
+        [word] => wrong_number(row.2, word),
+        [_, word, ..] => UsageError::Extra(word, row.0, Hint::None),
+    }
+}
+
+/// What is wrong with the ids of entries or of devices.
+fn id_error<'a>(
+    row: &CommandRow,
+    kind: Numbered,
+    words: &[&'a str],
+    id: Option<&'a str>,
+) -> UsageError<'a> {
     match (words, id) {
         ([], Some(_)) => value_error("id", id),
-        ([_, ..], Some(_)) => UsageError::TwoIds,
+        ([_, ..], Some(_)) => UsageError::TwoIds(row.0),
         ([], None) => UsageError::Missing(row.0, row.2),
-        ([word], None) => wrong_number(row.2, word),
-        ([_, word, ..], None) => UsageError::Extra(word, row.0, Hint::None),
+        ([first, ..], None) => {
+            let is_wrong = |word: &&&str| !kind.has(word);
+            let word = words.iter().find(is_wrong).unwrap_or(first);
+            wrong_number(row.2, word)
+        }
     }
 }
 
@@ -375,9 +394,9 @@ pub(crate) fn word_error<'a>(
     }
     match (operand, after) {
         (Operand::Count, _) => count_error(alloc, row, after),
-        (Operand::EntryCount | Operand::EntryId | Operand::DeviceId, _) => {
-            Ok(id_error(row, after, id))
-        }
+        (Operand::EntryCount, _) => Ok(tail_error(row, after)),
+        (Operand::EntryId, _) => Ok(id_error(row, Numbered::Entry, after, id)),
+        (Operand::DeviceId, _) => Ok(id_error(row, Numbered::Inventory, after, id)),
         (_, []) => Ok(UsageError::Missing(own, operand)),
         (Operand::Kind, [word]) => unknown_kind(alloc, word),
         (Operand::Names | Operand::SensorType, [_, word, ..]) => {
@@ -388,7 +407,7 @@ pub(crate) fn word_error<'a>(
             own,
             Hint::None,
         )),
-        (_, [word, ..]) if own.len() == 1 && !matches!(own, ["capture" | "check"]) => unknown(
+        (_, [word, ..]) if own.len() == 1 && !matches!(own, ["capture" | "check" | "metrics"]) => unknown(
             alloc, word, own,
         ),
         (_, [word, ..]) if is_file(word) => Ok(UsageError::Extra(word, own, Hint::File)),

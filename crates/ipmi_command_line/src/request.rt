@@ -1,21 +1,25 @@
 //! What a command line of `serdimko` asks for.
-ghost use Rattle.std.specs.Prelude.{◌≡◌, ◌≤◌, ◌⊎◌, ◌==◌, codes, false, if◌then◌else◌, IfOk, IfSome, length, map, MatchResult, None, option_map, Some, true};
+ghost use Rattle.std.specs.Prelude.{◌≡◌, ◌≤◌, ◌⊎◌, ◌==◌, All, codes, false, if◌then◌else◌, IfOk, IfSome, length, map, MatchResult, None, option_map, Some, true};
+ghost use Rattle.std.specs.List.{filter_map};
 ghost use Rattle.clap.specs.Words.{first_of, found_of, rows_of};
-ghost use Rattle.ipmi_command_line.specs.Arguments.{values_of};
+ghost use Rattle.ipmi_command_line.specs.Options.{form_in, forms_of, option_state};
+ghost use Rattle.ipmi_command_line.specs.Values.{values_of};
 ghost use Rattle.ipmi_command_line.specs.Command.{IsTask, number_or, start_of_text};
 ghost use Rattle.ipmi_command_line.specs.Commands.{row_of, row_state, texts};
-ghost use Rattle.ipmi_command_line.specs.Request.{action_of, among_flags, among_values, capture_of, entry_of, events_of, format_of, help_of, IsRequest, IsAction, has_option, limits_of, live_at, live_of, misplaced, named_of, part_of_text, printed_of, records_named, records_of, request_of, request_of_command, request_of_help, request_of_row, request_of_rows, request_of_words, rewrite_of, separator_of, short_request, asks_for_types, types_request, check_of, has_one_image, source_of, standard_inputs, start_of, tail_of, task_of_row, text_format, tool_of, topic_named, topic_of};
+ghost use Rattle.ipmi_command_line.specs.Request.{action_of, capture_of, events_of, format_in_form, format_in_text, format_of, goes_with, help_of, IsRequest, IsAction, has_option, limits_of, live_at, live_of, misplaced, misplaced_in, metrics_of, named_of, numbered_of, part_of_text, printed_of, records_named, records_of, request_of, request_of_command, request_of_help, request_of_row, request_of_rows, request_of_words, rewrite_of, separator_of, short_request, asks_for_types, types_request, check_of, has_one_image, source_of, standard_inputs, start_of, tail_of, task_of_row, tasks_of, text_format, tool_of, topic_named, topic_of};
 ghost use Rattle.ipmi_command_line.specs.declared.error.UsageError.{UsageError};
 
 use crate::arguments::{arguments, has_value, is_given, value, value_count};
-use crate::command::{DEFAULT_TRIES, FIRST_ID, number_or, start_of_text};
+use crate::command::{DEFAULT_TRIES, number_or, start_of_text};
 use crate::commands::{CommandRow, Verb, row_of};
 use crate::error::UsageError;
 use crate::filters::{Filters, filters_of};
 use crate::mistake::{misplaced_option, refused, unknown_word, value_error, word_error};
-use crate::number::{decimal, hex_id, number};
+use crate::number::{decimal, number};
+use crate::numbered::{Numbered, tasks_of_ids, tasks_of_words};
+use crate::options::{Form, Given, OPTIONS, OptionRow, form_in, is_present};
 use crate::table::{oldest, task_of, task_of_four};
-use crate::task::{Count, Kind, Task};
+use crate::task::{Count, Kind, Task, Tasks};
 use crate::words::{Word, Words};
 use clap::ArgMatches;
 use clap::error::ErrorKind;
@@ -38,6 +42,8 @@ pub enum Topic {
     Fru,
     /// `check`.
     Check,
+    /// `metrics`.
+    Metrics,
     /// `capture`.
     Capture,
     /// `image`.
@@ -51,10 +57,22 @@ pub enum Topic {
 pub enum Action {
     /// Print what the task says, from this id on.
     Print(Task, Option<u16>),
+    /// Print what each of these tasks says, one after another.
+    PrintEach(Tasks),
     /// Print the block of each sensor with one of these names, from this id on.
     GetSensors(Words, Option<u16>),
     /// Check the sensors that pass the filters.
-    Check,
+    Check {
+        /// Performance data follow the verdict.
+        has_data: bool,
+    },
+    /// Print the metrics of the sensors that pass the filters, and of the event log.
+    Metrics {
+        /// As OpenMetrics.
+        is_open: bool,
+        /// The file; None is standard output.
+        output: Option<Word>,
+    },
     /// Save a live controller as an image.
     Capture {
         /// The file; None is standard output.
@@ -115,10 +133,8 @@ pub enum Format {
     Plain,
     /// As text, in descriptive words.
     Descriptive,
-    /// As objects, each with these labels, `KEY=VALUE`.
-    Json(Words),
-    /// As rows of values, the last of which are those of these labels, `KEY=VALUE`.
-    Csv(Separator, Words),
+    /// In this form, with these labels, `KEY=VALUE`, in each object or at the end of each row, whose values this separates.
+    Labelled(Form, Separator, Words),
 }
 
 /// What a command line asks for.
@@ -316,6 +332,7 @@ fn topic_named(word: &str) -> Option<Topic>
         "sel" => Some(Topic::Sel),
         "fru" => Some(Topic::Fru),
         "check" => Some(Topic::Check),
+        "metrics" => Some(Topic::Metrics),
         "capture" => Some(Topic::Capture),
         "image" => Some(Topic::Image),
         "help" => Some(Topic::General),
@@ -347,20 +364,6 @@ fn help_of(words: &[&str]) -> Option<Topic>
         [] | [_] => Some(Topic::General),
         [_, word, ..] => topic_named(word),
     }
-}
-
-/// `sel get` and its id, which is a word or the value of `--id`.
-fn entry_of(alloc: Global, words: &[&str], id: Option<&str>) -> Result<Option<Task>, AllocError>
-    ensures value { IfOk result (λ task. task ≡ entry_of (texts words.now) (option_map (λ id. id.now) id.entry)) }
-    ensures range { IfOk result (λ task. IfSome task IsTask) }
-{
-    let Some(id) = id else {
-        return task_of(alloc, words);
-    };
-    if words.len() != 2 {
-        return Ok(None);
-    }
-    Ok(hex_id(id, FIRST_ID).map(Task::SelGet))
 }
 
 /// `sel elist` and how many entries.
@@ -396,17 +399,14 @@ fn task_of_row(
     alloc: Global,
     row: &CommandRow,
     words: &[&str],
-    id: Option<&str>,
 ) -> Result<Option<Task>, AllocError>
-    ensures value { IfOk result (λ task. task ≡
-        task_of_row (row_state row.now) (texts words.now) (option_map (λ id. id.now) id.entry)) }
+    ensures value { IfOk result (λ task. task ≡ task_of_row (row_state row.now) (texts words.now)) }
     ensures range { IfOk result (λ task. IfSome task IsTask) }
 {
     let (own, verb, ..) = *row;
     let is_whole = words.len() == own.len();
     match verb {
-        Verb::Task => task_of(alloc, words),
-        Verb::GetEntry => entry_of(alloc, words, id),
+        Verb::Task | Verb::GetEntries | Verb::PrintInventories => task_of(alloc, words),
         Verb::DescribeEvents => Ok(events_of(words)),
         Verb::TailEvents => Ok(tail_of(words)),
         Verb::ListOfType | Verb::ListOfEntity if words.len() == 3 => {
@@ -426,19 +426,60 @@ fn printed_of<'a>(
     matches: &ArgMatches<'a>,
 ) -> Result<Action, UsageError<'a>>
     ensures value { let meant = printed_of (start_of (rows_of (found_of matches.now)))
-        (task_of_row (row_state row.now) (texts words.now) (first_of (codes "id") (rows_of (found_of matches.now)))) in
+        (task_of_row (row_state row.now) (texts words.now)) in
         MatchResult result (λ action. meant ≡ Some action) (λ e. (e ≡ UsageError.Memory) ⊎ (meant ≡ None)) }
     ensures range { IfOk result IsAction }
 {
     let from = start_of(matches)?;
-    let id = value(matches, "id");
-    let Some(task) = task_of_row(alloc, row, words, id)? else {
-        return Err(word_error(alloc, row, words, id)?);
+    let Some(task) = task_of_row(alloc, row, words)? else {
+        return Err(word_error(alloc, row, words, None)?);
     };
     if from.is_some() && !task.takes_from() {
         return Err(UsageError::Misplaced("from", row.0));
     }
     Ok(Action::Print(task, from))
+}
+
+/// The tasks of the ids after the first two words, or of `--id`. None if they are no such ids, or if there are both.
+fn tasks_of(
+    alloc: Global,
+    kind: Numbered,
+    words: &[&str],
+    id: Option<&str>,
+) -> Result<Option<Tasks>, AllocError>
+    ensures value { IfOk result (λ tasks. tasks ≡ tasks_of kind (texts words.now) (option_map (λ id. id.now) id.entry)) }
+    ensures range { IfOk result (λ tasks. IfSome tasks (λ tasks. All IsTask tasks)) }
+{
+    match id {
+        None => tasks_of_words(alloc, kind, words.get(2..).unwrap_or(&[])),
+        Some(id) if words.len() == 2 => tasks_of_ids(alloc, kind, id),
+        Some(_) => Ok(None),
+    }
+}
+
+/// Prints what has the ids after the first two words, or those of `--id`. One id as a word is a task, and so is none.
+fn numbered_of<'a>(
+    alloc: Global,
+    kind: Numbered,
+    row: &CommandRow,
+    words: &[&'a str],
+    matches: &ArgMatches<'a>,
+) -> Result<Action, UsageError<'a>>
+    ensures value { let meant = numbered_of kind (row_state row.now) (texts words.now) (rows_of (found_of matches.now)) in
+        MatchResult result (λ action. meant ≡ Some action) (λ e. (e ≡ UsageError.Memory) ⊎ (meant ≡ None)) }
+    ensures range { IfOk result IsAction }
+{
+    let id = value(matches, "id");
+    if id.is_none() && words.len() <= 3 {
+        return printed_of(alloc, row, words, matches);
+    }
+    if has_value(matches, "from") {
+        return Err(UsageError::Misplaced("from", row.0));
+    }
+    match tasks_of(alloc, kind, words, id)? {
+        Some(tasks) => Ok(Action::PrintEach(tasks)),
+        None => Err(word_error(alloc, row, words, id)?),
+    }
 }
 
 /// Prints the records with the names after the first two words. One name is a task.
@@ -493,7 +534,40 @@ fn check_of<'a>(
         return Err(word_error(alloc, row, words, None)?);
     }
     one_image(row, matches)?;
-    Ok(Action::Check)
+    let has_data = is_given(matches, "perfdata");
+    Ok(Action::Check { has_data })
+}
+
+/// Prints metrics of an image or of a live controller.
+fn metrics_of<'a>(
+    alloc: Global,
+    row: &CommandRow,
+    words: &[&'a str],
+    matches: &ArgMatches<'a>,
+) -> Result<Action, UsageError<'a>>
+    ensures value { let meant = metrics_of (length words.now == 1) (rows_of (found_of matches.now)) in
+        MatchResult result (λ action. meant ≡ Some action) (λ e. (e ≡ UsageError.Memory) ⊎ (meant ≡ None)) }
+    ensures range { IfOk result IsAction }
+{
+    if words.len() != 1 {
+        return Err(word_error(alloc, row, words, None)?);
+    }
+    one_image(row, matches)?;
+    let output = output_of(alloc, matches)?;
+    Ok(Action::Metrics {
+        is_open: is_given(matches, "openmetrics"),
+        output,
+    })
+}
+
+/// The file of `--output`, if it was given.
+fn output_of(alloc: Global, matches: &ArgMatches<'_>) -> Result<Option<Word>, AllocError>
+    ensures { IfOk result (λ output. output ≡ first_of (codes "output") (rows_of (found_of matches.now))) }
+{
+    match value(matches, "output") {
+        Some(file) => Ok(Some(Word::new(alloc, file)?)),
+        None => Ok(None),
+    }
 }
 
 /// Saves a live controller.
@@ -516,9 +590,7 @@ fn capture_of<'a>(
     if has_value(matches, "from") {
         return Err(UsageError::Misplaced("from", row.0));
     }
-    let output = value(matches, "output")
-        .map(|text| Word::new(alloc, text))
-        .transpose()?;
+    let output = output_of(alloc, matches)?;
     Ok(Action::Capture {
         output,
         quiet: is_given(matches, "quiet"),
@@ -570,9 +642,12 @@ fn action_of<'a>(
     ensures range { IfOk result IsAction }
 {
     match row.1 {
+        Verb::GetEntries => numbered_of(alloc, Numbered::Entry, row, words, matches),
+        Verb::PrintInventories => numbered_of(alloc, Numbered::Inventory, row, words, matches),
         Verb::GetRecords => records_named(alloc, row, words, matches),
         Verb::GetSensors => named_of(alloc, row, words, matches),
         Verb::Check => check_of(alloc, row, words, matches),
+        Verb::Metrics => metrics_of(alloc, row, words, matches),
         Verb::Capture => capture_of(alloc, row, words, matches),
         Verb::Rewrite => rewrite_of(alloc, row, words, matches),
         _ => printed_of(alloc, row, words, matches),
@@ -580,27 +655,6 @@ fn action_of<'a>(
 }
 
 // ---- options
-
-/// The options with a value that go with some commands only.
-pub const VALUED: [&str; 14] = [
-    "image",
-    "label",
-    "live",
-    "records",
-    "id",
-    "separator",
-    "type",
-    "entity",
-    "exclude",
-    "since",
-    "until",
-    "now",
-    "worse",
-    "output",
-];
-
-/// The options without a value that go with some commands only.
-pub const FLAGS: [&str; 5] = ["strict", "json", "csv", "quiet", "partial"];
 
 /// Whether an option is among those of a command.
 #[tactic(auto, using(crate::proofs::CommandLemmas::has_option_is))]
@@ -610,46 +664,42 @@ fn has_option(options: &[&str], name: &str) -> bool
     options.contains(&name)
 }
 
-/// The first of these options with a value that was given and is not among those of a command.
-fn among_values(
-    names: &'static [&'static str],
+/// Whether an option goes with a command that has these.
+fn goes_with(options: &[&str], row: &OptionRow) -> bool
+    ensures { result ≡ goes_with (texts options.now) (option_state row.now) }
+{
+    match row.2 {
+        Given::Form(_) => has_option(options, "label"),
+        _ => has_option(options, row.0),
+    }
+}
+
+/// The first option of a table that was given and does not go with a command that has these.
+fn misplaced_in(
+    table: &'static [OptionRow],
     options: &[&str],
     matches: &ArgMatches<'_>,
 ) -> Option<&'static str>
-    ensures { option_map (λ name. name.now) result ≡
-        among_values (texts names.entry.now) (texts options.now) (rows_of (found_of matches.now)) }
+    ensures { option_map (λ name. name.now) result ≡ misplaced_in (map option_state table.entry.now) (texts options.now) (rows_of (found_of matches.now)) }
 {
-    names
+    match table
         .iter()
-        .find(|name| has_value(matches, name) && !has_option(options, name))
-        .copied()
+        .find(|row| is_present(row, matches) && !goes_with(options, row))
+    {
+        Some(row) => Some(row.0),
+        None => None,
+    }
 }
 
-/// The first of these options without a value that was given and is not among those of a command.
-fn among_flags(
-    names: &'static [&'static str],
-    options: &[&str],
-    matches: &ArgMatches<'_>,
-) -> Option<&'static str>
-    ensures { option_map (λ name. name.now) result ≡
-        among_flags (texts names.entry.now) (texts options.now) (rows_of (found_of matches.now)) }
-{
-    names
-        .iter()
-        .find(|name| is_given(matches, name) && !has_option(options, name))
-        .copied()
-}
-
-/// The first option that was given and is not among those of a command.
-#[tactic(auto, unfolding(crate::specs::Request::misplaced))]
+/// The first option that was given and does not go with a command that has these.
+#[tactic(auto, unfolding(crate::specs::Request::misplaced, crate::specs::Options::options))]
 fn misplaced(options: &[&str], matches: &ArgMatches<'_>) -> Option<&'static str>
     ensures { option_map (λ name. name.now) result ≡ misplaced (texts options.now) (rows_of (found_of matches.now)) }
 {
-    let name = among_values(&VALUED, options, matches);
-    if name.is_some() {
-        return name;
+    if has_value(matches, "image") && !has_option(options, "image") {
+        return Some("image");
     }
-    among_flags(&FLAGS, options, matches)
+    misplaced_in(&OPTIONS, options, matches)
 }
 
 /// What separates the values in a row, if this is said.
@@ -679,6 +729,63 @@ fn text_format(verb: Verb) -> Format
     }
 }
 
+/// The forms of output that options of the table ask for.
+fn forms_among(
+    alloc: Global,
+    table: &'static [OptionRow],
+    matches: &ArgMatches<'_>,
+) -> Result<Vec<Form>, AllocError>
+    ensures { IfOk result (λ forms. forms.items ≡ filter_map (form_in (rows_of (found_of matches.now))) (map option_state table.entry.now)) }
+{
+    table
+        .iter()
+        .filter_map(|row| form_in(row, matches))
+        .collect(alloc)
+}
+
+/// The forms of output that are asked for.
+#[tactic(auto, unfolding(crate::specs::Options::options))]
+fn forms_of(alloc: Global, matches: &ArgMatches<'_>) -> Result<Vec<Form>, AllocError>
+    ensures { IfOk result (λ forms. forms.items ≡ forms_of (rows_of (found_of matches.now))) }
+{
+    forms_among(alloc, &OPTIONS, matches)
+}
+
+/// How records are printed as text, if no form of output is asked for.
+fn format_in_text<'a>(
+    verb: Verb,
+    separator: Option<Separator>,
+    matches: &ArgMatches<'a>,
+) -> Result<Format, UsageError<'a>>
+    ensures { let meant = format_in_text verb separator (rows_of (found_of matches.now)) in
+        MatchResult result (λ format. meant ≡ Some format) (λ _. meant ≡ None) }
+{
+    if separator.is_some() {
+        return Err(UsageError::SeparatorWithoutCsv);
+    }
+    if has_value(matches, "label") {
+        return Err(UsageError::LabelInText);
+    }
+    Ok(text_format(verb))
+}
+
+/// How records are printed in a form of output.
+fn format_in_form<'a>(
+    alloc: Global,
+    form: Form,
+    separator: Option<Separator>,
+    matches: &ArgMatches<'a>,
+) -> Result<Format, UsageError<'a>>
+    ensures { let meant = format_in_form form separator (rows_of (found_of matches.now)) in
+        MatchResult result (λ format. meant ≡ Some format) (λ e. (e ≡ UsageError.Memory) ⊎ (meant ≡ None)) }
+{
+    if separator.is_some() && form != Form::Csv {
+        return Err(UsageError::SeparatorWithoutCsv);
+    }
+    let labels = copies_of(alloc, matches, "label")?;
+    Ok(Format::Labelled(form, separator.unwrap_or(Separator::Comma), labels))
+}
+
 /// How records are printed.
 fn format_of<'a>(
     alloc: Global,
@@ -689,23 +796,12 @@ fn format_of<'a>(
         MatchResult result (λ format. meant ≡ Some format) (λ e. (e ≡ UsageError.Memory) ⊎ (meant ≡ None)) }
 {
     let separator = separator_of(matches)?;
-    let labels = copies_of(alloc, matches, "label")?;
-    if is_given(matches, "csv") {
-        if is_given(matches, "json") {
-            return Err(UsageError::JsonAndCsv);
-        }
-        return Ok(Format::Csv(separator.unwrap_or(Separator::Comma), labels));
+    let forms = forms_of(alloc, matches)?;
+    match forms.as_slice() {
+        [] => format_in_text(verb, separator, matches),
+        [form] => format_in_form(alloc, *form, separator, matches),
+        _ => Err(UsageError::TwoForms),
     }
-    if separator.is_some() {
-        return Err(UsageError::SeparatorWithoutCsv);
-    }
-    if is_given(matches, "json") {
-        return Ok(Format::Json(labels));
-    }
-    if has_value(matches, "label") {
-        return Err(UsageError::LabelInText);
-    }
-    Ok(text_format(verb))
 }
 
 // ---- the request

@@ -4,6 +4,7 @@ ghost use Rattle.ipmi_command_line.specs.Task.{takes_from};
 
 use crate::words::Word;
 use ipmi_bus::Shelf;
+use std::marker::Model;
 
 /// Which sensor data records are listed, by type.
 #[derive(Clone, Copy, Debug, PartialEq, Eq)]
@@ -60,6 +61,37 @@ pub enum Task {
     SelGet(u16),
     /// `image rewrite`: the image in its canonical spelling.
     Rewrite,
+}
+
+/// Tasks that are done one after another. In contracts they are a list.
+#[derive(Debug, Drop)]
+pub struct Tasks {
+    items: Vec<Task>,
+}
+
+impl Model for Tasks {
+    ghost use Rattle.std.specs.Prelude.{List};
+    ghost use Rattle.ipmi_command_line.specs.declared.task.Task.{Task};
+
+    ghost Value = { List Task };
+
+    ghost view = { λ tasks. tasks.items.items };
+}
+
+impl Tasks {
+    /// These tasks.
+    pub(crate) fn new(items: Vec<Task>) -> Tasks
+        ensures { result ≡ items.items }
+    {
+        Tasks { items }
+    }
+
+    /// The tasks, in their order.
+    pub fn as_slice(&self) -> &[Task]
+        ensures { result.now ≡ self.now }
+    {
+        self.items.as_slice()
+    }
 }
 
 impl Task {

@@ -15,7 +15,7 @@ use Rattle.ipmi_commands.proofs.LastLemmas.{leaves_wide}
 use Rattle.ipmi_commands.proofs.MeanwhileLemmas.{keeps_at_same, keeps_inventory, locator_keeps, while_first, while_last, while_second}
 use Rattle.ipmi_commands.proofs.PerformLemmas.{none_leaves, text_ends, text_leaves}
 use Rattle.ipmi_commands.specs.Format.{Texts}
-use Rattle.ipmi_commands.specs.declared.format.Detail.{Detail}
+use Rattle.ipmi_selection.specs.declared.detail.Detail.{Detail}
 
 -- ---- one record
 

@@ -2,7 +2,9 @@
 use Rattle.std.proofs.Common.{◌≡◌, ℕ, suc, Bool, true, false, cond, nat_eq, Option, None, Some, Result, Ok, Err, List, [], ◌∷◌, All, refl, arith}
 use Rattle.ipmi_bus.specs.Store.{Inventory, IsInventory, inventory_in}
 use Rattle.ipmi_commands.specs.Below.{known, AreBytes, fru_of, Row, Store, IsStore, inventory_of, SdrFault, SdrView, printed_name, sdr_view_of, sel_view_of}
-use Rattle.ipmi_commands.specs.Prelude.{Detail, Form, IfChosen, IsBlockOfName, IsDevicePiece, IsLocatorPiece, IsRecordText, IsRowText, IsTextOver, is_faulty, ItemsHaveAText, OfInfo, OfInventory, OfRow, reading_for, selects, selects_entry, Subject, Texts, TextsExist}
+use Rattle.ipmi_commands.specs.Prelude.{Form, IfChosen, IsBlockOfName, IsDevicePiece, IsLocatorPiece, IsRecordText, IsRowText, IsTextOver, is_faulty, ItemsHaveAText, OfInfo, OfInventory, OfRow, reading_for, Subject, Texts, TextsExist}
+use Rattle.ipmi_selection.specs.Selection.{selects, selects_entry}
+use Rattle.ipmi_selection.specs.declared.detail.Detail.{Detail}
 use Rattle.ipmi_commands.specs.Output.{no_output, piece_of}
 
 -- there is such a text

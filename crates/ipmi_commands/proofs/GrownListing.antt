@@ -1,5 +1,5 @@
 -- What a listing prints of a walk that only grew.
-use Rattle.std.proofs.Common.{◌≡◌, ◌≢◌, ℕ, ◌+◌, ◌≤◌, Option, None, Some, IfOk, Result, Ok, Err, List, [], ◌∷◌, ◌++◌, inl, inr, length, take, drop, refl, sym, ap, subst, ◌∙◌, arith, take-add, append-nil, append_assoc, length-append, length-take, length-take-le, take-append-drop}
+use Rattle.std.proofs.Common.{◌≡◌, ◌≢◌, ℕ, ◌+◌, ◌≤◌, Option, Some, IfOk, Result, Ok, Err, List, [], ◌∷◌, ◌++◌, inl, inr, length, take, drop, refl, sym, ap, subst, ◌∙◌, arith, take-add, append-nil, append_assoc, length-append, length-take, length-take-le, take-append-drop}
 use Rattle.std.proofs.Math.Seq.{drop-append_seam, take-append_seam}
 use Rattle.ipmi_bus.proofs.GrowthLaws.{growth, Moment, moment, steps_stay}
 use Rattle.ipmi_commands.specs.Below.{AllFollowOrStop, WasLog, AreSteps, asked_at, cursor_after, CursorState, Done, End, Ended, EndsBy, Ending, FailsAt, Failure, First, FollowsOrStops, handed_out, Id, IsHonest, IsLog, IsStep, last_next, OnlyGrew, place_after, Place, place_after_rows, Row, rows_of, Seen, seen_after, Shelf, StandsAt, start_of, StepLeaves, StaysHonest, Stepped, stays_refl, stays_trans, WalkEnd, with_handed}
@@ -345,7 +345,7 @@ module _ (x : Texts) (begun : CursorState) (s : Seen) (start : Place) (first : L
 -- ---- a new cursor
 
 module _ (x : Texts) {limits : RequestLimits} {form : Form} {from : Option ℕ} {most : Option ℕ} {begun now : CursorState} {c : Change}
-    {result : Result ℕ Failure} (fresh : IsFresh limits form from begun)
+    {result : Result ℕ Failure} (fresh : IsFresh limits (shelf_of form) from begun)
     (trace : TracesListing x form most begun now c result) (honest : IsHonest c.seen) where
   shelf_is : begun.shelf ≡ shelf_of form
   shelf_is = ap (λ (x' : CursorState). x'.shelf) fresh.is

@@ -1,17 +1,17 @@
 -- The last entries of a walk, kept in memory, and printed when the walk is over.
-use Rattle.std.proofs.Common.{◌≡◌, inl, inr, Bool, true, false, cond, if◌then◌else◌, IsTrue, ℕ, ◌+◌, ◌-◌, ◌≤◌, Option, None, Some, IfOk, Result, Ok, Err, List, [], ◌∷◌, ◌++◌, length, subst, take, drop, refl, sym, ap, ◌∙◌, arith, length-append, length-drop, length-take, take_all}
+use Rattle.std.proofs.Common.{◌≡◌, inl, inr, Bool, true, false, cond, if◌then◌else◌, IsTrue, ℕ, ◌+◌, ◌-◌, ◌≤◌, Option, None, Some, IfOk, Result, Ok, Err, List, [], ◌∷◌, ◌++◌, length, subst, drop, refl, sym, ap, ◌∙◌, arith, length-append, length-drop, length-take, take_all}
 use Rattle.std.proofs.lemmas.List.{drop-append-le, drop-drop, drop-map, length-map, map-append}
 use Rattle.std.proofs.Math.Seq.{drop-nil}
 use Rattle.std.specs.FinSet as set
 use Rattle.ipmi_bus.proofs.GrowthLaws.{steps_stay}
 use Rattle.ipmi_bus.proofs.StepsLaws.{steps_follow}
-use Rattle.ipmi_commands.specs.Below.{CursorState, Done, First, Ended, EndsBy, Ending, Failure, handed_out, IsHonest, IsStep, IsWalk, OnGrowing, Place, place_after, place_after_rows, Row, rows_of, sel_view_of, Seen, seen_after, Sel, Shelf, start_of, stays_refl, Store, WalkEnd}
+use Rattle.ipmi_commands.specs.Below.{CursorState, Done, Ended, EndsBy, Ending, Failure, handed_out, IsHonest, IsStep, IsWalk, OnGrowing, Place, Row, rows_of, sel_view_of, Seen, seen_after, Sel, Shelf, start_of, stays_refl, Store, WalkEnd}
 use Rattle.ipmi_commands.specs.declared.kept.KeptEntry.{KeptEntry}
 use Rattle.ipmi_commands.specs.declared.limits.RequestLimits.{RequestLimits}
 use Rattle.ipmi_commands.specs.Kept.{IsKeptText, kept_row, kept_rows, kept_with, Keeps, KeepsByCursor, KeepsEntries, last_of, PrintsKept}
 use Rattle.ipmi_commands.specs.Output.{Output, piece_of}
 use Rattle.ipmi_command_line.specs.declared.filters.Filters.{Filters}
-use Rattle.ipmi_commands.specs.Selection.{chosen, chosen_by, is_passed, passes_entry, SelectedEntries, selects_entry}
+use Rattle.ipmi_selection.specs.Selection.{chosen, chosen_by, is_passed, passes_entry, SelectedEntries, selects_entry}
 use Rattle.ipmi_commands.specs.Prelude.{AtEnd, cause_of, change, ending_of, EndsFor, EndsListing, EndsPrinting, EntryText, FindsIt, Change, Form, IsAllowed, IsAmong, IsFresh, IsPieceOver, IsTextWhile, Item, Job, kept_items, kept_plan, last_rows, ListsHonestly, most_on_walk, next_points, OfRow, OnWalk, Plan, points_of_walk, PrintsAfter, ReadError, ReadPoint, rows_end, Runs, TracesListing, walk_call_bound, WritesPiece}
 use Rattle.ipmi_commands.specs.declared.limits.Tries.{Tries}
 use Rattle.ipmi_commands.proofs.AskLemmas.{asks_nothing, no_memory}
@@ -188,11 +188,11 @@ module _ (x : Texts) {selection : SelectedEntries} {n : ℕ} {tries : Tries} {be
 
 -- ---- a walk from a start
 
-pub tries_are : {limits : RequestLimits} {from : Option ℕ} {begun : CursorState} → IsFresh limits Form.Skipped from begun → begun.tries ≡ limits.tries.count
+pub tries_are : {limits : RequestLimits} {from : Option ℕ} {begun : CursorState} → IsFresh limits Sel from begun → begun.tries ≡ limits.tries.count
 tries_are fresh = ap (λ (x : CursorState). x.tries) fresh.is
 
 module _ (x : Texts) {limits : RequestLimits} {from : Option ℕ} {begun now : CursorState} {s s' : Seen} {text : Output}
-    (fresh : IsFresh limits Form.Skipped from begun) where
+    (fresh : IsFresh limits Sel from begun) where
   pub keeps_calls : {selection : SelectedEntries} {n : ℕ} {kept : List KeptEntry} {ending : Ending} → KeepsByCursor x selection n limits.tries begun now s s' text kept ending
       → s'.calls ≤ s.calls + most_on_walk Form.Skipped limits.tries
   keeps_calls k = omega (arith, k.lists.calls.all fresh.some, fresh.falls)

@@ -7,7 +7,7 @@ use Rattle.ipmi_commands.specs.Traced.{EndsTrace}
 use Rattle.ipmi_commands.specs.declared.limits.RequestLimits.{RequestLimits}
 use Rattle.ipmi_commands.specs.Prelude.{AreTexts, calls_for, Cause, cause_of, Change, change, Counted, CountsEntries, points_at_walk_end, end_points_of_last, ending_of, EndsListing, EntryText, first_end, first_rows, Form, IsAllowed, IsAmong, IsFresh, IsPieceOver, IsTextWhile, OfRow, OnGrowingLast, TracesListing, Item, Job, kept_items, kept_plan, last_items, last_plan, last_rows, Leaves, listing, listing_plan, ListsAfter, ListsHonestly, ListsAlong, Plan, Printed, Prints, PrintsAll, row_items, rows_end, second_walk_bound, ReadPoint, points_of_rows, next_points, points_of_walk, Subject, walk_call_bound, with_first_points}
 use Rattle.ipmi_commands.specs.Output.{and_then, no_output, Output}
-use Rattle.ipmi_commands.specs.Selection.{chosen}
+use Rattle.ipmi_selection.specs.Selection.{chosen}
 use Rattle.ipmi_commands.specs.declared.limits.Tries.{Tries}
 use Rattle.ipmi_commands.proofs.CallLemmas.{calls_split}
 use Rattle.ipmi_commands.proofs.CountLemmas.{between, ends_here, ends_since}
@@ -22,8 +22,8 @@ use Rattle.ipmi_commands.proofs.OutputLemmas.{nothing_in, then_nothing}
 use Rattle.ipmi_commands.specs.Format.{Texts}
 
 -- a new cursor is at the place where it starts
-pub starts_at : {limits : RequestLimits} {form : Form} {from : Option ℕ} {cursor : CursorState}
-    → IsFresh limits form from cursor → cursor.place ≡ start_of from
+pub starts_at : {limits : RequestLimits} {shelf : Shelf} {from : Option ℕ} {cursor : CursorState}
+    → IsFresh limits shelf from cursor → cursor.place ≡ start_of from
 starts_at fresh = ap (λ (c : CursorState). c.place) fresh.is
 
 -- ---- the points of the first item
@@ -172,7 +172,7 @@ counts_grown x from {begun} {now} {c} (Err failure) trace first g ends = λ entr
 
 module _ (x : Texts) {limits : RequestLimits} {from : Option ℕ} {tries : Tries} {begun now : CursorState}
     {c : Change}
-    (fresh : IsFresh limits Form.Skipped from begun) where
+    (fresh : IsFresh limits Sel from begun) where
   pub counts : (result : Result ℕ Failure) (walk : List Row) (end : WalkEnd)
       → ListsAlong x Form.Skipped tries None begun now c result (start_of from) walk end 0
       → Counted (IsPieceOver x c.seen.store) (start_of from) walk end c.old c.new result
@@ -217,7 +217,7 @@ after_without_memory x entries tries start passed s text honest = record {
 }
 
 module _ (x : Texts) (entries : EntryText) {limits : RequestLimits} {from : Option ℕ}
-    {tries : Tries} {passed : ℕ} {begun mid : CursorState} {s s' : Seen} {old text : Output} (fresh : IsFresh limits Form.Skipped from begun) where
+    {tries : Tries} {passed : ℕ} {begun mid : CursorState} {s s' : Seen} {old text : Output} (fresh : IsFresh limits Sel from begun) where
   -- skipping failed
   pub after_failed : (failure : Failure) → IsHonest s
       → ListsHonestly x Form.Skipped tries (Some passed) begun mid (change s s' old text) (Err failure)

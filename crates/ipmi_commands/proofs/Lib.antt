@@ -1,31 +1,27 @@
-mod AlongLemmas
-mod AskLemmas
-mod BlockLemmas
-mod CallLemmas
-mod CountLemmas
+pub mod AlongLemmas
+pub mod AskLemmas
+pub mod CallLemmas
+pub mod CountLemmas
 mod DeviceLemmas
 mod ExistenceLemmas
-mod GrownListing
-mod ItemLemmas
+pub mod GrownListing
+pub mod ItemLemmas
 mod KeptLemmas
 mod LimitLemmas
 mod LastLemmas
-mod ListingLemmas
-mod MeanwhileLemmas
-mod NameLemmas
-mod NamedLemmas
+pub mod ListingLemmas
+pub mod MeanwhileLemmas
+pub mod NameLemmas
+pub mod NamedLemmas
 mod NamedPages
-mod OutputLemmas
+pub mod OutputLemmas
 mod PageLemmas
 mod PagesLaw
 mod PartLemmas
 mod PerformLemmas
 mod ReadLemmas
-mod RunLemmas
-mod SensorLemmas
 pub mod TailLemmas
-mod PlainLemmas
 mod PointLemmas
-mod TraceLemmas
+pub mod TraceLemmas
 mod UniqueLemmas
 mod WholeLemmas

@@ -478,8 +478,8 @@ module _ (x : Texts) {form : Form} {tries : Tries} {most : Option ℕ} {count : 
 
 -- ---- a new cursor
 
-module _ {limits : RequestLimits} {form : Form} {from : Option ℕ} {begun : CursorState}
-    (fresh : IsFresh limits form from begun) where
+module _ {limits : RequestLimits} {shelf : Shelf} {from : Option ℕ} {begun : CursorState}
+    (fresh : IsFresh limits shelf from begun) where
   -- it holds no reservation, and has returned no record
   pub holds_none : (s : Seen) → CursorHoldsCurrent begun s
   holds_none s = record { held = λ n held. let h = sym (ap (λ (x : CursorState). x.reservation) fresh.is) ∙ held in cc h }
@@ -492,7 +492,7 @@ module _ {limits : RequestLimits} {form : Form} {from : Option ℕ} {begun : Cur
 
 module _ (x : Texts) {limits : RequestLimits} {form : Form} {from : Option ℕ} {begun now : CursorState}
     {tries : Tries} {most : Option ℕ}
-    {c : Change} {result : Result ℕ Failure} (fresh : IsFresh limits form from begun) where
+    {c : Change} {result : Result ℕ Failure} (fresh : IsFresh limits (shelf_of form) from begun) where
   pub fresh_ends : ListsHonestly x form tries most begun now c result
       → EndsFor tries (IsTrue c.seen.plain) c.seen c.seen' (cause_of (ending_of result))
   fresh_ends lists = record { stays = lists.ends.stays; grows = lists.ends.grows; counts = lists.ends.counts; plain = λ p. lists.ends.plain (p, holds_none fresh c.seen) }

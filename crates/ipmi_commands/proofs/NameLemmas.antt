@@ -1,7 +1,8 @@
 -- A record with the name was found if and only if something was written.
-use Rattle.std.proofs.Common.{◌≡◌, ℕ, ◌+◌, ◌<◌, ◌≤◌, ◌==◌, ◌||◌, not, Bool, true, false, Option, Result, Ok, Err, List, [], ◌∷◌, ◌++◌, length, refl, ap, ◌∙◌, arith, length-append}
-use Rattle.ipmi_commands.specs.Below.{known, Failure, Place, Reading, Row, SdrFault, Seen, SdrView, sdr_view_of, Store, Done, place_after}
-use Rattle.ipmi_commands.specs.Prelude.{AreTexts, Detail, end_of, ending_of, Form, IfChosen, IsTextOfRecord, IsBlockOfName, IsPieceOver, IsTextWhile, OfRow, Printed, reading_for, row_items, rows_end, some_has_name, Subject, view_has_name}
+use Rattle.std.proofs.Common.{◌≡◌, ℕ, ◌+◌, ◌<◌, ◌≤◌, ◌==◌, ◌||◌, not, Bool, true, false, Result, Ok, Err, List, [], ◌∷◌, ◌++◌, length, refl, ap, ◌∙◌, arith, length-append}
+use Rattle.ipmi_commands.specs.Below.{known, Failure, Place, Row, SdrFault, Seen, SdrView, sdr_view_of, Store, Done, place_after}
+use Rattle.ipmi_commands.specs.Prelude.{AreTexts, end_of, ending_of, Form, IfChosen, IsTextOfRecord, IsBlockOfName, IsPieceOver, IsTextWhile, OfRow, Printed, reading_for, row_items, rows_end, some_has_name, Subject, view_has_name}
+use Rattle.ipmi_selection.specs.declared.detail.Detail.{Detail}
 use Rattle.ipmi_commands.specs.Output.{and_then, count_if, Output, piece_of}
 use Rattle.ipmi_commands.proofs.OutputLemmas.{then_nothing}
 use Rattle.ipmi_commands.specs.Traced.{IsFound}

@@ -1,12 +1,13 @@
 -- Listings with names: a walk reads the sensor data records into memory, then a listing uses the names.
-use Rattle.std.proofs.Common.{◌≡◌, inl, inr, ℕ, ◌+◌, ◌*◌, ◌≤◌, true, IsTrue, Option, None, Some, Result, Ok, Err, List, [], ◌∷◌, ◌++◌, length, map, refl, sym, ap, ◌∙◌, arith}
+use Rattle.std.proofs.Common.{◌≡◌, inl, ℕ, ◌+◌, ◌*◌, ◌≤◌, true, IsTrue, Option, None, Some, Result, Ok, Err, List, [], ◌∷◌, length, map, refl, sym, ap, ◌∙◌, arith}
 use Rattle.std.specs.List.{AllPass, concat}
 use Rattle.std.proofs.lemmas.List.Elements.{All-cons, All-nil}
 use Rattle.std.proofs.lemmas.Nat.{mul-le}
 use Rattle.ipmi_commands.specs.Below.{AllOf, Count, CycleAt, device_name, Done, Ending, EndsBy, Failure, First, FoundIsRow, IsHonest, IsShelf, IsStore, IsWalk, is_whole_record, MissingAt, OnGrowing, Place, place_after, records_in, Row, rows_of, Sdr, Seen, stays_refl, Store, WalkEnd}
 use Rattle.ipmi_commands.specs.Named.{end_after, ending_then, listed_end, PrintsDevices, PrintsPlan, walk_of}
 use Rattle.ipmi_commands.specs.declared.named.RecordsEnd.{RecordsEnd}
-use Rattle.ipmi_commands.specs.Prelude.{SelectedEntries, after_names, AreTexts, AtEnd, AtInventory, bytes_of_rows, calls_for_devices, calls_for_point, inventories_plan, WritesRecords, WritesWhole, walk_call_bound, entries_job, keeping_last, OnEntries, Cause, cause_of, Change, change, Dishonest, end_after_names, ending_of, end_points_of_last, EndsNamed, EndsFor, EndsListing, EntryText, named_entries, Form, GaveUp, HasFirstItems, IsAllowed, IsAmong, IsPage, IsPieceOver, IsTextWhile, Item, Job, Leaves, listing, listing_plan, MayEnd, most_calls, most_named, most_on_walk, NameLookup, next_points, NoMemory, NoOutput, OfRow, OnNamed, FollowsPlan, Plan, Printed, Refused, row_items, rows_end, Runs, ReadPoint, points_at_walk_end, points_before, points_of_walk, Subject, TracesJob, with_first_points, inventory_call_bound}
+use Rattle.ipmi_commands.specs.Prelude.{after_names, AreTexts, AtEnd, AtInventory, bytes_of_rows, calls_for_devices, calls_for_point, inventories_plan, WritesRecords, WritesWhole, walk_call_bound, entries_job, keeping_last, OnEntries, Cause, cause_of, Change, change, Dishonest, end_after_names, ending_of, EndsNamed, EndsFor, EndsListing, EntryText, named_entries, Form, GaveUp, HasFirstItems, IsAllowed, IsAmong, IsPage, IsPieceOver, IsTextWhile, Job, Leaves, listing, listing_plan, MayEnd, most_calls, most_named, most_on_walk, NameLookup, next_points, NoMemory, NoOutput, OfRow, OnNamed, FollowsPlan, Plan, Printed, Refused, row_items, rows_end, Runs, ReadPoint, points_at_walk_end, points_before, points_of_walk, Subject, TracesJob, inventory_call_bound}
+use Rattle.ipmi_selection.specs.Selection.{SelectedEntries}
 use Rattle.ipmi_commands.specs.Output.{no_output, Output}
 use Rattle.ipmi_commands.specs.declared.limits.Tries.{Tries}
 use Rattle.ipmi_commands.proofs.CountLemmas.{between, ends_here, ends_since}
@@ -19,8 +20,6 @@ use Rattle.ipmi_commands.proofs.PointLemmas.{among_after, among_before, quiet_th
 use Rattle.ipmi_commands.proofs.TailLemmas.{tail_all, tail_map}
 use Rattle.ipmi_commands.proofs.WholeLemmas.{whole_record}
 use Rattle.ipmi_commands.specs.Format.{Texts}
-use Rattle.ipmi_commands.specs.Plain.{plain_texts}
-use Rattle.ipmi_commands.specs.declared.format.Detail.{Detail}
 
 -- ---- the bytes of the records
 
@@ -212,7 +211,7 @@ module _ (x : Texts) (tries : Tries) (s s' : Seen) (kept : Output) (named : Name
 
   pub names_failed : (text : Output) (result : Result Place Failure) (failure : Failure)
       → walk_of result ≡ Err failure → EndsListing Form.Bytes s' (ending_of result)
-      → (IsHonest s → IsPage plain_texts Form.Bytes First tries None (change s s' no_output kept) result)
+      → (IsHonest s → IsPage x Form.Bytes First tries None (change s s' no_output kept) result)
       → Runs x (Job.NameLookup named) tries (change s s' text text) (Err failure)
   names_failed text result failure is ends page_of = record {
     calls = omega (arith, calls);
@@ -221,7 +220,7 @@ module _ (x : Texts) (tries : Tries) (s s' : Seen) (kept : Output) (named : Name
     prints = λ h same records end w ends_.
         let along = (page_of h).along same records end w ends_ in
         named_all records end tries s.store _ named (λ plan calls. (
-          stop_by (IsPieceOver plain_texts s.store) (IsPieceOver x s.store) records end plan kept text result failure is (cause_of (ending_of result)) refl along.leaves,
+          stop_by (IsPieceOver x s.store) (IsPieceOver x s.store) records end plan kept text result failure is (cause_of (ending_of result)) refl along.leaves,
           omega (arith, along.calls),
         ));
     grows = λ h first log grew.
@@ -229,7 +228,7 @@ module _ (x : Texts) (tries : Tries) (s s' : Seen) (kept : Output) (named : Name
         let walked = (page_of h).grows tt first log grew in (
           walked.0,
           walked.1,
-          named_growing s s' h ends _ (λ plan. stop_by (IsTextWhile plain_texts s s') (IsTextWhile x s s') walked.0 Done plan kept text result failure is (cause_of (ending_of result)) refl walked.2) walked.0 named,
+          named_growing s s' h ends _ (λ plan. stop_by (IsTextWhile x s s') (IsTextWhile x s s') walked.0 Done plan kept text result failure is (cause_of (ending_of result)) refl walked.2) walked.0 named,
         );
     traces = λ h. tt;
   }
@@ -315,7 +314,7 @@ devices_allowed IsText records end old new ending allowed =
 -- the walk of the records, over an honest controller
 module _ (x : Texts) (look_row : FoundIsRow) (split : RecordsAreFound) (tries : Tries) (s s' s'' : Seen) (kept old new : Output) (detail : SelectedEntries)
     (result : Result Place Failure) (walked : RecordsEnd) (is : walk_of result ≡ Ok walked)
-    (page_of : IsHonest s → IsPage plain_texts Form.Bytes First tries None (change s s' no_output kept) result) where
+    (page_of : IsHonest s → IsPage x Form.Bytes First tries None (change s s' no_output kept) result) where
   abbrev read_ends : IsHonest s → EndsFor tries (IsTrue s.plain) s s' AtEnd
   read_ends h = rw (walked_at_end result walked is) at (page_of h).ends
 
@@ -327,14 +326,14 @@ module _ (x : Texts) (look_row : FoundIsRow) (split : RecordsAreFound) (tries : 
   records_of_walk h same records end w ends =
       let along = (page_of h).along same records end w ends in
       let all = rw (walked_at_end result walked is) at along.leaves in
-      (read_records look_row split (IsPieceOver plain_texts s.store) (λ row text is. is.is_text) s.store records kept h.store w.of_shelf all.0, all.1, along.calls)
+      (read_records look_row split (IsPieceOver x s.store) (λ row text is. is.is_text) s.store records kept h.store w.of_shelf all.0, all.1, along.calls)
 
   pub records_of_log : IsHonest s → OnGrowing Sdr First s s' (λ records.
       (records_in kept.bytes ≡ bytes_of_rows records) × (ending_of result ≡ rows_end Form.Bytes records Done))
   records_of_log h = λ first log grew.
       let read = (page_of h).grows tt first log grew in
       let all = rw (walked_at_end result walked is) at read.2 in
-      (read.0, read.1, (read_records look_row split (IsTextWhile plain_texts s s') (λ row text is. is.is.is_text) read.1.store read.0 kept read.1.is_store read.1.is_log.walks.of_shelf all.0, all.1))
+      (read.0, read.1, (read_records look_row split (IsTextWhile x s s') (λ row text is. is.is.is_text) read.1.store read.0 kept read.1.is_store read.1.is_log.walks.of_shelf all.0, all.1))
 
   pub events_run : (count : Count) (from : Option ℕ) (ending : Ending) → s'.calls ≤ s.calls + most_on_walk Form.Bytes tries
       → Runs x (keeping_last (entries_job (named_entries detail (records_in kept.bytes)) count from)) tries (change s' s'' old new) ending

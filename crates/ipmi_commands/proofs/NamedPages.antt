@@ -3,7 +3,8 @@ use Rattle.std.proofs.Common.{inl, ℕ, ◌+◌, ◌*◌, ◌≤◌, IsTrue, Opt
 use Rattle.ipmi_commands.specs.Below.{Count, Ending, Failure, FoundIsRow, IsHonest, Place, records_in, Seen, start_of, TailIsWalk}
 use Rattle.ipmi_commands.specs.Named.{ending_then, ReadsRecords}
 use Rattle.ipmi_commands.specs.declared.named.RecordsEnd.{RecordsEnd}
-use Rattle.ipmi_commands.specs.Prelude.{SelectedEntries, IsPieceOver, ArePages, bytes_of_rows, cause_of, change, ending_of, EndsListing, named_entries, entries_with, Form, listing, listing_plan, most_on_walk, NameLookup, pages_made, RunsNamedInPages}
+use Rattle.ipmi_commands.specs.Prelude.{IsPieceOver, ArePages, bytes_of_rows, cause_of, change, ending_of, EndsListing, named_entries, entries_with, Form, listing, listing_plan, most_on_walk, NameLookup, pages_made, RunsNamedInPages}
+use Rattle.ipmi_selection.specs.Selection.{SelectedEntries}
 use Rattle.ipmi_commands.specs.Output.{no_output, Output}
 use Rattle.ipmi_commands.specs.declared.limits.Tries.{Tries}
 use Rattle.ipmi_commands.proofs.CountLemmas.{between, ends_since}
@@ -11,8 +12,6 @@ use Rattle.ipmi_commands.proofs.NamedLemmas.{entries_end, failed_ends, failed_fo
 use Rattle.ipmi_commands.proofs.PageLemmas.{page_without_memory}
 use Rattle.ipmi_commands.proofs.PagesLaw.{OneListing, pages_are_one}
 use Rattle.ipmi_commands.specs.Format.{Texts}
-use Rattle.ipmi_commands.specs.Plain.{plain_texts}
-use Rattle.ipmi_commands.specs.declared.format.Detail.{Detail}
 
 -- there is no memory for the table of the sensors, as if there were none for the first page
 pub no_pages : (x : Texts) → (form : Form) (start : Place) (tries : Tries) (sizes : List ℕ) (s : Seen) (text : Output)
@@ -26,7 +25,7 @@ module _ (x : Texts) (tries : Tries) (s s' : Seen) (kept : Output) (detail : Sel
     (sizes : List ℕ) where
   -- the walk of the records ended the run before an entry was asked for
   pub pages_failed : (text : Output) (failure : Failure)
-      → ReadsRecords tries (change s s' no_output kept) (Err failure)
+      → ReadsRecords x tries (change s s' no_output kept) (Err failure)
       → RunsNamedInPages x detail from tries sizes (change s s' text text) (Err failure)
   pages_failed text failure reads = record {
     calls = omega (arith, reads.calls);
@@ -36,14 +35,14 @@ module _ (x : Texts) (tries : Tries) (s s' : Seen) (kept : Output) (detail : Sel
     prints = λ h same records end w ends_ walk end' w' ends' open_.
         let along = (reads.page h).along same records end w ends_ in
         let plan = listing_plan (listing (entries_with detail (bytes_of_rows records)) (start_of from) None) walk end' in (
-          stop_by (IsPieceOver plain_texts s.store) (IsPieceOver x s.store) records end plan kept text reads.listed failure (sym reads.is) (cause_of (ending_of reads.listed)) refl along.leaves,
+          stop_by (IsPieceOver x s.store) (IsPieceOver x s.store) records end plan kept text reads.listed failure (sym reads.is) (cause_of (ending_of reads.listed)) refl along.leaves,
           omega (arith, along.calls),
         );
   }
 
   -- the pages came after the walk of the records
   pub named_pages : FoundIsRow → RecordsAreFound → TailIsWalk → (walked : RecordsEnd)
-      → ReadsRecords tries (change s s' no_output kept) (Ok walked)
+      → ReadsRecords x tries (change s s' no_output kept) (Ok walked)
       → (s'' : Seen) (old new : Output) (ending : Ending)
       → s''.calls ≤ s'.calls + pages_made sizes * most_on_walk (entries_with detail (records_in kept.bytes)) tries
       → EndsListing (entries_with detail (records_in kept.bytes)) s'' ending
@@ -69,7 +68,7 @@ module _ (x : Texts) (tries : Tries) (s s' : Seen) (kept : Output) (detail : Sel
             λ records end w ends__.
             let along = page.along since.0 records end w ends__ in
             let all = rw at_end at along.leaves in
-            let on = rw (read_records look_row split (IsPieceOver plain_texts s.store) (λ row text is. is.is_text) s.store records kept h.store w.of_shelf all.0) at printed in
+            let on = rw (read_records look_row split (IsPieceOver x s.store) (λ row text is. is.is_text) s.store records kept h.store w.of_shelf all.0) at printed in
             λ walk end' w' ends' open_.
             let both = on walk end' w' ends' open_ in
             let plan = listing_plan (listing (entries_with detail (bytes_of_rows records)) (start_of from) None) walk end' in (

@@ -149,7 +149,7 @@ page_result next (Err failure) = Err failure
 
 pub page_by_cursor : (x : Texts) → {limits : RequestLimits} {form : Form} {from : Option ℕ} {tries : Tries}
     {most : Option ℕ}
-    {begun now : CursorState} {c : Change} (result : Result ℕ Failure) → IsFresh limits form from begun
+    {begun now : CursorState} {c : Change} (result : Result ℕ Failure) → IsFresh limits (shelf_of form) from begun
     → (most ≡ Some 0 → ⊥) → IsHonest c.seen → ListsHonestly x form tries most begun now c result
     → IsPage x form (start_of from) tries most c (page_result now.place result)
 page_by_cursor x {form = form} {from = from} {most = most} {now = now} (Ok count) fresh some honest lists = record {

@@ -5,9 +5,9 @@ use Rattle.ipmi_commands.specs.Named.{end_after, listed_end, walk_of}
 use Rattle.ipmi_commands.specs.declared.named.RecordsEnd.{RecordsEnd}
 use Rattle.ipmi_commands.specs.Run.{EndsInfo}
 use Rattle.ipmi_commands.specs.Output.{Output}
-use Rattle.ipmi_commands.specs.Prelude.{SelectedEntries, Change, end_of, ending_of, EndsListing, EndsNamed, EntryText, entries_job, Form, keeping_last, MayEnd, NameLookup, RetriesParts, RunsNamedInPages, Tries, WritesPiece}
+use Rattle.ipmi_commands.specs.Prelude.{Change, end_of, ending_of, EndsListing, EndsNamed, EntryText, entries_job, Form, keeping_last, MayEnd, NameLookup, RetriesParts, RunsNamedInPages, Tries, WritesPiece}
+use Rattle.ipmi_selection.specs.Selection.{SelectedEntries}
 use Rattle.ipmi_commands.specs.Format.{Texts}
-use Rattle.ipmi_commands.specs.declared.format.Detail.{Detail}
 
 module _ (tries : Tries) (S : Seen → Type 0) (seen : Seen) where
   -- a listing in a form other than that of devices

@@ -11,7 +11,7 @@ use Rattle.ipmi_bus.proofs.HeldLemmas.{keeps_first, keeps_second}
 use Rattle.ipmi_commands.proofs.ItemLemmas.{cut_after, leaves_joined, leaves_longer, leaves_map, no_items, none_printed, one_printed, printed_map, stops_after}
 use Rattle.ipmi_commands.proofs.MeanwhileLemmas.{growing_second, keeps_at_same, keeps_inventory, log_now, while_first, while_last, while_second}
 use Rattle.ipmi_commands.specs.Format.{Texts}
-use Rattle.ipmi_commands.specs.declared.format.Detail.{Detail}
+use Rattle.ipmi_selection.specs.declared.detail.Detail.{Detail}
 
 -- ---- one listing
 

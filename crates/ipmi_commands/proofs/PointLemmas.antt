@@ -1,5 +1,5 @@
 -- The points of a walk and of its rows.
-use Rattle.std.proofs.Common.{◌≡◌, ◌≢◌, inl, inr, ℕ, zero, suc, ◌==◌, Bool, true, false, cond, Option, None, Some, List, [], ◌∷◌, ◌++◌, length, take, drop, refl, ap, subst, arith, ne_eqb}
+use Rattle.std.proofs.Common.{◌≡◌, ◌≢◌, inl, inr, ℕ, zero, suc, ◌==◌, Bool, true, false, cond, Option, List, [], ◌∷◌, ◌++◌, length, take, drop, refl, ap, subst, arith, ne_eqb}
 use Rattle.ipmi_commands.specs.Below.{Place, First, Id, End, Row, WalkEnd, EndsBy, place_after, place_after_rows, last_next, MayFail, asked_at}
 use Rattle.ipmi_commands.proofs.LimitLemmas.{first_rows-take}
 use Rattle.ipmi_commands.specs.Prelude.{AtRecord, first_rows, points_at_walk_end, points_because_of, points_of_rows, Form, IsAmong, Item, row_items, ReadPoint, next_points}

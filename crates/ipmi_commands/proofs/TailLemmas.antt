@@ -8,8 +8,8 @@ use Rattle.ipmi_commands.specs.declared.limits.Tries.{Tries}
 use Rattle.ipmi_commands.specs.Kept.{kept_row, kept_rows, Keeps, KeepsEntries, last_of, PrintsKept}
 use Rattle.ipmi_commands.specs.Output.{Output}
 use Rattle.ipmi_command_line.specs.declared.filters.Filters.{Filters}
-use Rattle.ipmi_commands.specs.Selection.{chosen, chosen_by, passes_entry}
-use Rattle.ipmi_commands.specs.Prelude.{after_points, AtEnd, AtRecord, Cause, cause_of, change, Dishonest, EndsFor, EndsListing, EndsPrinting, end_points_of_last, EntryText, failure_of, Finds, Form, GaveUp, has_last, IsAllowed, IsAmong, IsPieceOver, IsStopAmong, is_tail, IsTailStart, IsTextWhile, Item, Job, LacksValue, kept_items, kept_plan, last_rows, Leaves, most_calls, most_on_tail, most_on_walk, next_points, NoMemory, NoOutput, OnTail, OnTailFrom, OnTried, OnWhole, Plan, points_of_walk, Prints, ReadError, ReadPoint, Refused, rows_end, Runs, Subject, tail_from, TailsAreOfTheLog, walk_call_bound, with_first_points}
+use Rattle.ipmi_selection.specs.Selection.{chosen, chosen_by, passes_entry}
+use Rattle.ipmi_commands.specs.Prelude.{after_points, AtEnd, AtRecord, Cause, cause_of, change, Dishonest, EndsFor, EndsListing, EndsPrinting, end_points_of_last, EntryText, failure_of, Finds, Form, GaveUp, has_last, IsAllowed, IsAmong, IsPieceOver, IsStopAmong, is_tail, IsTailStart, IsTextWhile, Item, Job, LacksValue, kept_items, kept_plan, last_rows, Leaves, most_on_tail, most_on_walk, next_points, NoMemory, NoOutput, OnTail, OnTailFrom, OnTried, OnWhole, Plan, points_of_walk, Prints, ReadError, ReadPoint, Refused, rows_end, Runs, Subject, tail_from, TailsAreOfTheLog, walk_call_bound, with_first_points}
 use Rattle.ipmi_commands.proofs.AskLemmas.{refuses_record}
 use Rattle.ipmi_commands.proofs.CountLemmas.{between, ends_since}
 use Rattle.ipmi_commands.proofs.ItemLemmas.{leaves_map, no_items}

@@ -1,11 +1,12 @@
 -- Items have at most one text, and a finished run has at most one output.
 use Rattle.std.proofs.Common.{◌≡◌, ℕ, ◌+◌, zero, suc, ◌-◌, Bool, true, false, cond, Option, None, Some, Result, Ok, Err, List, [], ◌∷◌, length, take, drop, sym, ap, subst, ◌∙◌, arith}
 use Rattle.ipmi_commands.specs.Below.{known, Count, IsStore, WalkEnd, Done, CycleAt, MissingAt, Shelf, Sdr, Sel, Place, First, Id, start_of, Row, IsShelf, FoundIsRow, AreBytes, Store, info_of, rows_of, store_shelf, AllOf, WalkExists, place_after, place_after_rows, SdrFault, SdrView, entry_bytes, sdr_view_of, sel_view_of, Ending}
-use Rattle.ipmi_commands.specs.Prelude.{after_names, after_points, AtRecord, bytes_of_rows, has_last, OnTail, OnTailFrom, OnTried, OnWhole, Plan, tail_from, NameLookup, OnNamed, PrintsAll, AreOfBytes, Detail, EntryText, named_entries, first_rows, FinishedRunsAreOne, Form, IfChosen, info_plan, Printed, IsBlockOfName, IsLocatorPiece, IsOfBytes, IsRecordText, IsTextOfRecord, IsRowText, IsTextOver, IsPieceOver, is_faulty, Item, ItemsHaveOneText, Job, kept_items, kept_plan, last_items, last_plan, last_rows, OnWalk, reading_for, row_items, shelf_of, ReadPoint, points_of_walk, Subject, walk_call_bound, with_first_points, Texts, TextsAreOne}
+use Rattle.ipmi_commands.specs.Prelude.{after_names, after_points, AtRecord, bytes_of_rows, has_last, OnTail, OnTailFrom, OnTried, OnWhole, Plan, tail_from, NameLookup, OnNamed, PrintsAll, AreOfBytes, EntryText, named_entries, first_rows, FinishedRunsAreOne, Form, IfChosen, info_plan, Printed, IsBlockOfName, IsLocatorPiece, IsOfBytes, IsRecordText, IsTextOfRecord, IsRowText, IsTextOver, IsPieceOver, is_faulty, Item, ItemsHaveOneText, Job, kept_items, kept_plan, last_items, last_plan, last_rows, OnWalk, reading_for, row_items, shelf_of, ReadPoint, points_of_walk, Subject, walk_call_bound, with_first_points, Texts, TextsAreOne}
+use Rattle.ipmi_selection.specs.declared.detail.Detail.{Detail}
 use Rattle.ipmi_commands.specs.Output.{Output, piece_of}
 use Rattle.ipmi_commands.specs.declared.limits.Tries.{Tries}
 use Rattle.ipmi_command_line.specs.declared.filters.Filters.{Filters}
-use Rattle.ipmi_commands.specs.Selection.{chosen, chosen_by, passes_entry}
+use Rattle.ipmi_selection.specs.Selection.{chosen, chosen_by, passes_entry}
 use Rattle.ipmi_commands.proofs.LimitLemmas.{first_rows-take}
 
 -- there is at most one such text

@@ -4,7 +4,7 @@ use Rattle.std.specs.Prelude.{◌≡◌, ℕ, ◌+◌, ◌≤◌, ◌==◌, if�
 use Rattle.std.specs.declared.alloc.Global.{Global}
 use Rattle.ipmi_commands.specs.Below.{fru_of, FruEnded, KeepsReservations, LastFruCallSays, printed_name, ReadsInventory, ReadsRetryingParts, Row, sdr_view_of, SdrFault, SdrView, Store, Shelf, Seen, Failure}
 use Rattle.ipmi_commands.specs.declared.limits.Tries.{Tries}
-use Rattle.ipmi_commands.specs.declared.format.Detail.{Detail}
+use Rattle.ipmi_selection.specs.declared.detail.Detail.{Detail}
 use Rattle.ipmi_commands.specs.declared.job.Form.{Form}
 use Rattle.ipmi_commands.specs.Format.{Texts}
 use Rattle.ipmi_commands.specs.declared.piece.Piece.{Piece}

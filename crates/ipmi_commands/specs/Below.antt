@@ -1,29 +1,19 @@
 -- Re-exports the definitions of lower crates that this crate uses. Declares nothing.
-pub use Rattle.ipmi_text.specs.Appended.{Appends}
 pub use Rattle.ipmi_text.specs.Bytes.{AreBytes}
 pub use Rattle.ipmi_text.specs.declared.reading.Reading.{Reading}
 pub use Rattle.ipmi_records.specs.declared.column.KnownReading.{KnownReading}
-pub use Rattle.ipmi_fru.specs.Line.{elsewhere_line, IsFruLine}
-pub use Rattle.ipmi_fru.specs.Print.{IsFruText}
 pub use Rattle.ipmi_records.specs.Columns.{known}
-pub use Rattle.ipmi_records.specs.Info.{info_in, IsInfoBlock}
-pub use Rattle.ipmi_records.specs.Laws.{ExtendedLineIsUnique, SdrLineIsUnique, SelBlockIsUnique, SelLineIsUnique}
+pub use Rattle.ipmi_records.specs.Info.{info_in}
 pub use Rattle.ipmi_records.specs.Sdr.{fru_of, sdr_view_of}
-pub use Rattle.ipmi_records.specs.SdrText.{fault_line, IsExtendedLine, IsSdrBlock, IsSdrLine, printed_name}
+pub use Rattle.ipmi_records.specs.SdrText.{printed_name}
 pub use Rattle.ipmi_records.specs.Sel.{entry_bytes, sel_view_of}
-pub use Rattle.ipmi_records.specs.SelText.{IsSelBlock, IsSelLine}
 pub use Rattle.ipmi_records.specs.declared.sdr.SdrFault.{SdrFault}
 pub use Rattle.ipmi_records.specs.declared.sdr.SdrView.{SdrView}
 pub use Rattle.ipmi_records.specs.declared.sel.SelView.{SelView}
 pub use Rattle.ipmi_records.specs.declared.sel.SelView.TheVariants.{Event, OemPlain, OemTimed, Other}
 pub use Rattle.ipmi_events.specs.Sensors.{is_whole_record}
 unfoldable pub use Rattle.ipmi_events.specs.Sensors.{records_in}
-pub use Rattle.ipmi_events.specs.EventLines.{IsEventInWords}
 pub use Rattle.ipmi_events.specs.Name.{device_name}
-pub use Rattle.ipmi_events.specs.Laws.{EventInWordsExists, EventInWordsIsUnique}
-pub use Rattle.ipmi_events.specs.SensorBlocks.{IsSensorBlock}
-pub use Rattle.ipmi_events.specs.SensorLaws.{SensorBlockExists, SensorBlockIsUnique, SensorLineExists, SensorLineIsUnique}
-pub use Rattle.ipmi_events.specs.SensorLines.{IsSensorLine}
 pub use Rattle.ipmi_bus.specs.Bounds.{digits, DigitsAreFew, fru_call_bound, retrying_call_bound, step_call_bound}
 pub use Rattle.ipmi_bus.specs.CursorState.{CursorState, start_of}
 pub use Rattle.ipmi_bus.specs.Grown.{BeginsWith, OnlyGrew}
@@ -48,17 +38,13 @@ pub use Rattle.ipmi_bus.specs.declared.step.Ended.{Ended}
 pub use Rattle.ipmi_bus.specs.declared.step.Ended.TheVariants.{Cycle, GaveUp, Malformed, Missing, Refused, Stalled}
 pub use Rattle.ipmi_bus.specs.declared.step.Place.{Place}
 pub use Rattle.ipmi_bus.specs.declared.step.Place.TheVariants.{End, First, Id}
-pub use Rattle.ipmi_image.specs.Image.{store_of_image}
-pub use Rattle.ipmi_image.specs.Rewritten.{record_line_of}
 unfoldable pub use Rattle.ipmi_image.specs.Rewritten.{image_text_of}
 pub use Rattle.ipmi_image.specs.declared.image.ImageFault.{ImageFault}
-pub use Rattle.ipmi_command_line.specs.Command.{CommandState, IsCount, IsTask}
+pub use Rattle.ipmi_command_line.specs.Command.{IsCount, IsTask}
 pub use Rattle.ipmi_command_line.specs.Task.{is_listing}
 pub use Rattle.ipmi_command_line.specs.declared.task.Count.{Count}
-pub use Rattle.ipmi_command_line.specs.declared.task.Kind.{Kind}
 pub use Rattle.ipmi_command_line.specs.declared.task.Task.{Task}
-pub use Rattle.ipmi_command_line.specs.declared.command.UsageFault.{UsageFault}
-pub use Rattle.ipmi_output.specs.Failure.{Ending, failure_of_image, failure_of_usage, said_of, status_of, write_faults}
-pub use Rattle.ipmi_output.specs.Received.{of_writer, Received, ReceivesText}
+pub use Rattle.ipmi_output.specs.Failure.{Ending, said_of, status_of, write_faults}
+pub use Rattle.ipmi_output.specs.Received.{Received, ReceivesText}
 pub use Rattle.ipmi_output.specs.Sink.{TakesPart}
 pub use Rattle.ipmi_output.specs.declared.failure.Failure.{Failure}

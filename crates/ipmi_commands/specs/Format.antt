@@ -1,7 +1,8 @@
 -- What contracts say of a form of output: which texts it has for each thing that a command prints.
-use Rattle.std.specs.Prelude.{◌≡◌, ℕ, ◌<◌, length, Bool, Option, Some, List}
+use Rattle.std.specs.Prelude.{◌≡◌, ℕ, ◌<◌, length, Bool, false, Option, Some, List, []}
 use Rattle.ipmi_commands.specs.Below.{AreBytes, entry_bytes, KnownReading, Row, SdrFault, SdrView, SelView, Shelf}
-use Rattle.ipmi_commands.specs.declared.format.Detail.{Detail}
+use Rattle.ipmi_commands.specs.declared.format.Table.{Table}
+use Rattle.ipmi_selection.specs.declared.detail.Detail.{Detail}
 
 -- the texts of:
 -- a sensor data record, by its id, with what is known of its sensor's reading;
@@ -54,3 +55,20 @@ pub record TextsExist (x : Texts) : Type 0 where
       → ((bytes : List ℕ) → inventory ≡ Some bytes → AreBytes bytes)
       → (text : List ℕ) × x.IsDevice detail id name inventory text
   pub has_elsewhere : (name : List ℕ) → (text : List ℕ) × x.IsElsewhere name text
+
+-- what comes before and after the texts of runs: a text that names what is printed, and at the end of each run one with its exit status,
+-- why it ended, its message if there is one, and how many texts it printed
+pub record Frame : Type 1 where
+  pub has_header : Bool
+  pub IsHeader : Table → List ℕ → Type 0
+  pub has_end : Bool
+  pub IsEnd : ℕ → List ℕ → Option (List ℕ) → ℕ → List ℕ → Type 0
+
+-- neither
+abbrev pub no_frame : Frame
+no_frame = record {
+  has_header = false;
+  IsHeader = λ table text. text ≡ [];
+  has_end = false;
+  IsEnd = λ status reason message count text. text ≡ [];
+}

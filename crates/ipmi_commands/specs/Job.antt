@@ -3,8 +3,8 @@ use Rattle.std.specs.Prelude.{ℕ, ◌<◌, ◌≤◌, ◌&&◌, not, Bool, true
 use Rattle.std.specs.Option.{ForSome}
 use Rattle.ipmi_commands.specs.Below.{Place, First, Id, End, start_of, Shelf, Sdr, Sel, Count, IsCount, Task}
 use Rattle.ipmi_command_line.specs.declared.filters.Filters.{Filters}
-use Rattle.ipmi_commands.specs.Selection.{in_detail, of_kind, SelectedEntries, with_entry_filters, with_filters}
-use Rattle.ipmi_commands.specs.declared.format.Detail.{Detail}
+use Rattle.ipmi_selection.specs.Selection.{in_detail, of_kind, SelectedEntries, with_entry_filters, with_filters}
+use Rattle.ipmi_selection.specs.declared.detail.Detail.{Detail}
 use Rattle.ipmi_commands.specs.declared.job.EntryText.{EntryText}
 use Rattle.ipmi_commands.specs.declared.job.Form.{Form}
 use Rattle.ipmi_commands.specs.declared.job.Job.{Job}

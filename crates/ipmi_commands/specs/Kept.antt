@@ -12,7 +12,7 @@ use Rattle.ipmi_commands.specs.Listing.{Lists}
 use Rattle.ipmi_commands.specs.Meanwhile.{IsTextWhile}
 use Rattle.ipmi_commands.specs.Output.{Output}
 use Rattle.ipmi_commands.specs.Plan.{kept_items, kept_plan, OnWalk}
-use Rattle.ipmi_commands.specs.Selection.{chosen, SelectedEntries, selects_entry}
+use Rattle.ipmi_selection.specs.Selection.{chosen, SelectedEntries, selects_entry}
 use Rattle.ipmi_commands.specs.Texts.{IsListedEntry, IsPieceOver, Subject}
 use Rattle.ipmi_commands.specs.Traced.{TracesListing}
 use Rattle.ipmi_commands.specs.Format.{Texts}

@@ -7,7 +7,7 @@ use Rattle.ipmi_commands.specs.Allowed.{AreTexts, PrintsAll}
 use Rattle.ipmi_commands.specs.Output.{Output}
 use Rattle.ipmi_commands.specs.Plan.{Item, last_rows}
 use Rattle.ipmi_commands.specs.Run.{FollowsPlan}
-use Rattle.ipmi_commands.specs.Selection.{chosen, SelectedEntries}
+use Rattle.ipmi_selection.specs.Selection.{chosen, SelectedEntries}
 use Rattle.ipmi_commands.specs.Tail.{has_last}
 use Rattle.ipmi_commands.specs.Texts.{Subject, OfRow, OfInfo, IsPieceOver}
 use Rattle.ipmi_commands.specs.Format.{Texts}

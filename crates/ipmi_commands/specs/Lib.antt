@@ -12,13 +12,10 @@ pub mod Named
 pub mod Output
 pub mod PagedRun
 pub mod Pages
-pub mod Plain
 pub mod Plan
 pub mod Prelude
 pub mod Printed
 pub mod Run
-pub mod Selection
-pub mod Sensors
 pub mod Tail
 pub mod Texts
 pub mod Traced

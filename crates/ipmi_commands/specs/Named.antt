@@ -12,7 +12,6 @@ use Rattle.ipmi_commands.specs.Listing.{WritesWhole}
 use Rattle.ipmi_commands.specs.Meanwhile.{IsTextWhile}
 use Rattle.ipmi_commands.specs.Pages.{IsPage}
 use Rattle.ipmi_commands.specs.Plan.{AtInventory, bytes_of_rows, inventories_plan, locator_points, Plan, ReadPoint, row_items, rows_end, text_plan}
-use Rattle.ipmi_commands.specs.Plain.{plain_texts}
 use Rattle.ipmi_commands.specs.Run.{EndsListing}
 use Rattle.ipmi_commands.specs.Texts.{OfRow}
 
@@ -38,13 +37,13 @@ listed_end (RecordsEnd.Cycle n) = Err (Failure.Ended (Ended.Cycle n))
 listed_end (RecordsEnd.Missing n) = Err (Failure.Ended (Ended.Missing n))
 
 -- the sensor data records were listed into memory, as bytes, which are alike in each form of output: how their walk ended, or why it failed
-pub record ReadsRecords (tries : Tries) (c : Change) (result : Result RecordsEnd Failure) : Type 0 where
+pub record ReadsRecords (x : Texts) (tries : Tries) (c : Change) (result : Result RecordsEnd Failure) : Type 0 where
   pub listed : Result Place Failure
   pub is : result ≡ walk_of listed
   pub whole : WritesWhole Form.Bytes c.old.bytes c.new.bytes (ending_of listed)
   pub calls : c.seen'.calls ≤ c.seen.calls + most_on_walk Form.Bytes tries
   pub ends : EndsListing Form.Bytes c.seen' (ending_of listed)
-  pub page : IsHonest c.seen → IsPage plain_texts Form.Bytes First tries None c listed
+  pub page : IsHonest c.seen → IsPage x Form.Bytes First tries None c listed
 
 -- the end of a listing with names, by the end of the listing itself and of the walk before it
 abbrev pub ending_then : Ending → RecordsEnd → Ending

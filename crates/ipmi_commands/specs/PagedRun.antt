@@ -1,11 +1,11 @@
 -- The contract of a run in pages of a command that lists all records of a shelf.
-use Rattle.std.specs.Prelude.{◌≡◌, ℕ, ◌+◌, ◌*◌, ◌≤◌, IsTrue, Option, None, Some, Result, Ok, Err, List}
+use Rattle.std.specs.Prelude.{◌≡◌, ℕ, ◌+◌, ◌*◌, ◌≤◌, IsTrue, Option, None, Result, Ok, Err, List}
 use Rattle.ipmi_commands.specs.Below.{Count, Ending, Failure, First, IsHonest, records_in, Sdr, Seen, start_of}
 use Rattle.ipmi_commands.specs.declared.limits.Tries.{Tries}
 use Rattle.ipmi_commands.specs.declared.job.Form.{Form}
 use Rattle.ipmi_commands.specs.declared.job.Job.{Job}
 use Rattle.ipmi_commands.specs.declared.job.NameLookup.{NameLookup}
-use Rattle.ipmi_commands.specs.Selection.{SelectedEntries}
+use Rattle.ipmi_selection.specs.Selection.{SelectedEntries}
 use Rattle.ipmi_commands.specs.Format.{Texts}
 use Rattle.ipmi_commands.specs.declared.named.RecordsEnd.{RecordsEnd}
 use Rattle.ipmi_commands.specs.Allowed.{cause_of, Change, change, EndsFor}
@@ -36,7 +36,7 @@ pub record ReadsThenPages (x : Texts) (selection : SelectedEntries) (from : Opti
   pub now : Seen
   pub kept : Output
   pub walked : Result RecordsEnd Failure
-  pub reads : ReadsRecords tries (change c.seen now no_output kept) walked
+  pub reads : ReadsRecords x tries (change c.seen now no_output kept) walked
   pub pages : PagesAfter x walked now (entries_with selection (records_in kept.bytes)) from tries sizes c ending
 
 -- Like `RunsInPages`, for all entries of the log, after the walk that reads the names of their
@@ -60,8 +60,3 @@ RunsPaged x (Job.Records l) tries sizes c ending =
 RunsPaged x (Job.NameLookup (NameLookup.Events selection Count.All from)) tries sizes c ending =
     RunsNamedInPages x selection from tries sizes c ending
 RunsPaged x _ tries sizes c ending = ⊥
-
--- the run in pages of a command with such a job
-abbrev pub RunsPagedCommand : Texts → Option Job → Tries → List ℕ → Change → Ending → Type 0
-RunsPagedCommand x (Some job) tries sizes c ending = RunsPaged x job tries sizes c ending
-RunsPagedCommand x None tries sizes c ending = ⊥

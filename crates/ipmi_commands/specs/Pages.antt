@@ -1,7 +1,7 @@
 -- A listing in pages: each page has its own cursor, which starts where the page before it stopped.
 use Rattle.std.specs.Prelude.{◌≡◌, ℕ, ◌+◌, ◌*◌, ◌<◌, ◌≤◌, ◌==◌, if◌then◌else◌, ◌⊎◌, IsTrue, Option, None, Some, IfOk, Result, Ok, Err, List, [], ◌∷◌}
 use Rattle.std.specs.FinSet as set
-use Rattle.ipmi_commands.specs.Below.{step_call_bound, digits, Place, First, End, Row, first_row, rows_of, WalkEnd, CycleAt, place_after_rows, CursorState, StandsAt, start_of, Seen, Ending, Failure}
+use Rattle.ipmi_commands.specs.Below.{step_call_bound, digits, Place, First, End, Row, first_row, rows_of, WalkEnd, CycleAt, place_after_rows, CursorState, StandsAt, start_of, Seen, Shelf, Ending, Failure}
 use Rattle.ipmi_commands.specs.declared.limits.Tries.{Tries}
 use Rattle.ipmi_commands.specs.declared.job.Form.{Form}
 use Rattle.ipmi_commands.specs.declared.limits.RequestLimits.{RequestLimits}
@@ -15,10 +15,10 @@ use Rattle.ipmi_commands.specs.Texts.{IsPieceOver}
 use Rattle.ipmi_commands.specs.Traced.{Traces}
 use Rattle.ipmi_commands.specs.Format.{Texts}
 
--- the initial cursor of a listing, at the id `from` or at the first record, with these limits
-abbrev pub listing_cursor : RequestLimits → Form → Option ℕ → CursorState
-listing_cursor limits form from = record {
-  shelf = shelf_of form;
+-- the initial cursor over a shelf, at the id `from` or at the first record, with these limits
+abbrev pub first_cursor : RequestLimits → Shelf → Option ℕ → CursorState
+first_cursor limits shelf from = record {
+  shelf = shelf;
   place = start_of from;
   part = limits.part;
   tries = limits.tries.count;
@@ -29,9 +29,9 @@ listing_cursor limits form from = record {
 
 -- the cursor is the initial one: its part size is at least 1 and has at most eight binary digits,
 -- and it has returned no rows
-pub record IsFresh (limits : RequestLimits) (form : Form) (from : Option ℕ)
+pub record IsFresh (limits : RequestLimits) (shelf : Shelf) (from : Option ℕ)
     (cursor : CursorState) : Type 0 where
-  pub is : cursor ≡ listing_cursor limits form from
+  pub is : cursor ≡ first_cursor limits shelf from
   pub some : 0 < cursor.part
   pub falls : digits cursor.part ≤ 8
   pub stands : (rows walk : List Row) → StandsAt rows (start_of from) walk 0 cursor

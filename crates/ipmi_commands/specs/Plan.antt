@@ -7,8 +7,8 @@ use Rattle.ipmi_records.specs.Sdr as sdr
 use Rattle.ipmi_commands.specs.declared.job.EntryText.{EntryText}
 use Rattle.ipmi_commands.specs.declared.job.Form.{Form}
 use Rattle.ipmi_commands.specs.declared.job.Listing.{Listing}
-use Rattle.ipmi_commands.specs.declared.format.Detail.{Detail}
-use Rattle.ipmi_commands.specs.Selection.{chosen, is_name, Selected, selects, selects_entry}
+use Rattle.ipmi_selection.specs.declared.detail.Detail.{Detail}
+use Rattle.ipmi_selection.specs.Selection.{chosen, is_name, Selected, selects, selects_entry}
 use Rattle.ipmi_commands.specs.Texts.{Subject, OfRow, OfInventory, OfInfo}
 
 -- `Holds` for each walk of a shelf from this place that has an end, and for that end; by a law of

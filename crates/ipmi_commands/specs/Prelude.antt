@@ -8,17 +8,14 @@ pub use Rattle.ipmi_commands.specs.Laws.{AreOfBytes, FinishedRunsAreOne, ItemsHa
 pub use Rattle.ipmi_commands.specs.Listing.{CallsAlong, Counted, CountsEntries, end_of, IsOnWalk, is_reached, KeepsListing, ListingCalls, Lists, ListsAfter, ListsAll, ListsAlong, ListsHonestly, OnEachWalk, ReachesEnd, WritesRecords, WritesWhole}
 pub use Rattle.ipmi_commands.specs.Meanwhile.{IsTextWhile, KeepsAt, KeepsFor, OnGrowingListing}
 pub use Rattle.ipmi_commands.specs.Output.{and_then, count_if, IsCut, no_output, OnBytes, Output, piece_of}
-pub use Rattle.ipmi_commands.specs.PagedRun.{entries_with, PagesAfter, ReadsThenPages, RunsNamedInPages, RunsPaged, RunsPagedCommand}
-pub use Rattle.ipmi_commands.specs.Pages.{ArePages, GoesOn, IsFresh, IsOneListing, IsOneListingAfter, IsOpen, IsPage, listing_cursor, PageAlong, pages_made, PageThen}
-pub use Rattle.ipmi_commands.specs.Plain.{descriptive_texts, in_parentheses, IsInventoryPiece, IsInventoryText, plain_texts}
+pub use Rattle.ipmi_commands.specs.PagedRun.{entries_with, PagesAfter, ReadsThenPages, RunsNamedInPages, RunsPaged}
+pub use Rattle.ipmi_commands.specs.Pages.{ArePages, GoesOn, IsFresh, IsOneListing, IsOneListingAfter, IsOpen, IsPage, first_cursor, PageAlong, pages_made, PageThen}
 pub use Rattle.ipmi_commands.specs.Plan.{after_names, AtInventory, AtRecord, counted, counts, device_points, end_after_names, points_at_walk_end, end_points_of_last, first_end, first_rows, info_plan, inventories_plan, inventory_item, inventory_plan, Item, kept_items, kept_plan, last_items, last_plan, last_rows, listed_points, listing_plan, locator_points, named_points, next_points, OnWalk, Plan, reading_points, row_items, rows_end, some_has_name, ReadPoint, points_because_of, points_of_rows, points_before, points_of_walk, text_plan, up_to, view_has_name, with_first_points, bytes_of_rows}
 pub use Rattle.ipmi_commands.specs.Printed.{faults_of, pieces_of, printed}
-pub use Rattle.ipmi_commands.specs.Run.{AnswersCommand, AnswersJob, AnswersLine, EndsNamed, EndsListing, FailsToRead, IsRewriting, IsSaving, job_of_command, LacksValue, last_call_bound, MayEnd, most_calls, most_named, most_on_tail, NoneIsTrue, OnGrowingEntries, OnGrowingLast, OnGrowingLastKept, OnGrowingNamed, OnGrowingPlan, OnListing, OnLast, OnLastKept, OnEntries, OnNamed, FollowsPlan, Prints, PrintsWhile, RetriesParts, Runs, RunsCommand, RunsInPages, RunsOver, Says, second_walk_bound, ShowsInventory, TracesJob, TroublesInARow, WritesPiece, WritesText}
-pub use Rattle.ipmi_commands.specs.Selection.{has_one_of, is_name, of_kind, row_is_of_kind, Selected, SelectedEntries, selects, selects_entry}
+pub use Rattle.ipmi_commands.specs.Run.{EndsNamed, EndsListing, IsRewriting, IsSaving, LacksValue, last_call_bound, MayEnd, most_calls, most_named, most_on_tail, NoneIsTrue, OnGrowingEntries, OnGrowingLast, OnGrowingLastKept, OnGrowingNamed, OnGrowingPlan, OnListing, OnLast, OnLastKept, OnEntries, OnNamed, FollowsPlan, Prints, PrintsWhile, RetriesParts, Runs, RunsCommand, RunsInPages, Says, second_walk_bound, ShowsInventory, TracesJob, TroublesInARow, WritesPiece, WritesText}
 pub use Rattle.ipmi_commands.specs.Tail.{after_points, has_last, id_in_run, IsTailStart, is_tail, OnGrowingTail, OnTail, OnTailFrom, OnTried, OnWhole, tail_from, TracesTail}
 pub use Rattle.ipmi_commands.specs.Texts.{IfChosen, IsBlockOfName, IsDevicePiece, IsListed, IsListedEntry, IsLocatorPiece, IsRecordText, IsRowText, IsTextOver, IsPieceOver, is_faulty, is_faulty_device, is_faulty_locator, is_faulty_row, is_faulty_there, OfInfo, OfInventory, OfRow, reading_by, reading_for, Subject}
 pub use Rattle.ipmi_commands.specs.Traced.{AreWithin, EndsPrinting, HasNoCursor, IsStopAmong, IsWithin, PrintsAfter, Traces, TracesFrom, TracesLast, TracesListing}
-pub use Rattle.ipmi_commands.specs.declared.format.Detail.{Detail}
 pub use Rattle.ipmi_commands.specs.declared.job.EntryText.{EntryText}
 pub use Rattle.ipmi_commands.specs.declared.job.Form.{Form}
 pub use Rattle.ipmi_commands.specs.declared.job.Job.{Job}

@@ -1,7 +1,6 @@
--- The contract of a run: over any controller, over an honest one, in pages, and over an image.
+-- The contract of a run: over any controller, over an honest one, and in pages; and of writing a whole image.
 use Rattle.std.specs.Prelude.{◌≡◌, ◌⊎◌, ℕ, ◌+◌, ◌*◌, ◌<◌, ◌≤◌, ◌-◌, IsTrue, false, Option, None, Some, Result, Ok, Err, List, [], length}
-use Rattle.ipmi_commands.specs.Below.{Count, device_name, image_text_of, Ended, FruEnded, LastCallSays, LastFailed, LastFruCallSays, NoneCame, NotPresent, RefusesRecord, RefusesValue, Seen, Shelf, start_of, Place, First, Sdr, Sel, Row, Store, Done, OnGrowing, WasLog, info_of, inventory_of, Keeps, WalkEnd, IsHonest, ImageFault, UsageFault, CommandState, Received, ReceivesText, Ending, Failure, failure_of_usage, said_of, status_of}
-use Rattle.ipmi_commands.specs.Plain.{plain_texts}
+use Rattle.ipmi_commands.specs.Below.{Count, device_name, image_text_of, Ended, FruEnded, LastCallSays, LastFailed, LastFruCallSays, NoneCame, NotPresent, RefusesRecord, RefusesValue, Seen, Shelf, start_of, Place, First, Sdr, Sel, Row, Store, Done, OnGrowing, WasLog, info_of, inventory_of, Keeps, WalkEnd, IsHonest, Received, ReceivesText, Ending, Failure, said_of, status_of}
 use Rattle.ipmi_image.specs.Snapshot.{Saved, saved_text_of}
 use Rattle.ipmi_commands.specs.declared.limits.Tries.{Tries}
 use Rattle.ipmi_commands.specs.declared.job.EntryText.{EntryText}
@@ -9,12 +8,12 @@ use Rattle.ipmi_commands.specs.declared.job.Form.{Form}
 use Rattle.ipmi_commands.specs.declared.job.Job.{Job}
 use Rattle.ipmi_commands.specs.declared.job.Listing.{Listing}
 use Rattle.ipmi_commands.specs.declared.job.NameLookup.{NameLookup}
-use Rattle.ipmi_commands.specs.declared.format.Detail.{Detail}
+use Rattle.ipmi_selection.specs.declared.detail.Detail.{Detail}
 use Rattle.ipmi_commands.specs.Format.{Texts}
 use Rattle.ipmi_commands.specs.declared.read_error.ReadError.{ReadError}
-use Rattle.ipmi_commands.specs.Allowed.{NoMemory, cause_of, ending_of, EndsFor, IsAllowed, IsFine, Change}
-use Rattle.ipmi_commands.specs.Calls.{calls_for_devices, calls_for_point, for_inventory, inventory_call_bound, walk_call_bound, most_on_walk}
-use Rattle.ipmi_commands.specs.Job.{named_entries, shelf_of, job_of, listing}
+use Rattle.ipmi_commands.specs.Allowed.{cause_of, ending_of, EndsFor, IsAllowed, Change}
+use Rattle.ipmi_commands.specs.Calls.{calls_for_devices, calls_for_point, inventory_call_bound, walk_call_bound, most_on_walk}
+use Rattle.ipmi_commands.specs.Job.{named_entries, shelf_of, listing}
 use Rattle.ipmi_commands.specs.Meanwhile.{IsTextWhile, OnGrowingListing}
 use Rattle.ipmi_commands.specs.Output.{and_then, IsCut, Output, piece_of}
 use Rattle.ipmi_commands.specs.Pages.{ArePages, IsOneListing, pages_made}
@@ -306,10 +305,6 @@ pub record Runs (x : Texts) (job : Job) (tries : Tries) (c : Change) (ending : E
   pub grows : IsHonest c.seen → PrintsWhile x job c ending
   pub traces : IsHonest c.seen → TracesJob x job c ending
 
--- the job of a command, in codes
-abbrev pub job_of_command : CommandState → Option Job
-job_of_command command = job_of plain_texts.has_names command.task command.from
-
 -- the run of a command over a controller: `image rewrite`, which has no job, makes no call, prints nothing
 -- and fails
 abbrev pub RunsCommand : Texts → Option Job → Tries → Change → Ending → Type 0
@@ -329,13 +324,7 @@ pub record RunsInPages (x : Texts) (form : Form) (start : Place) (tries : Tries)
   pub prints : IsHonest c.seen → c.seen'.stores_added ≡ c.seen.stores_added
       → IsOneListing x form start tries sizes c ending
 
--- ---- over an image
-
--- the run fails with this fault of the image, or is out of memory before it finds the fault;
--- nothing is written
-abbrev pub FailsToRead : ImageFault → Output → Output → Ending → Type 0
-FailsToRead fault old new ending =
-    (new ≡ old) × ((ending ≡ Err (Failure.Image fault)) ⊎ (ending ≡ Err Failure.OutOfMemory))
+-- ---- the text of a whole image
 
 -- the text is written; if out of memory, nothing is written
 abbrev pub WritesText : List ℕ → Output → Output → Ending → Type 0
@@ -349,29 +338,6 @@ IsRewriting store old new ending = WritesText (image_text_of store) old new endi
 -- that is the text of a snapshot
 abbrev pub IsSaving : Saved → Output → Output → Ending → Type 0
 IsSaving saved old new ending = WritesText (saved_text_of saved) old new ending
-
--- a run over the store of an image: of a job, which never gives up and is never refused, or `image
--- rewrite`
-abbrev pub RunsOver : Texts → Option Job → Store → Output → Output → Ending → Type 0
-RunsOver x None store old new ending = IsRewriting store old new ending
-RunsOver x (Some job) store old new ending =
-    FollowsPlan job (for_inventory 0) store (λ plan calls. IsAllowed (IsPieceOver x store) plan old new ending)
-    × IsFine (cause_of ending)
-
--- a job or `image rewrite` over an image, which has a store or a fault
-abbrev pub AnswersJob : Option Job → Result Store ImageFault → Output → Output → Ending → Type 0
-AnswersJob job (Ok store) old new ending = RunsOver plain_texts job store old new ending
-AnswersJob job (Err fault) old new ending = FailsToRead fault old new ending
-
-abbrev pub AnswersCommand : CommandState → Result Store ImageFault → Output → Output → Ending → Type 0
-AnswersCommand command image old new ending = AnswersJob (job_of_command command) image old new ending
-
--- the result of a command line over an image
-abbrev pub AnswersLine : Result CommandState UsageFault → Result Store ImageFault → Output → Output
-    → Ending → Type 0
-AnswersLine (Ok command) image old new ending = AnswersCommand command image old new ending
-AnswersLine (Err fault) image old new ending =
-    (ending ≡ Err (failure_of_usage fault)) × (new ≡ old)
 
 -- ---- the status and the message
 

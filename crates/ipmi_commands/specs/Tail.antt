@@ -8,7 +8,7 @@ use Rattle.ipmi_commands.specs.declared.job.Form.{Form}
 use Rattle.ipmi_commands.specs.Allowed.{cause_of, Change, change}
 use Rattle.ipmi_commands.specs.Calls.{walk_call_bound}
 use Rattle.ipmi_commands.specs.Plan.{AtRecord, end_points_of_last, kept_plan, next_points, OnWalk, Plan, points_of_walk, ReadPoint, with_first_points}
-use Rattle.ipmi_commands.specs.Selection.{chosen}
+use Rattle.ipmi_selection.specs.Selection.{chosen}
 use Rattle.ipmi_commands.specs.Traced.{IsStopAmong, TracesLast}
 use Rattle.ipmi_commands.specs.Format.{Texts}
 

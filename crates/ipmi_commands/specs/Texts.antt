@@ -2,12 +2,12 @@
 use Rattle.std.specs.Prelude.{◌≡◌, ℕ, ◌==◌, not, Bool, true, false, is_err, Option, Some, None, Result, Ok, Err, List, []}
 use Rattle.ipmi_commands.specs.Below.{known, Reading, Row, Store, inventory_of, reading_of, SdrFault, SdrView, Shelf, printed_name, sel_view_of}
 use Rattle.ipmi_records.specs.Sdr as sdr
-use Rattle.ipmi_commands.specs.declared.format.Detail.{Detail}
+use Rattle.ipmi_selection.specs.declared.detail.Detail.{Detail}
 use Rattle.ipmi_commands.specs.declared.job.EntryText.{EntryText}
 use Rattle.ipmi_commands.specs.declared.job.Form.{Form}
 use Rattle.ipmi_commands.specs.Format.{IsTextOfRecord, Texts}
 use Rattle.ipmi_commands.specs.Output.{piece_of, Output}
-use Rattle.ipmi_commands.specs.Selection.{is_name, Selected, selects, selects_entry}
+use Rattle.ipmi_selection.specs.Selection.{is_name, Selected, selects, selects_entry}
 
 -- ---- selection
 

@@ -10,7 +10,7 @@ use Rattle.ipmi_commands.specs.Allowed.{Cause, Change, change, cause_of, ending_
 use Rattle.ipmi_commands.specs.Job.{shelf_of}
 use Rattle.ipmi_commands.specs.Meanwhile.{KeepsAt}
 use Rattle.ipmi_commands.specs.Plan.{counted, first_rows, kept_items, last_rows, points_because_of, ReadPoint}
-use Rattle.ipmi_commands.specs.Selection.{chosen}
+use Rattle.ipmi_selection.specs.Selection.{chosen}
 use Rattle.ipmi_commands.specs.Texts.{IsPieceOver, OfRow}
 
 -- the cursor made these steps; after the last one the controller may have got other requests

@@ -5,7 +5,7 @@ ghost use Rattle.ipmi_commands.specs.Named.{PrintsDevices, PrintsLocated, Prints
 ghost use Rattle.ipmi_commands.specs.declared.job.NameLookup.{NameLookup};
 ghost use Rattle.ipmi_commands.specs.Prelude.{change, EndsNamed, inventory_call_bound, printed, RetriesParts};
 
-use crate::format::{Detail, Format};
+use crate::format::Format;
 use crate::inventory::locator_piece;
 use crate::limits::RequestLimits;
 use crate::named::RecordsEnd;
@@ -14,6 +14,7 @@ use crate::summary::Summary;
 use ipmi_bus::Controller;
 use ipmi_events::{device_name, split_record};
 use ipmi_output::{Failure, Sink};
+use ipmi_selection::Detail;
 use std::alloc::Global;
 
 /// Prints the inventory of the device that this sensor data record locates. Prints nothing for any

@@ -1,24 +1,14 @@
 //! A form of output: which text is printed for each thing, whatever the command.
 ghost use Rattle.std.specs.Prelude.{◌≡◌, ◌<◌, ◌≤◌, IfOk, length, option_map, unwrap_or};
 ghost use Rattle.ipmi_commands.specs.Below.{row_of_record};
-ghost use Rattle.ipmi_commands.specs.Format.{IsTextOfRecord, Texts, TextsAreOne, TextsExist};
+ghost use Rattle.ipmi_commands.specs.Format.{Frame, IsTextOfRecord, Texts, TextsAreOne, TextsExist};
 
 use ipmi_bus::{Record, Shelf};
 use ipmi_events::Sensors;
 use ipmi_image::LineBuffer;
 use ipmi_records::{KnownReading, SdrFault, SdrView, SelView};
+use ipmi_selection::Detail;
 use std::alloc::{AllocError, Global};
-
-/// How much a command prints of a record, an entry or a device. A form of output may have the same text for several.
-#[derive(Clone, Copy, Debug, PartialEq, Eq)]
-pub enum Detail {
-    /// A line.
-    Line,
-    /// The longer line of `sdr elist`.
-    Long,
-    /// A block of lines.
-    Block,
-}
 
 /// A form of output. The engine reads from the controller and chooses; a form of output only makes the texts, each of whole lines
 /// and none empty. What is proved of a run speaks of the texts that `texts` names, so they are for a reader to judge.
@@ -106,6 +96,51 @@ pub trait Format {
     /// A law of each form of output: a thing has at most one text. Does nothing.
     fn one_text(&self)
         ensures { TextsAreOne (texts self.now) };
+}
+
+/// What a command prints, as the header of a form of output may name it.
+#[derive(Clone, Copy, Debug, PartialEq, Eq)]
+pub enum Table {
+    /// Sensor data records, also those with a fault.
+    Records,
+    /// Sensor data records as bytes.
+    RawRecords,
+    /// Entries of the event log.
+    Entries,
+    /// Infos of a shelf.
+    Infos,
+    /// Devices with their inventories.
+    Devices,
+}
+
+/// A form of output with what comes before and after the texts of a run. A form that has neither says so, and its texts here are empty.
+pub trait Framed: Format {
+    /// What these texts are.
+    ghost frame: { Self → Frame };
+
+    /// Whether there is a text before all others.
+    fn has_header(&self) -> bool
+        ensures { result ≡ (frame self.now).has_header };
+
+    /// The text before all others, which names what is printed.
+    fn header(&self, alloc: Global, table: Table) -> Result<Vec<u8>, AllocError>
+        ensures { IfOk result (λ text. (frame self.now).IsHeader table text.items) };
+
+    /// Whether there is a text at the end of each run.
+    fn has_end(&self) -> bool
+        ensures { result ≡ (frame self.now).has_end };
+
+    /// The text at the end of a run: its exit status, why it ended, its message if there is one, and how many texts it printed.
+    fn end(
+        &self,
+        alloc: Global,
+        status: u8,
+        reason: &'static str,
+        message: Option<&str>,
+        count: u64,
+    ) -> Result<Vec<u8>, AllocError>
+        ensures { IfOk result (λ text. (frame self.now).IsEnd status reason.entry.now
+            (option_map (λ message. message.now) message.entry) count text.items) };
 }
 
 /// A form of output of which it is proved that each thing has a text.

@@ -4,12 +4,13 @@ ghost use Rattle.ipmi_commands.specs.Below.{as_inventory, AsksAtMost, LastFailed
 ghost use Rattle.ipmi_commands.specs.declared.job.Form.{Form};
 ghost use Rattle.ipmi_commands.specs.Prelude.{LacksInventory, inventory_call_bound, is_absent, Finds, FindsLocator, IsCountedDevice, is_faulty_device, IsPieceOver, AtInventory, device_points, locator_points, NoneIsTrue, OfInventory, OfRow, shown, ShowsDevice, ShowsInventory, ShowsLocator, ReadsFor, RetriesParts, failure_of, unread_inventory};
 
-use crate::format::{Detail, Format};
+use crate::format::Format;
 use crate::limits::RequestLimits;
 use crate::piece::Piece;
 use crate::read_error::ReadError;
 use ipmi_bus::{Code, Controller, FruEnded, read_fru, read_fru_retrying_parts};
 use ipmi_records::{SdrView, push_name};
+use ipmi_selection::Detail;
 use std::alloc::{AllocError, Global};
 
 /// Whether the controller has no such inventory.

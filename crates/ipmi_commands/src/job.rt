@@ -7,12 +7,12 @@ ghost use Rattle.ipmi_commands.specs.declared.job.Job.{Job};
 ghost use Rattle.ipmi_commands.specs.Listing.{end_of};
 ghost use Rattle.ipmi_commands.specs.Plan.{counts};
 
-use crate::format::{Detail, Format};
-use crate::selection::{EntrySelection, Selection};
+use crate::format::Format;
 use ipmi_bus::{Place, Record, Shelf};
 use ipmi_command_line::{Count, Filters, Task};
 use ipmi_events::Sensors;
 use ipmi_output::{Failure, RecordName};
+use ipmi_selection::{Detail, EntrySelection, Selection};
 
 /// The text of an entry of the event log: which entries have one, and the sensors that have names in it, if they were read.
 #[derive(Drop)]

@@ -13,12 +13,12 @@ use crate::job::{EntryText, Form};
 use crate::limits::RequestLimits;
 use crate::pages::start_cursor;
 use crate::perform::write_piece;
-use crate::piece::{entry_bytes, entry_text};
-use crate::selection::EntrySelection;
+use crate::piece::entry_text;
 use crate::summary::Summary;
-use ipmi_bus::{Controller, Cursor, Record, SEL_ENTRY_LEN};
+use ipmi_bus::{Controller, Cursor, Record, SEL_ENTRY_LEN, Shelf};
 use ipmi_output::{Failure, Sink};
 use ipmi_records::SelView;
+use ipmi_selection::{EntrySelection, entry_bytes};
 use std::alloc::{AllocError, Global};
 use std::collections::VecDeque;
 
@@ -151,7 +151,7 @@ pub(crate) fn keep_entries<'a, F: Format, C: Controller>(
     ensures honest { IsHonest (C.seen ctl.old) → (text : Output) → KeepsEntries (F.texts format.now) selection.now kept.old.most (start_of from)
         limits.tries (C.seen ctl.old) (C.seen ctl.new) text kept.new.entries.items result }
 {
-    let mut cursor = start_cursor(alloc, limits, &Form::Skipped, from)?;
+    let mut cursor = start_cursor(alloc, limits, Shelf::Sel, from)?;
     keep_after(&mut cursor, ctl, format, selection, kept)
 }
 

@@ -1,6 +1,6 @@
 //! Lists the last entries of the event log: one walk counts the entries, a second one lists the last of them.
 ghost use Rattle.std.specs.Prelude.{◌≡◌, ◌+◌, ◌≤◌, ℕ, Option};
-ghost use Rattle.ipmi_commands.specs.Below.{AsksAtMost, start_of, IsHonest, write_faults};
+ghost use Rattle.ipmi_commands.specs.Below.{AsksAtMost, start_of, IsHonest, Sel, write_faults};
 ghost use Rattle.ipmi_commands.specs.declared.job.Form.{Form};
 ghost use Rattle.ipmi_commands.specs.declared.job.Job.{Job};
 ghost use Rattle.ipmi_commands.specs.Prelude.{change, CountsEntries, ending_of, EndsListing, IsFresh, IsFrom, ListsAfter, most_on_walk, printed, Runs};
@@ -11,7 +11,7 @@ use crate::limits::RequestLimits;
 use crate::listing::list_records;
 use crate::pages::start_cursor;
 use crate::summary::Summary;
-use ipmi_bus::{Controller, Cursor};
+use ipmi_bus::{Controller, Cursor, Shelf};
 use ipmi_output::{Failure, Sink};
 use std::alloc::Global;
 
@@ -35,7 +35,7 @@ fn count_entries<'a, F: Format, C: Controller, O: Sink>(
         CountsEntries (F.texts format.now) (start_of from) limits.tries (change (C.seen ctl.old) (C.seen ctl.new)
         (printed (O.taken out.old) summary.old) (printed (O.taken out.new) summary.new)) result }
 {
-    let mut cursor = start_cursor(alloc, limits, &Form::Skipped, from)?;
+    let mut cursor = start_cursor(alloc, limits, Shelf::Sel, from)?;
     list_records(
         alloc,
         &mut cursor,
@@ -62,7 +62,7 @@ fn list_rest<'a, F: Format, C: Controller, O: Sink>(
     out: &mut O,
     summary: &mut Summary,
 ) -> Result<(), Failure<'a>>
-    requires { (from : Option ℕ) × IsFresh limits Form.Skipped from cursor.old }
+    requires { (from : Option ℕ) × IsFresh limits Sel from cursor.old }
     ensures faults { O.faults out.new ≡ O.faults out.old + write_faults result }
     ensures asked { AsksAtMost limits.part (C.seen ctl.old) (C.seen ctl.new) }
     ensures ends { EndsListing (Form.Entry entries.entry) (C.seen ctl.new) result }
@@ -123,7 +123,7 @@ fn list_after<'a, F: Format, C: Controller, O: Sink>(
         ListsAfter (F.texts format.now) entries.entry (start_of from) passed limits.tries (change (C.seen ctl.old) (C.seen ctl.new)
         (printed (O.taken out.old) summary.old) (printed (O.taken out.new) summary.new)) result }
 {
-    let mut cursor = start_cursor(alloc, limits, &Form::Skipped, from)?;
+    let mut cursor = start_cursor(alloc, limits, Shelf::Sel, from)?;
     list_rest(
         alloc,
         &mut cursor,

@@ -1,6 +1,5 @@
 //! Laws of plans. They follow from the definitions of plans. Each law is the contract of a function that does nothing.
 ghost use Rattle.ipmi_commands.specs.Prelude.{FinishedRunsAreOne, ItemsHaveAText, ItemsHaveOneText, TailsAreOfTheLog};
-ghost use Rattle.ipmi_commands.specs.Sensors.{BlocksAreOfListing};
 
 use crate::format::{Format, Total};
 
@@ -26,12 +25,6 @@ pub fn finished_runs_are_one<F: Format>(format: &F)
     ipmi_bus::laws::one_walk_has_an_end();
     ipmi_bus::laws::what_is_found_is_a_row();
 }
-
-/// What is printed of the sensors that one search for several names found along a walk is, for each of the names, what a
-/// listing of this name prints of the walk. If nothing is counted, that listing fails as no record has the name.
-pub fn blocks_are_of_a_listing<F: Format>(_format: &F)
-    ensures { BlocksAreOfListing (F.texts _format.now) }
-{}
 
 /// If the log has an entry with an id, and the walk from it has so many entries or more, its last ones are those of the log.
 pub fn tails_are_of_the_log()

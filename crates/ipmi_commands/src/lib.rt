@@ -1,4 +1,4 @@
-//! Runs the commands of `ipmitool` over any controller or over a saved image.
+//! What a command prints of a controller, in any form of output, and how its run may end.
 #![tactic(auto)]
 
 mod devices;
@@ -15,19 +15,17 @@ mod named;
 mod pages;
 mod perform;
 mod piece;
-mod plain;
 mod read_error;
 mod runs;
-mod selection;
-mod sensors;
 mod summary;
 mod tail;
 
-pub use format::{Detail, Format, Total};
+pub use format::{Format, Framed, Table, Total};
 pub use job::Job;
 pub use limits::{LIVE_PART, RequestLimits, Tries};
-pub use perform::{execute, execute_pages};
-pub use plain::{Descriptive, Plain};
-pub use runs::{answer, execute_image, report, run, run_pages, write_image, write_snapshot};
-pub use sensors::{FoundSensor, FoundSensors, Sought, find_sensors, print_sensors};
+pub use pages::start_cursor;
+pub use perform::{execute, execute_pages, write_piece};
+pub use piece::reading_for;
+pub use read_error::ReadError;
+pub use runs::{report, write_image, write_snapshot};
 pub use summary::Summary;

@@ -11,13 +11,12 @@ use crate::job::{EntryText, Form, Listing, NameLookup};
 use crate::limits::RequestLimits;
 use crate::pages::{list_page, list_pages};
 use crate::perform::list_entries;
-use crate::plain::Plain;
-use crate::selection::EntrySelection;
 use crate::summary::Summary;
 use ipmi_bus::{Controller, Ended, Place};
 use ipmi_command_line::Count;
 use ipmi_events::Sensors;
 use ipmi_output::{Failure, Sink, Written};
+use ipmi_selection::EntrySelection;
 use std::alloc::Global;
 
 /// How a walk of the sensor data records ended.
@@ -97,22 +96,23 @@ fn list_events<'a, F: Format, C: Controller, O: Sink>(
 }
 
 /// Writes the bytes of all sensor data records to `records`. Returns how their walk ended.
-fn read_records<'a, C: Controller, O: Sink>(
+fn read_records<'a, F: Format, C: Controller, O: Sink>(
     alloc: Global,
     ctl: &mut C,
     limits: RequestLimits,
+    format: &F,
     records: &mut O,
     summary: &mut Summary,
 ) -> Result<RecordsEnd, Failure<'a>>
     ensures asked { AsksAtMost limits.part (C.seen ctl.old) (C.seen ctl.new) }
-    ensures reads { ReadsRecords limits.tries
+    ensures reads { ReadsRecords (F.texts format.now) limits.tries
         (change (C.seen ctl.old) (C.seen ctl.new) (printed (O.taken records.old) summary.old) (printed (O.taken records.new) summary.new)) result }
 {
     let listed = list_page(
         alloc,
         ctl,
         limits,
-        &Plain,
+        format,
         &Form::Bytes,
         Place::First,
         None,
@@ -143,7 +143,7 @@ pub(crate) fn list_named<'a, F: Format, C: Controller, O: Sink>(
     ipmi_events::laws::records_are_found_again();
     let mut records = Written::new(Vec::new(alloc));
     let mut counted = Summary::new();
-    let walked = read_records(alloc, ctl, limits, &mut records, &mut counted)?;
+    let walked = read_records(alloc, ctl, limits, format, &mut records, &mut counted)?;
     let records = records.into_inner();
     match named {
         NameLookup::Events(selection, count, from) => {
@@ -181,7 +181,7 @@ pub(crate) fn list_named_pages<'a, F: Format, C: Controller, O: Sink>(
     ipmi_events::laws::records_are_found_again();
     let mut records = Written::new(Vec::new(alloc));
     let mut counted = Summary::new();
-    let walked = read_records(alloc, ctl, limits, &mut records, &mut counted)?;
+    let walked = read_records(alloc, ctl, limits, format, &mut records, &mut counted)?;
     let entries = EntryText::named(selection, Sensors::of(alloc, records.into_inner())?);
     let listing = Listing::new(Form::Entry(entries), from, None);
     list_pages(

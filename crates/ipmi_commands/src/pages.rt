@@ -8,29 +8,22 @@ use crate::job::Form;
 use crate::limits::RequestLimits;
 use crate::listing::{is_reached, list_records};
 use crate::summary::Summary;
-use ipmi_bus::{Controller, Cursor, Ended, FIRST_RECORD_ID, Place};
+use ipmi_bus::{Controller, Cursor, Ended, FIRST_RECORD_ID, Place, Shelf};
 use ipmi_output::{Failure, Sink};
 use std::alloc::{AllocError, Global};
 
-/// A cursor over the records that are printed in this form, starting at the id `from` or at the first record. It has
-/// these limits.
-pub(crate) fn start_cursor(
+/// A cursor over the records of the shelf, starting at the id `from` or at the first record. It has these limits.
+pub fn start_cursor(
     alloc: Global,
     limits: RequestLimits,
-    form: &Form<'_>,
+    shelf: Shelf,
     from: Option<u16>,
 ) -> Result<Cursor, AllocError>
     requires { IsFrom from }
-    ensures { IfOk result (λ cursor. IsFresh limits form.now from cursor) }
+    ensures { IfOk result (λ cursor. IsFresh limits shelf from cursor) }
 {
     ipmi_bus::laws::a_part_size_has_few_digits();
-    let mut cursor = Cursor::start(
-        alloc,
-        form.shelf(),
-        from,
-        limits.part(),
-        limits.tries().count,
-    )?;
+    let mut cursor = Cursor::start(alloc, shelf, from, limits.part(), limits.tries().count)?;
     cursor.read_ahead(limits.reads_ahead());
     Ok(cursor)
 }
@@ -62,7 +55,7 @@ fn list_from<'a, F: Format, C: Controller, O: Sink>(
         IsPage (F.texts format.now) form.now (start_of from) limits.tries most (change (C.seen ctl.old) (C.seen ctl.new)
         (printed (O.taken out.old) summary.old) (printed (O.taken out.new) summary.new)) result }
 {
-    let mut cursor = start_cursor(alloc, limits, form, from)?;
+    let mut cursor = start_cursor(alloc, limits, form.shelf(), from)?;
     list_records(
         alloc,
         &mut cursor,

@@ -6,7 +6,7 @@ ghost use Rattle.ipmi_commands.specs.declared.job.Job.{Job};
 ghost use Rattle.ipmi_commands.specs.declared.job.Listing.{Listing};
 ghost use Rattle.ipmi_commands.specs.Prelude.{change, entries_job, IsFrom, IsJob, IsPlace, keeping_last, listing, lists_all, piece_of, printed, RetriesParts, Runs, RunsPaged, WritesPiece};
 
-use crate::format::{Detail, Format};
+use crate::format::Format;
 use crate::info::info_text;
 use crate::inventory::inventory_in;
 use crate::job::{EntryText, Form, Job, Listing, NameLookup};
@@ -20,10 +20,11 @@ use crate::tail::list_tail;
 use ipmi_bus::{Controller, Place, Shelf};
 use ipmi_command_line::Count;
 use ipmi_output::{Failure, RecordName, Sink, write_all};
+use ipmi_selection::Detail;
 use std::alloc::Global;
 
 /// Writes the text of an item, which has a fault or none, and counts the item.
-pub(crate) fn write_piece<'a, O: Sink>(
+pub fn write_piece<'a, O: Sink>(
     text: &[u8],
     has_fault: bool,
     out: &mut O,

@@ -3,32 +3,24 @@
 ghost use Rattle.std.specs.Prelude.{◌≡◌, ◌+◌, ◌≤◌, ℕ, false, Err, IfErr, IfOk, length, List, Ok, option_map, string_bytes, unwrap_or};
 ghost use Rattle.ipmi_commands.specs.Below.{AsksAtMost, row_of_record, IsHonest, IsStateOf, largest_len, whole_len, sdr_view_of};
 ghost use Rattle.ipmi_records.specs.Sdr.{name_of};
-ghost use Rattle.ipmi_commands.specs.Selection.{is_passed};
+ghost use Rattle.ipmi_selection.specs.Selection.{is_passed};
 ghost use Rattle.ipmi_commands.specs.declared.job.Form.{Form};
 ghost use Rattle.ipmi_commands.specs.Prelude.{failure_of, RetriesParts, PieceErrorIsTrue, LacksValue, bytes_of, Finds, IfChosen, IsBlockOfName, IsPieceOver, listed_points, most_after, named_points, OfRow, reading_for, reading_points, row_has_fault, row_piece, shelf_of, shown, ShowsRow, points_because_of};
 
-use crate::format::{Detail, Format};
+use crate::format::Format;
 use crate::inventory::locator_piece;
 use crate::job::{EntryText, Form};
 use crate::limits::{RequestLimits, Tries};
 use crate::read_error::ReadError;
-use crate::selection::{Selection, is_name};
-use ipmi_bus::{Controller, Record, SEL_ENTRY_LEN, read_reading};
+use ipmi_bus::{Controller, Record, read_reading};
 use ipmi_image::LineBuffer;
 use ipmi_records::{KnownReading, SdrView, SelView};
+use ipmi_selection::{Detail, Selection, entry_bytes, is_name};
 use ipmi_text::Reading;
 use std::alloc::{AllocError, Global};
 
-/// The bytes of an event log entry, as an array.
-pub(crate) fn entry_bytes(bytes: &[u8]) -> &[u8; SEL_ENTRY_LEN]
-    requires { length bytes.now ≡ 16 }
-    ensures { result.now ≡ bytes.now }
-{
-    bytes.first_chunk::<SEL_ENTRY_LEN>().unwrap()
-}
-
 /// Requests the reading that belongs to a record, if there is one. An `Ended` in the error names the record's id.
-pub(crate) fn reading_for<C: Controller>(
+pub fn reading_for<C: Controller>(
     ctl: &mut C,
     id: u16,
     view: &SdrView<'_>,

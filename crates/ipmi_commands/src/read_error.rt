@@ -8,7 +8,7 @@ use std::alloc::AllocError;
 
 /// Why the text of a record, an info or an inventory is missing.
 #[derive(Clone, Copy)]
-pub(crate) enum ReadError {
+pub enum ReadError {
     /// A reading or an info was not read, for this reason.
     Ended(Ended),
     /// The inventory of the FRU device with this id was not read, for this reason.

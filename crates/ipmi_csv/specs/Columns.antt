@@ -1,7 +1,7 @@
 -- The columns of each table: the keys of the members, or both keys of a member of an area. A key that only some kinds have is a
 -- column too. Lists have no column.
 use Rattle.std.specs.Prelude.{ℕ, List, [], ◌∷◌, codes}
-use Rattle.ipmi_csv.specs.declared.columns.Table.{Table}
+use Rattle.ipmi_commands.specs.declared.format.Table.{Table}
 
 abbrev pub columns_of : Table → List (List ℕ)
 columns_of Table.Records =

@@ -1,7 +1,7 @@
 -- CSV as a form of output: each thing has one row, whatever the detail.
-use Rattle.std.specs.Prelude.{true, ℕ, List, ◌++◌, map, Some}
+use Rattle.std.specs.Prelude.{◌≡◌, true, ℕ, List, ◌++◌, map, Some}
 use Rattle.ipmi_fru.specs.Fault.{has_fault}
-use Rattle.ipmi_commands.specs.Format.{Texts}
+use Rattle.ipmi_commands.specs.Format.{Frame, Texts, no_frame}
 use Rattle.ipmi_json.specs.Format.{info_object}
 use Rattle.ipmi_json.specs.Fru.{AreFruMembers, elsewhere_members}
 use Rattle.ipmi_json.specs.Info.{AreInfoMembers}
@@ -12,7 +12,7 @@ use Rattle.ipmi_csv.specs.Cells.{csv_row}
 use Rattle.ipmi_csv.specs.Columns.{columns_of}
 use Rattle.ipmi_csv.specs.Values.{IsRowOf, IsRowOfSome}
 use Rattle.ipmi_command_line.specs.declared.request.Separator.{Separator}
-use Rattle.ipmi_csv.specs.declared.columns.Table.{Table}
+use Rattle.ipmi_commands.specs.declared.format.Table.{Table}
 
 -- the line before the rows of a table: the keys of its columns, and of the labels
 abbrev pub header : Separator → List Label → Table → List ℕ
@@ -29,4 +29,11 @@ csv_texts separator labels = record {
   IsElsewhere = λ name text. IsRowOf separator labels (columns_of Table.Devices) (elsewhere_members (Some name)) text;
   names_fault = λ detail bytes. has_fault bytes;
   has_names = λ detail. true;
+}
+
+-- the names of columns come before all rows
+abbrev pub csv_frame : Separator → List Label → Frame
+csv_frame separator labels = record no_frame {
+  has_header = true;
+  IsHeader = λ table text. text ≡ header separator labels table;
 }

@@ -2,20 +2,7 @@
 ghost use Rattle.std.specs.Prelude.{◌≡◌, map};
 ghost use Rattle.ipmi_csv.specs.Columns.{columns_of};
 
-/// What a command prints rows of. Each has columns of its own.
-#[derive(Clone, Copy, Debug, PartialEq, Eq)]
-pub enum Table {
-    /// Sensor data records, also those with a fault.
-    Records,
-    /// Sensor data records as bytes.
-    RawRecords,
-    /// Entries of the event log.
-    Entries,
-    /// Infos of a shelf.
-    Infos,
-    /// Devices with their inventories.
-    Devices,
-}
+use ipmi_commands::Table;
 
 /// The columns of a table.
 pub(crate) fn columns_of(table: Table) -> &'static [&'static str]

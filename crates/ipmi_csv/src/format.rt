@@ -1,14 +1,13 @@
 //! CSV as a form of output.
 ghost use Rattle.std.specs.Prelude.{◌≡◌, ◌++◌, IfOk, map, OnOk};
-ghost use Rattle.ipmi_csv.specs.Format.{header};
 ghost use Rattle.ipmi_json.specs.Format.{info_object};
 
 use crate::cells::csv_row;
-use crate::columns::{Table, columns_of};
+use crate::columns::columns_of;
 use crate::row::Row;
 use ipmi_bus::{Record, Shelf};
 use ipmi_command_line::Separator;
-use ipmi_commands::{Detail, Format};
+use ipmi_commands::{Format, Framed, Table};
 use ipmi_events::Sensors;
 use ipmi_fru::has_fault;
 use ipmi_image::LineBuffer;
@@ -17,6 +16,7 @@ use ipmi_json::{
     tell_raw_record, tell_record,
 };
 use ipmi_records::{KnownReading, SdrFault, SdrView, SelView};
+use ipmi_selection::Detail;
 use std::alloc::{AllocError, Global};
 
 /// CSV: a row for each record, entry, device and info, with the values of its JSON object. Events have the names of their
@@ -38,17 +38,6 @@ fn push_keys<'a>(keys: &mut Vec<&'a str>, labels: &[Label<'a>]) -> Result<(), Al
         keys.push(label.key)?;
     }
     Ok(())
-}
-
-impl Csv<'_> {
-    /// The header line of a table: the keys of its columns, and of the labels.
-    pub fn header(&self, alloc: Global, table: Table) -> Result<Vec<u8>, AllocError>
-        ensures { IfOk result (λ line. line.items ≡ header self.now.separator self.now.labels.now table) }
-    {
-        let mut keys = Vec::from_slice(alloc, columns_of(table))?;
-        push_keys(&mut keys, self.labels)?;
-        csv_row(alloc, self.separator, keys.as_slice())
-    }
 }
 
 /// The word for the object of an info.
@@ -150,5 +139,36 @@ impl Format for Csv<'_> {
 
     fn one_text(&self) {
         ipmi_json::laws::one_list_of_members();
+    }
+}
+
+impl Framed for Csv<'_> {
+    ghost use Rattle.ipmi_csv.specs.Format.{csv_frame};
+
+    ghost frame = { λ csv. csv_frame csv.separator csv.labels.now };
+
+    fn has_header(&self) -> bool {
+        true
+    }
+
+    fn header(&self, alloc: Global, table: Table) -> Result<Vec<u8>, AllocError> {
+        let mut keys = Vec::from_slice(alloc, columns_of(table))?;
+        push_keys(&mut keys, self.labels)?;
+        csv_row(alloc, self.separator, keys.as_slice())
+    }
+
+    fn has_end(&self) -> bool {
+        false
+    }
+
+    fn end(
+        &self,
+        alloc: Global,
+        _status: u8,
+        _reason: &'static str,
+        _message: Option<&str>,
+        _count: u64,
+    ) -> Result<Vec<u8>, AllocError> {
+        Ok(Vec::new(alloc))
     }
 }

@@ -7,5 +7,4 @@ mod format;
 pub mod laws;
 mod row;
 
-pub use columns::Table;
 pub use format::Csv;

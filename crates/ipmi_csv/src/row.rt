@@ -7,8 +7,9 @@ ghost use Rattle.ipmi_csv.specs.Row.{add, begin, deeper, end, key_in, name_of, n
 ghost use Rattle.ipmi_csv.specs.Values.{IsRowOf, text_of};
 
 use crate::cells::csv_row;
-use crate::columns::{Table, columns_of};
+use crate::columns::columns_of;
 use ipmi_command_line::Separator;
+use ipmi_commands::Table;
 use ipmi_json::{Label, Members, Value};
 use std::alloc::{AllocError, Global};
 

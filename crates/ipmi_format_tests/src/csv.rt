@@ -8,12 +8,13 @@ use crate::json::inventories::{MIXED, PRODUCT};
 use crate::json::records::{COMPACT, DOOR, FAULTY, FULL, HOT, OTHER};
 use ipmi_bus::{Record, Shelf};
 use ipmi_command_line::Separator;
-use ipmi_commands::{Detail, Format};
-use ipmi_csv::{Csv, Table};
+use ipmi_commands::{Format, Framed, Table};
+use ipmi_csv::Csv;
 use ipmi_events::Sensors;
 use ipmi_image::LineBuffer;
 use ipmi_json::Label;
 use ipmi_records::{KnownReading, SdrFault, SdrView, SelView};
+use ipmi_selection::Detail;
 use std::alloc::{AllocError, Global};
 use std::process::Abort;
 

@@ -4,10 +4,10 @@ use Rattle.ipmi_bus.specs.Shelf.{Row}
 use Rattle.ipmi_bus.specs.declared.controller.Shelf.{Shelf}
 use Rattle.ipmi_bus.specs.declared.controller.Shelf.TheVariants.{Sdr, Sel}
 use Rattle.ipmi_fru.specs.Fault.{has_fault}
-use Rattle.ipmi_commands.specs.Format.{Texts}
+use Rattle.ipmi_commands.specs.Format.{Frame, Texts, no_frame}
 use Rattle.ipmi_json.specs.declared.object.Label.{Label}
 use Rattle.ipmi_json.specs.Fru.{elsewhere_members, IsFruLine}
-use Rattle.ipmi_json.specs.Info.{IsInfoLine}
+use Rattle.ipmi_json.specs.Info.{IsInfoLine, end_members}
 use Rattle.ipmi_json.specs.Object.{IsLineOf}
 use Rattle.ipmi_json.specs.Sdr.{bytes_members, fault_members, IsSdrLine}
 use Rattle.ipmi_json.specs.Sel.{IsSelLine}
@@ -28,4 +28,11 @@ json_texts labels = record {
   IsElsewhere = λ name text. IsLineOf (elsewhere_members (Some name)) labels text;
   names_fault = λ detail bytes. has_fault bytes;
   has_names = λ detail. true;
+}
+
+-- the object `end` follows the objects of a run
+abbrev pub json_frame : List Label → Frame
+json_frame labels = record no_frame {
+  has_end = true;
+  IsEnd = λ status reason message count text. IsLineOf (end_members status reason message count) labels text;
 }

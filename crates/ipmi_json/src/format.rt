@@ -1,15 +1,16 @@
 //! JSON as a form of output.
 use crate::fru::{fru_elsewhere_line, fru_line};
-use crate::info::{sdr_info_line, sel_info_line};
+use crate::info::{end_line, sdr_info_line, sel_info_line};
 use crate::object::Label;
 use crate::sdr::{sdr_fault_line, sdr_raw_line, sdr_record_line};
 use crate::sel::sel_entry_line;
 use ipmi_bus::{Record, Shelf};
-use ipmi_commands::{Detail, Format};
+use ipmi_commands::{Format, Framed, Table};
 use ipmi_events::Sensors;
 use ipmi_fru::has_fault;
 use ipmi_image::LineBuffer;
 use ipmi_records::{KnownReading, SdrFault, SdrView, SelView};
+use ipmi_selection::Detail;
 use std::alloc::{AllocError, Global};
 
 /// JSON: an object in a line for each record, entry, device and info. Events have the names of their sensors.
@@ -108,5 +109,34 @@ impl Format for Json<'_> {
         crate::laws::one_entry_line();
         crate::laws::one_info_line();
         crate::laws::one_fru_line();
+    }
+}
+
+impl Framed for Json<'_> {
+    ghost use Rattle.ipmi_json.specs.Format.{json_frame};
+
+    ghost frame = { λ json. json_frame json.labels.now };
+
+    fn has_header(&self) -> bool {
+        false
+    }
+
+    fn header(&self, alloc: Global, _table: Table) -> Result<Vec<u8>, AllocError> {
+        Ok(Vec::new(alloc))
+    }
+
+    fn has_end(&self) -> bool {
+        true
+    }
+
+    fn end(
+        &self,
+        alloc: Global,
+        status: u8,
+        reason: &'static str,
+        message: Option<&str>,
+        count: u64,
+    ) -> Result<Vec<u8>, AllocError> {
+        end_line(alloc, status, reason, message, count, self.labels)
     }
 }

@@ -27,6 +27,7 @@ pub use members::Members;
 pub use number::Number;
 pub use object::{Label, Value};
 pub use sdr::{
-    sdr_fault_line, sdr_raw_line, sdr_record_line, tell_faulty_record, tell_raw_record, tell_record,
+    sdr_fault_line, sdr_raw_line, sdr_record_line, tell_faulty_record, tell_raw_record,
+    tell_record, threshold_value, value_shown,
 };
 pub use sel::{sel_entry_line, tell_entry};

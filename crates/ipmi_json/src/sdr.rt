@@ -126,8 +126,8 @@ fn states_shown(sensor: &Sensor, shown: Shown) -> Option<u64>
     }
 }
 
-/// The value of the reading, if there is one.
-fn value_shown(full: &FullSensor, shown: Shown) -> Option<Fixed>
+/// The value of the reading of a full record's sensor, if there is one.
+pub fn value_shown(full: &FullSensor, shown: Shown) -> Option<Fixed>
     ensures { option_map (λ value. value.0) result ≡ value_shown full.now shown }
 {
     match shown {
@@ -200,8 +200,8 @@ fn tell_shown<M: Members>(
     tell_severity(out, sensor_severity(sensor, reading))
 }
 
-/// The value of a threshold.
-fn threshold_value(full: &FullSensor, threshold: Threshold) -> Option<Fixed>
+/// The value of a threshold of a full record, if it has one.
+pub fn threshold_value(full: &FullSensor, threshold: Threshold) -> Option<Fixed>
     ensures { option_map (λ value. value.0) result ≡ threshold_value threshold full.now }
 {
     if has_thresholds(&full.sensor()) && full.is_readable(threshold) {

@@ -2,17 +2,18 @@
 ghost use Rattle.std.specs.Prelude.{◌≡◌, ◌+◌, ◌==◌, if◌then◌else◌};
 ghost use Rattle.std.specs.Io.Buffered.{writer_buffer};
 ghost use Rattle.ipmi_commands.specs.Output.{OnBytes};
-ghost use Rattle.ipmi_commands.specs.Run.{AnswersCommand};
 ghost use Rattle.ipmi_image.specs.Image.{store_of_image};
 ghost use Rattle.ipmi_output.specs.Writer.{writer_of};
+ghost use Rattle.ipmi_plain.specs.Answers.{AnswersCommand};
 ghost use Rattle.ipmi_program.specs.Printing.{EndsBy, IsFlushed};
 ghost use Rattle.ipmi_program.specs.Answer.{Answers, SaysUnread};
 
 use crate::input::{InputFault, input_name};
 use crate::printing::flush;
 use ipmi_command_line::{Command, UsageFault};
-use ipmi_commands::{execute_image, report};
+use ipmi_commands::report;
 use ipmi_output::{Failure, MessageSink, Sink, Written, write_unreadable};
+use ipmi_plain::execute_image;
 use std::alloc::Global;
 use std::io::{BufWriter, Write};
 

@@ -4,10 +4,11 @@ ghost use Rattle.std.specs.List.{list_any};
 ghost use Rattle.ipmi_program.specs.WithLacks.{captured, is_reading, lacks_reading, OthersStay};
 
 use ipmi_bus::{Record, Shelf};
-use ipmi_commands::{Detail, Format};
+use ipmi_commands::Format;
 use ipmi_events::Sensors;
 use ipmi_image::{Item, Lack, LineBuffer};
 use ipmi_records::{KnownReading, SdrFault, SdrView, SelView};
+use ipmi_selection::Detail;
 use std::alloc::{AllocError, Global};
 
 /// A form of output over an image that lacks these items. A reading among them is printed as not captured; else the texts are those

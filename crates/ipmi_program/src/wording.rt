@@ -1,15 +1,17 @@
 //! The form of output that a user chose.
 ghost use Rattle.std.specs.Prelude.{◌≡◌};
-ghost use Rattle.ipmi_program.specs.Wording.{table_of};
+ghost use Rattle.ipmi_program.specs.Wording.{table_of, wording_of};
 
 use ipmi_bus::{Record, Shelf};
-use ipmi_command_line::Task;
-use ipmi_commands::{Descriptive, Detail, Format, Plain};
-use ipmi_csv::{Csv, Table};
+use ipmi_command_line::{Form, Format as Wanted, Task};
+use ipmi_commands::{Format, Framed, Table};
+use ipmi_csv::Csv;
 use ipmi_events::Sensors;
 use ipmi_image::LineBuffer;
 use ipmi_json::{Json, Label};
+use ipmi_plain::{Descriptive, Plain};
 use ipmi_records::{KnownReading, SdrFault, SdrView, SelView};
+use ipmi_selection::Detail;
 use std::alloc::{AllocError, Global};
 
 /// A form of output.
@@ -23,6 +25,44 @@ pub enum Wording<'a> {
     Json(&'a [Label<'a>]),
     /// Rows of values: [`Csv`].
     Csv(Csv<'a>),
+}
+
+/// Evaluates the same expression for the form of output that was chosen.
+macro_rules! in_form {
+    ($wording:expr, $form:ident => $result:expr) => {
+        match $wording {
+            Wording::Plain => {
+                let $form = &Plain;
+                $result
+            }
+            Wording::Descriptive => {
+                let $form = &Descriptive;
+                $result
+            }
+            Wording::Json(labels) => {
+                let $form = &Json { labels };
+                $result
+            }
+            Wording::Csv($form) => $result,
+        }
+    };
+}
+
+impl<'a> Wording<'a> {
+    /// The form of output that a command line asks for, with these labels.
+    pub fn of(format: &Wanted, labels: &'a [Label<'a>]) -> Wording<'a>
+        ensures { result ≡ wording_of format.now labels.entry }
+    {
+        match format {
+            Wanted::Plain => Wording::Plain,
+            Wanted::Descriptive => Wording::Descriptive,
+            Wanted::Labelled(Form::Json, _, _) => Wording::Json(labels),
+            Wanted::Labelled(Form::Csv, separator, _) => {
+                let separator = *separator;
+                Wording::Csv(Csv { separator, labels })
+            }
+        }
+    }
 }
 
 /// The table of what the task prints.
@@ -44,12 +84,7 @@ impl Format for Wording<'_> {
     ghost texts = { λ wording. texts_in wording };
 
     fn has_names(&self, detail: Detail) -> bool {
-        match self {
-            Wording::Plain => Plain.has_names(detail),
-            Wording::Descriptive => Descriptive.has_names(detail),
-            Wording::Json(labels) => Json { labels }.has_names(detail),
-            Wording::Csv(csv) => csv.has_names(detail),
-        }
+        in_form!(self, form => form.has_names(detail))
     }
 
     fn record(
@@ -60,12 +95,7 @@ impl Format for Wording<'_> {
         view: &SdrView<'_>,
         reading: KnownReading,
     ) -> Result<Vec<u8>, AllocError> {
-        match self {
-            Wording::Plain => Plain.record(alloc, detail, id, view, reading),
-            Wording::Descriptive => Descriptive.record(alloc, detail, id, view, reading),
-            Wording::Json(labels) => Json { labels }.record(alloc, detail, id, view, reading),
-            Wording::Csv(csv) => csv.record(alloc, detail, id, view, reading),
-        }
+        in_form!(self, form => form.record(alloc, detail, id, view, reading))
     }
 
     fn fault(
@@ -75,12 +105,7 @@ impl Format for Wording<'_> {
         fault: SdrFault,
         bytes: &[u8],
     ) -> Result<Vec<u8>, AllocError> {
-        match self {
-            Wording::Plain => Plain.fault(alloc, id, fault, bytes),
-            Wording::Descriptive => Descriptive.fault(alloc, id, fault, bytes),
-            Wording::Json(labels) => Json { labels }.fault(alloc, id, fault, bytes),
-            Wording::Csv(csv) => csv.fault(alloc, id, fault, bytes),
-        }
+        in_form!(self, form => form.fault(alloc, id, fault, bytes))
     }
 
     fn hex(
@@ -89,12 +114,7 @@ impl Format for Wording<'_> {
         lent: &Record<'_>,
         line: &mut LineBuffer,
     ) -> Result<Option<Vec<u8>>, AllocError> {
-        match self {
-            Wording::Plain => Plain.hex(alloc, lent, line),
-            Wording::Descriptive => Descriptive.hex(alloc, lent, line),
-            Wording::Json(labels) => Json { labels }.hex(alloc, lent, line),
-            Wording::Csv(csv) => csv.hex(alloc, lent, line),
-        }
+        in_form!(self, form => form.hex(alloc, lent, line))
     }
 
     fn entry(
@@ -105,21 +125,11 @@ impl Format for Wording<'_> {
         entry: &SelView<'_>,
         sensors: Option<&Sensors>,
     ) -> Result<Vec<u8>, AllocError> {
-        match self {
-            Wording::Plain => Plain.entry(alloc, detail, id, entry, sensors),
-            Wording::Descriptive => Descriptive.entry(alloc, detail, id, entry, sensors),
-            Wording::Json(labels) => Json { labels }.entry(alloc, detail, id, entry, sensors),
-            Wording::Csv(csv) => csv.entry(alloc, detail, id, entry, sensors),
-        }
+        in_form!(self, form => form.entry(alloc, detail, id, entry, sensors))
     }
 
     fn info(&self, alloc: Global, shelf: Shelf, info: &[u8; 14]) -> Result<Vec<u8>, AllocError> {
-        match self {
-            Wording::Plain => Plain.info(alloc, shelf, info),
-            Wording::Descriptive => Descriptive.info(alloc, shelf, info),
-            Wording::Json(labels) => Json { labels }.info(alloc, shelf, info),
-            Wording::Csv(csv) => csv.info(alloc, shelf, info),
-        }
+        in_form!(self, form => form.info(alloc, shelf, info))
     }
 
     fn device(
@@ -130,38 +140,47 @@ impl Format for Wording<'_> {
         name: Option<&str>,
         inventory: Option<&[u8]>,
     ) -> Result<Vec<u8>, AllocError> {
-        match self {
-            Wording::Plain => Plain.device(alloc, detail, id, name, inventory),
-            Wording::Descriptive => Descriptive.device(alloc, detail, id, name, inventory),
-            Wording::Json(labels) => Json { labels }.device(alloc, detail, id, name, inventory),
-            Wording::Csv(csv) => csv.device(alloc, detail, id, name, inventory),
-        }
+        in_form!(self, form => form.device(alloc, detail, id, name, inventory))
     }
 
     fn names_fault(&self, detail: Detail, inventory: &[u8]) -> bool {
-        match self {
-            Wording::Plain => Plain.names_fault(detail, inventory),
-            Wording::Descriptive => Descriptive.names_fault(detail, inventory),
-            Wording::Json(labels) => Json { labels }.names_fault(detail, inventory),
-            Wording::Csv(csv) => csv.names_fault(detail, inventory),
-        }
+        in_form!(self, form => form.names_fault(detail, inventory))
     }
 
     fn elsewhere(&self, alloc: Global, name: &str) -> Result<Vec<u8>, AllocError> {
-        match self {
-            Wording::Plain => Plain.elsewhere(alloc, name),
-            Wording::Descriptive => Descriptive.elsewhere(alloc, name),
-            Wording::Json(labels) => Json { labels }.elsewhere(alloc, name),
-            Wording::Csv(csv) => csv.elsewhere(alloc, name),
-        }
+        in_form!(self, form => form.elsewhere(alloc, name))
     }
 
     fn one_text(&self) {
-        match self {
-            Wording::Plain => Plain.one_text(),
-            Wording::Descriptive => Descriptive.one_text(),
-            Wording::Json(labels) => Json { labels }.one_text(),
-            Wording::Csv(csv) => csv.one_text(),
-        }
+        in_form!(self, form => form.one_text())
+    }
+}
+
+impl Framed for Wording<'_> {
+    ghost use Rattle.ipmi_program.specs.Wording.{frame_in};
+
+    ghost frame = { λ wording. frame_in wording };
+
+    fn has_header(&self) -> bool {
+        in_form!(self, form => form.has_header())
+    }
+
+    fn header(&self, alloc: Global, table: Table) -> Result<Vec<u8>, AllocError> {
+        in_form!(self, form => form.header(alloc, table))
+    }
+
+    fn has_end(&self) -> bool {
+        in_form!(self, form => form.has_end())
+    }
+
+    fn end(
+        &self,
+        alloc: Global,
+        status: u8,
+        reason: &'static str,
+        message: Option<&str>,
+        count: u64,
+    ) -> Result<Vec<u8>, AllocError> {
+        in_form!(self, form => form.end(alloc, status, reason, message, count))
     }
 }

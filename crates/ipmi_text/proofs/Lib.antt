@@ -4,5 +4,6 @@ pub mod ExistenceLemmas
 pub mod FieldLemmas
 pub mod ReadingLemmas
 pub mod TableLemmas
+pub mod TextsLemmas
 pub mod TimeLemmas
 pub mod UnitLemmas

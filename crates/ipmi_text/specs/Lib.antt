@@ -11,6 +11,7 @@ pub mod Names
 pub mod ReadingValue
 pub mod SdrHeader
 pub mod SensorTypes
+pub mod Texts
 pub mod Times
 pub mod TwoDigits
 pub mod Units

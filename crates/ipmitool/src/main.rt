@@ -3,13 +3,11 @@
 #![tactic(auto)]
 
 pub use ipmi_command_line::{Command, Count, Kind, Task, UsageFault, Word, Words, command_of};
-pub use ipmi_commands::{
-    Job, Plain, RequestLimits, Summary, answer, execute, execute_image, execute_pages, report, run,
-    run_pages, write_image,
-};
+pub use ipmi_commands::{Job, RequestLimits, Summary, execute, execute_pages, report, write_image};
 pub use ipmi_output::{
     Failure, MessageSink, Sink, SinkFault, Written, write_failure, write_unreadable,
 };
+pub use ipmi_plain::{Plain, answer, execute_image, run, run_pages};
 use ipmi_program::{answer_buffered, read_input, read_words};
 use std::io::{self, BufWriter};
 use std::process::ExitCode;

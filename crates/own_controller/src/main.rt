@@ -13,9 +13,10 @@ use ipmi_bus::{
     read_fru, read_reading,
 };
 use ipmi_command_line::{DEFAULT_PART, DEFAULT_TRIES, Kind, Task};
-use ipmi_commands::{Job, Plain, RequestLimits, Summary, execute};
+use ipmi_commands::{Job, RequestLimits, Summary, execute};
 use ipmi_fru::{AreaFault, FruFault, FruView};
 use ipmi_output::{Failure, Written};
+use ipmi_plain::Plain;
 use ipmi_records::SdrView;
 use ipmi_text::{Factors, Fixed, Reading, convert, fru_text};
 use std::alloc::{AllocError, Global};

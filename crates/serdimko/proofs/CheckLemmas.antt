@@ -6,11 +6,12 @@ use Rattle.ipmi_bus.specs.Seen.{Seen}
 use Rattle.ipmi_check.proofs.OkLemmas.{failure_is_not_ok, ok_is_true}
 use Rattle.ipmi_check.specs.Laws.{AllFine}
 use Rattle.ipmi_check.specs.Verdict.{status_of}
+use Rattle.ipmi_check.specs.declared.performance.Detail.{Detail}
 use Rattle.ipmi_check.specs.declared.verdict.Verdict.{Verdict}
 use Rattle.ipmi_commands.specs.Below.{Place}
-use Rattle.ipmi_commands.specs.Sensors.{Found, Searches}
+use Rattle.ipmi_sensors.specs.Sensors.{Found, Searches}
 use Rattle.ipmi_commands.specs.declared.limits.Tries.{Tries}
-use Rattle.ipmi_commands.specs.declared.sensors.Sought.{Sought}
+use Rattle.ipmi_sensors.specs.declared.sensors.Sought.{Sought}
 use Rattle.ipmi_output.specs.Failure.{Ending}
 use Rattle.serdimko.specs.Out.{Out}
 use Rattle.serdimko.specs.Printing.{PrintsVerdict, SaysVerdict}
@@ -34,16 +35,16 @@ has_error : (said : Result (Option (String Global)) AllocError) (searched : Endi
     → is_some (lost_error said (error_of searched Bool.false closed)) ≡ is_err searched
 has_error said searched closed = grind arith
 
-pub zero_is_fine : (report : Report) (sought : Sought) (start : Place) (tries : Tries) (s s' : Seen) (found : List Found) (searched : Ending)
+pub zero_is_fine : (report : Report) (detail : Detail) (sought : Sought) (start : Place) (tries : Tries) (s s' : Seen) (found : List Found) (searched : Ending)
     (said : Result (Option (String Global)) AllocError) (old new : Out) (status : ℕ)
     → Searches sought start tries s s' [] found searched
-    → PrintsVerdict report found (lost_error said (error_of searched Bool.false Bool.false)) old new status → status ≡ 0
+    → PrintsVerdict report found (lost_error said (error_of searched Bool.false Bool.false)) detail old new status → status ≡ 0
     → AllFine report.format.lacks.now sought start s s'
-zero_is_fine report sought start tries s s' found searched said old new status searches (inl printed) zero =
+zero_is_fine report detail sought start tries s s' found searched said old new status searches (inl printed) zero =
     let lacks = report.format.lacks.now in
     let ok = zero_was_said _ printed.0 old new status printed.2 zero in
     ok_is_true lacks sought start tries s s' found searched searches (rw (has_error said searched Bool.false) at ok)
-zero_is_fine report sought start tries s s' found searched said old new status searches (inr short) zero =
+zero_is_fine report detail sought start tries s s' found searched said old new status searches (inr short) zero =
     let lacks = report.format.lacks.now in
     let ok = zero_was_said _ _ old new status short zero in
     not_both (failure_is_not_ok lacks found) ok

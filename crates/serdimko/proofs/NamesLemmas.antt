@@ -3,7 +3,7 @@ use Rattle.std.proofs.Common.{◌≡◌, ◌∙◌, ◌+◌, ◌<◌, ℕ, suc, 
 use Rattle.std.proofs.Math.Seq.{drop-cons}
 use Rattle.std.proofs.lemmas.List.{drop_all}
 use Rattle.ipmi_commands.specs.Output.{Output}
-use Rattle.ipmi_commands.specs.Sensors.{Found, PrintsFound}
+use Rattle.ipmi_sensors.specs.Sensors.{Found, PrintsFound}
 use Rattle.ipmi_output.specs.Failure.{Ending}
 use Rattle.ipmi_output.specs.declared.failure.Failure.{Failure}
 use Rattle.serdimko.specs.Settings.{texts_for}

@@ -26,9 +26,11 @@ use Rattle.serdimko.specs.declared.report.Settings.{Settings}
 use Rattle.serdimko.specs.declared.run_error.RunError.{RunError}
 use Rattle.serdimko.specs.Columns.{PrintsColumns, Then}
 use Rattle.serdimko.specs.Out.{Out, state}
-use Rattle.serdimko.specs.Printing.{Each, EndsIn, PrintsQuery, Reports, RunsThenEnds}
+use Rattle.serdimko.specs.Printing.{Each, EndsIn, Reports, RunsThenEnds}
+use Rattle.serdimko.specs.Query.{PrintsQuery}
 use Rattle.serdimko.specs.RunError.{faults_of_error, no_image, output_error, Tells, unread}
-use Rattle.serdimko.specs.Settings.{is_headed, IsQuery, texts_of, wording_of}
+use Rattle.ipmi_program.specs.Wording.{wording_of}
+use Rattle.serdimko.specs.Settings.{is_headed, IsQuery, texts_of}
 
 -- ---- one image
 

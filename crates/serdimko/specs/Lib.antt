@@ -1,8 +1,10 @@
 pub mod Captured
 pub mod Images
 pub mod Live
+pub mod Metrics
 pub mod Out
 pub mod Printing
+pub mod Query
 pub mod Reason
 pub mod RunError
 pub mod Settings

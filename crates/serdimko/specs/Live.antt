@@ -9,7 +9,8 @@ use Rattle.ipmi_raw.specs.declared.tool.Tool.{Tool}
 use Rattle.serdimko.specs.Images.{IsReport}
 use Rattle.serdimko.specs.Columns.{PrintsColumns, Then}
 use Rattle.serdimko.specs.Out.{Out, State}
-use Rattle.serdimko.specs.Printing.{PrintsQuery, Reports}
+use Rattle.serdimko.specs.Printing.{Reports}
+use Rattle.serdimko.specs.Query.{PrintsQuery}
 use Rattle.serdimko.specs.RunError.{Tells}
 use Rattle.serdimko.specs.declared.driver.Query.{Query}
 use Rattle.serdimko.specs.declared.outcome.Outcome.{Outcome}

@@ -10,23 +10,21 @@ use Rattle.ipmi_command_line.specs.declared.filters.Filters.{Filters}
 use Rattle.ipmi_command_line.specs.declared.task.Task.{Task}
 use Rattle.ipmi_commands.specs.Format.{Texts}
 use Rattle.ipmi_commands.specs.declared.job.Job.{Job}
-use Rattle.ipmi_command_line.specs.Filters.{are_given}
+use Rattle.ipmi_command_line.specs.Filters.{are_given, no_filters}
 use Rattle.ipmi_commands.specs.Prelude.{change, choosing, job_of, keeping_last, most_on_walk, Output, RunsCommand}
-use Rattle.ipmi_program.specs.declared.wording.Wording.{Wording}
-use Rattle.ipmi_commands.specs.Sensors.{AddsSought, EndsSearch, Found, PrintsFound, Searches, with_readings}
-use Rattle.ipmi_commands.specs.declared.sensors.Sought.{Sought}
+use Rattle.ipmi_sensors.specs.Sensors.{AddsSought, EndsSearch, Found, PrintsFound, Searches, with_readings}
+use Rattle.ipmi_sensors.specs.declared.sensors.Sought.{Sought}
 use Rattle.ipmi_commands.specs.declared.limits.RequestLimits.{RequestLimits}
-use Rattle.ipmi_json.specs.Info.{end_members}
-use Rattle.ipmi_json.specs.Object.{IsLineOf}
-use Rattle.ipmi_json.specs.declared.object.Label.{Label}
 use Rattle.ipmi_output.specs.Failure.{Ending}
 use Rattle.ipmi_output.specs.Received.{Received}
 use Rattle.ipmi_output.specs.Sink.{TakesPart}
 use Rattle.ipmi_output.specs.declared.failure.Failure.{Failure}
 use Rattle.ipmi_program.specs.Printing.{IsFlushed}
+use Rattle.ipmi_program.specs.Wording.{frame_in}
 use Rattle.ipmi_check.specs.Laws.{AllFine}
 use Rattle.ipmi_check.specs.Text.{IsCheckText, short_text}
 use Rattle.ipmi_check.specs.Verdict.{status_of, verdict_of}
+use Rattle.ipmi_check.specs.declared.performance.Detail.{Detail}
 use Rattle.ipmi_check.specs.declared.verdict.Verdict.{Verdict}
 use Rattle.serdimko.specs.declared.driver.Query.{Query}
 use Rattle.serdimko.specs.declared.outcome.Outcome.{Outcome}
@@ -38,17 +36,17 @@ use Rattle.serdimko.specs.Reason.{reason_of}
 use Rattle.serdimko.specs.Settings.{texts_for}
 use Rattle.serdimko.specs.RunError.{and, error_of, error_text, faults_of_error, is_output_open, is_recoverable, lost_error, outcome_of, outcome_of_verdict, output_error, status_of_error, Tells}
 
--- ---- the object at the end of a run
+-- ---- the line at the end of a run
 
 -- the message of an error; it is UTF-8, so nothing in it is replaced
 abbrev pub message_of : Report → Option RunError → Option (List ℕ)
 message_of report None = None
 message_of report (Some error) = Some (utf8_lossy (error_text report.name.now report.is_only_input error))
 
--- the line with the status of a run, why it ended, its message, and the number of its objects
-abbrev pub IsEndLine : List Label → ℕ → Report → Option RunError → List ℕ → Type 0
-IsEndLine labels count report error line =
-    IsLineOf (end_members (status_of_error error) (reason_of error) (message_of report error) count) labels line
+-- the line with the status of a run, why it ended, its message, and the number of its texts
+abbrev pub IsEndLine : Report → ℕ → Option RunError → List ℕ → Type 0
+IsEndLine report count error line =
+    (frame_in report.format.format).IsEnd (status_of_error error) (reason_of error) (message_of report error) count line
 
 -- the whole line was written, or only a part
 abbrev pub WritesLine : List ℕ → Out → Out → Option RunError → Option RunError → Type 0
@@ -56,22 +54,17 @@ WritesLine line old new error last =
     ((new.taken ≡ old.taken ++ line) × (new.held ≡ []) × (last ≡ error))
     ⊎ (TakesPart old.taken new.taken line × (last ≡ Some (output_error new.closed)))
 
--- `error` is that of the run, and `last` that of the run and its end line. If the output accepts no more, nothing is printed.
--- Otherwise a line with `IsEnd` is printed, or memory for it runs out.
+-- `error` is that of the run, and `last` that of the run and its end line. Nothing is printed if none is to be. Otherwise a line with `IsEnd` is printed, or memory for it runs out.
 abbrev pub PrintsEnd : Bool → (List ℕ → Type 0) → Out → Out → Option RunError → Option RunError → Type 0
 PrintsEnd false IsEnd old new error last = (new ≡ old) × (last ≡ error)
 PrintsEnd true IsEnd old new error last =
     ((new ≡ old) × (last ≡ Some (RunError.Failed Failure.OutOfMemory)))
     ⊎ ((line : List ℕ) × IsEnd line × WritesLine line old new error last)
 
--- only objects are followed by such a line
-abbrev pub EndsInWording : Wording → Report → ℕ → Out → Out → Option RunError → Option RunError → Type 0
-EndsInWording (Wording.Json labels) report pieces old new error last =
-    PrintsEnd (is_output_open error) (IsEndLine labels.now pieces report error) old new error last
-EndsInWording wording report pieces old new error last = (new ≡ old) × (last ≡ error)
-
+-- if the form of output has such a line, and the output accepts more
 abbrev pub EndsIn : Report → ℕ → Out → Out → Option RunError → Option RunError → Type 0
-EndsIn report pieces old new error last = EndsInWording report.format.format report pieces old new error last
+EndsIn report pieces old new error last =
+    PrintsEnd ((frame_in report.format.format).has_end && is_output_open error) (IsEndLine report pieces error) old new error last
 
 -- ---- the end of a run
 
@@ -139,6 +132,14 @@ Each {S = S} One (item ∷ items) old new said said'' result =
     (now : S) × (said' : Received) × (one : Outcome) × (follows : Bool) × One item old now said said' one follows
     × (((follows ≡ true) × ((rest : Outcome) × Each One items now new said' said'' rest × (result ≡ and one rest)))
     ⊎ ((follows ≡ false) × (new ≡ now) × (said'' ≡ said') × (result ≡ one)))
+
+-- ---- tasks one after another
+
+-- a run for one task; the next one follows, unless the error would stop it too
+abbrev pub RunsTask : RequestLimits → Report → Task → State → State → Received → Received → Outcome → Bool → Type 0
+RunsTask limits report task old new said said' result follows =
+    (error : Option RunError) × PrintsTask limits task None no_filters report old new error
+    × Reports report error said said' result × (follows ≡ is_recoverable error)
 
 -- ---- sensors by their names
 
@@ -210,15 +211,15 @@ SaysVerdict verdict text old new status =
     ⊎ (TakesPart old.taken new.taken text × (new.faults ≡ old.faults + 1) × (status ≡ status_of Verdict.Unknown))
 
 -- the verdict on what was found, and why the search failed, if it did; or memory for the text ran out
-abbrev pub PrintsVerdict : Report → List Found → Option RunError → Out → Out → ℕ → Type 0
-PrintsVerdict report found error old new status =
-    ((text : List ℕ) × IsCheckText report.format.lacks.now found (message_of report error) text
+abbrev pub PrintsVerdict : Report → List Found → Option RunError → Detail → Out → Out → ℕ → Type 0
+PrintsVerdict report found error detail old new status =
+    ((text : List ℕ) × IsCheckText report.format.lacks.now found (message_of report error) detail text
     × SaysVerdict (verdict_of report.format.lacks.now found (is_some error)) text old new status)
     ⊎ SaysVerdict (verdict_of report.format.lacks.now found true) (short_text (verdict_of report.format.lacks.now found true)) old new status
 
 -- One walk finds the sensors that pass the filters, with their readings, and records with a fault; then the verdict is printed. Over an
 -- honest controller status 0 means that all of them are fine.
-pub record Checks (limits : RequestLimits) (filters : Filters) (report : Report) (old new : State) (result : Outcome) : Type 0 where
+pub record Checks (limits : RequestLimits) (filters : Filters) (detail : Detail) (report : Report) (old new : State) (result : Outcome) : Type 0 where
   pub found : List Found
   pub searched : Ending
   pub line : Result (Option (String Global)) AllocError
@@ -232,17 +233,7 @@ pub record Checks (limits : RequestLimits) (filters : Filters) (report : Report)
       → Searches (Sought.Sensors sought) (start_of None) limits.tries old.seen new.seen [] found searched
   pub last_line : IsLastLine new.lost line
   pub status : ℕ
-  pub prints : PrintsVerdict report found (lost_error line (error_of searched false false)) old.out new.out status
+  pub prints : PrintsVerdict report found (lost_error line (error_of searched false false)) detail old.out new.out status
   pub result_is : result ≡ outcome_of_verdict status
   pub fine : IsHonest old.seen → status ≡ 0
       → AllFine report.format.lacks.now (Sought.Sensors sought) (start_of None) old.seen new.seen
-
--- ---- a query
-
-abbrev pub PrintsQuery : RequestLimits → Query → Report → State → State → Received → Received → Outcome → Type 0
-PrintsQuery limits (Query.Print task from filters) report old new said said' result =
-    (last : Option RunError) × PrintsTask limits task from filters report old new last × Reports report last said said' result
-PrintsQuery limits (Query.Sensors names from) report old new said said' result =
-    PrintsSensors limits names from report old new said said' result
-PrintsQuery limits (Query.Check filters) report old new said said' result =
-    Checks limits filters report old new result × (said' ≡ said)

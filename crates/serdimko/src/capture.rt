@@ -33,8 +33,8 @@ use std::time::Clock;
 /// The exit status if the image is not whole.
 const NOT_WHOLE: u8 = 1;
 
-/// The exit status if the image can't be written.
-const UNWRITTEN: u8 = 4;
+/// The exit status if a file can't be written.
+pub(crate) const UNWRITTEN: u8 = 4;
 
 /// Where an image is written.
 #[derive(Clone, Copy)]
@@ -144,14 +144,14 @@ fn say_lost<'a, E: MessageSink>(line: &'a str, name: &'a str, err: &mut E)
 }
 
 /// Writes the file in one step: writes another file, then renames it.
-fn write_file<R: Files + AllocGlobal>(rt: &R, name: &str, text: &[u8]) -> io::Result<()> {
+pub(crate) fn write_file<R: Files + AllocGlobal>(rt: &R, name: &str, text: &[u8]) -> io::Result<()> {
     let partial = format!(in rt.alloc(); "{name}.part")?;
     let mut file = File::create(rt, partial.as_str())?;
     let written = file
         .write_all(text)
         .and_then(|()| fs::rename(rt, partial.as_str(), name));
     if written.is_err() {
-        // the existing file is not an image
+        // it is not whole
         let _ = fs::remove_file(rt, partial.as_str());
     }
     written

@@ -11,9 +11,10 @@ use crate::outcome::Outcome;
 use crate::report::Report;
 use crate::run_error::RunError;
 use ipmi_bus::Controller;
-use ipmi_check::{Verdict, check_text, text_without_memory};
+use ipmi_check::{Detail, Verdict, check_text, text_without_memory};
 use ipmi_command_line::Filters;
-use ipmi_commands::{FoundSensors, RequestLimits, Sought, find_sensors};
+use ipmi_commands::RequestLimits;
+use ipmi_sensors::{FoundSensors, Sought, find_sensors};
 use std::alloc::{AllocError, Global};
 use std::io::Write;
 
@@ -22,12 +23,19 @@ fn text_of(
     alloc: Global,
     found: &FoundSensors,
     error: &Option<RunError<'_>>,
+    detail: Detail,
     report: &Report<'_, '_>,
 ) -> Result<Vec<u8>, AllocError>
-    ensures { IfOk result (λ text. IsCheckText report.now.format.lacks.now found.now (message_of report.now error.now) text.items) }
+    ensures { IfOk result (λ text. IsCheckText report.now.format.lacks.now found.now (message_of report.now error.now) detail text.items) }
 {
     let why = message_of(alloc, error, report)?;
-    check_text(alloc, found, report.format.lacks, why.as_deref())
+    check_text(
+        alloc,
+        found,
+        report.format.lacks,
+        why.as_deref(),
+        detail,
+    )
 }
 
 /// Prints the text of this verdict. Returns the exit status.
@@ -45,13 +53,14 @@ fn print_verdict<W: Write + Drop>(
     alloc: Global,
     found: &FoundSensors,
     error: &Option<RunError<'_>>,
+    detail: Detail,
     report: &Report<'_, '_>,
     out: &mut Output<W>,
 ) -> u8
-    ensures { PrintsVerdict report.now found.now error.now (out_of out.old) (out_of out.new) result }
+    ensures { PrintsVerdict report.now found.now error.now detail (out_of out.old) (out_of out.new) result }
 {
     let lacks = report.format.lacks;
-    match text_of(alloc, found, error, report) {
+    match text_of(alloc, found, error, detail, report) {
         Ok(text) => print(
             Verdict::of(found, lacks, error.is_some()),
             text.as_slice(),
@@ -70,10 +79,11 @@ pub(crate) fn check<C: Connection, W: Write + Drop>(
     ctl: &mut C,
     limits: RequestLimits,
     filters: &Filters,
+    detail: Detail,
     report: &Report<'_, '_>,
     out: &mut Output<W>,
 ) -> Outcome
-    ensures { Checks limits filters.now report.now
+    ensures { Checks limits filters.now detail report.now
         (state (C.seen ctl.old) (⟦<C as Connection>⟧.lost ctl.old) (out_of out.old))
         (state (C.seen ctl.new) (⟦<C as Connection>⟧.lost ctl.new) (out_of out.new)) result }
 {
@@ -82,7 +92,9 @@ pub(crate) fn check<C: Connection, W: Write + Drop>(
     let ending = find_sensors(alloc, ctl, limits, sought, None, &mut found);
     let said = ctl.last_line(alloc);
     let error = RunError::of_connection(RunError::of(ending, false, false), said);
-    Outcome::of_verdict(print_verdict(alloc, &found, &error, report, out))
+    Outcome::of_verdict(print_verdict(
+        alloc, &found, &error, detail, report, out,
+    ))
 }
 
 /// The text of a check that could not begin, for the reason in the last of these lines.
@@ -90,5 +102,11 @@ pub(crate) fn unknown_text(alloc: Global, lines: &[u8]) -> Result<Vec<u8>, Alloc
     let text = String::from_utf8_lossy(alloc, lines)?;
     // nothing was said if memory ran out
     let why = text.lines().last().unwrap_or("out of memory");
-    check_text(alloc, &FoundSensors::new(alloc), &[], Some(why))
+    check_text(
+        alloc,
+        &FoundSensors::new(alloc),
+        &[],
+        Some(why),
+        Detail::Plain,
+    )
 }

@@ -29,6 +29,13 @@ impl<W: Write> Closable<W> {
             is_closed: false,
         }
     }
+
+    /// The writer.
+    pub(crate) fn into_inner(self) -> W
+        ensures { result ≡ self.writer }
+    {
+        self.writer
+    }
 }
 
 /// Whether a writer with an error of this kind was closed by its reader.

@@ -1,19 +1,17 @@
-//! The names of columns, which come before the rows of all inputs.
+//! What comes before the texts of all inputs, as the names of columns of CSV.
 ghost use Rattle.std.specs.Prelude.{◌≡◌, ◌+◌, IfOk, None, option_map};
 ghost use Rattle.serdimko.specs.Columns.{IsHeader, PrintsColumns, table_of_query};
 ghost use Rattle.serdimko.specs.Out.{out_of};
-ghost use Rattle.serdimko.specs.Printing.{WritesLine};
-ghost use Rattle.serdimko.specs.RunError.{faults_of_error};
 
-use crate::closable::{Output, is_closed};
+use crate::closable::Output;
 use crate::driver::Query;
-use crate::ending::write_flushed;
+use crate::ending::write_last;
 use crate::report::Settings;
 use crate::run_error::RunError;
-use ipmi_command_line::{Format, Separator, Word};
-use ipmi_csv::{Csv, Table};
+use ipmi_command_line::{Format, Word};
+use ipmi_commands::{Framed, Table};
 use ipmi_output::Failure;
-use ipmi_program::{labels_of, table_of};
+use ipmi_program::{Wording, labels_of, table_of};
 use std::alloc::{AllocError, Global};
 use std::io::Write;
 
@@ -23,38 +21,29 @@ fn table_of_query(query: &Query) -> Table
 {
     match query {
         Query::Print(task, ..) => table_of(task),
-        Query::Sensors(..) | Query::Check(_) => Table::Records,
+        Query::Each(tasks) => match tasks.as_slice() {
+            [first, ..] => table_of(first),
+            [] => Table::Records,
+        },
+        Query::Sensors(..) | Query::Check(..) | Query::Metrics(..) => Table::Records,
     }
 }
 
-/// The line with the names of the columns of a table, and of the labels.
+/// The text before all others, with the keys of these labels, and of the image's name if that is one of several.
 fn header_of(
     alloc: Global,
-    separator: Separator,
+    format: &Format,
     texts: &[Word],
     image: Option<&str>,
     table: Table,
 ) -> Result<Vec<u8>, AllocError>
-    ensures { IfOk result (λ line. IsHeader separator texts.now (option_map (λ name. name.now) image.entry) table line.items) }
+    ensures { IfOk result (λ line. IsHeader format.now texts.now (option_map (λ name. name.now) image.entry) table line.items) }
 {
     let labels = labels_of(alloc, texts, image)?;
-    let labels = labels.as_slice();
-    Csv { separator, labels }.header(alloc, table)
+    Wording::of(format, labels.as_slice()).header(alloc, table)
 }
 
-/// Writes a line, and flushes it. Returns the error, if that failed.
-fn write_line<'a, W: Write + Drop>(line: &[u8], out: &mut Output<W>) -> Option<RunError<'a>>
-    ensures writes { WritesLine line.now (out_of out.old) (out_of out.new) None result }
-    ensures faults { (out_of out.new).faults ≡ (out_of out.old).faults + faults_of_error result }
-{
-    match write_flushed(out, line) {
-        Ok(()) => None,
-        Err(fault) => RunError::of(Err(Failure::from(fault)), false, is_closed(out)),
-    }
-}
-
-/// Prints the names of columns, if the output is CSV; one has the image's name if that is one of several. Returns the error, if that
-/// failed.
+/// Prints the text before all others, if the form of output has one, as the names of columns of CSV. Returns the error, if that failed.
 pub(crate) fn print_columns<'a, W: Write + Drop>(
     alloc: Global,
     settings: &Settings,
@@ -65,17 +54,12 @@ pub(crate) fn print_columns<'a, W: Write + Drop>(
     ensures { PrintsColumns settings.now.format query.now (option_map (λ name. name.now) image.entry)
         (out_of out.old) (out_of out.new) result }
 {
-    let Format::Csv(separator, texts) = &settings.format else {
+    let (format, texts) = (&settings.format, settings.labels());
+    if !Wording::of(format, &[]).has_header() {
         return None;
-    };
-    match header_of(
-        alloc,
-        *separator,
-        texts.as_slice(),
-        image,
-        table_of_query(query),
-    ) {
-        Ok(line) => write_line(line.as_slice(), out),
+    }
+    match header_of(alloc, format, texts, image, table_of_query(query)) {
+        Ok(line) => write_last(line.as_slice(), None, out),
         Err(AllocError) => Some(RunError::Failed(Failure::OutOfMemory)),
     }
 }

@@ -1,27 +1,30 @@
 //! Prints what a command asks for from a controller, live or over an image, and reports how each run ended.
-ghost use Rattle.std.specs.Prelude.{◌≡◌, ◌+◌, Err, IfSome, List, None, Ok, Option, option_map, ℕ, ⊤};
+ghost use Rattle.std.specs.Prelude.{◌≡◌, ◌+◌, All, Err, IfSome, List, None, Ok, Option, option_map, ℕ, ⊤};
 ghost use Rattle.serdimko.specs.Out.{out_of, state};
 ghost use Rattle.ipmi_command_line.specs.Command.{IsTask};
 ghost use Rattle.ipmi_bus.specs.Seen.{AsksAtMost};
 ghost use Rattle.ipmi_commands.specs.Prelude.{change, IsFrom, IsJob, keeping_last, printed, RunsCommand};
 ghost use Rattle.ipmi_output.specs.Failure.{write_faults};
 ghost use Rattle.ipmi_raw.specs.LastWords.{IsLastLine};
+ghost use Rattle.serdimko.specs.Query.{PrintsQuery};
 ghost use Rattle.serdimko.specs.Settings.{IsQuery};
-ghost use Rattle.serdimko.specs.Printing.{chosen_job, PrintsName, PrintsNames, PrintsQuery, PrintsSensors, PrintsTask, Each, PrintsBroken, RunsName, RunsThenEnds};
+ghost use Rattle.serdimko.specs.Printing.{chosen_job, PrintsName, PrintsNames, PrintsSensors, PrintsTask, Each, PrintsBroken, RunsName, RunsTask, RunsThenEnds};
 
 use crate::check::check;
 use crate::closable::Output;
 use crate::ending::end_run;
+use crate::metrics::print_metrics;
 use crate::outcome::Outcome;
 use crate::report::Report;
 use crate::run_error::RunError;
 use ipmi_bus::Controller;
-use ipmi_command_line::{Filters, Task, Word, Words};
-use ipmi_commands::{
-    Format, FoundSensors, Job, RequestLimits, Sought, Summary, execute, find_sensors, print_sensors,
-};
+use ipmi_check::Detail;
+use ipmi_command_line::{Filters, Task, Tasks, Word, Words};
+use ipmi_commands::{Format, Job, RequestLimits, Summary, execute};
 use ipmi_image::SnapshotController;
+use ipmi_metrics::Dialect;
 use ipmi_output::{Failure, MessageSink, RecordName};
+use ipmi_sensors::{FoundSensors, Sought, find_sensors, print_sensors};
 use std::alloc::{AllocError, Global};
 use std::io::Write;
 
@@ -59,10 +62,14 @@ impl Connection for SnapshotController {
 pub(crate) enum Query {
     /// What the task says, from this id on; of a listing, the records that pass the filters.
     Print(Task, Option<u16>, Filters),
+    /// What each of these tasks says, one after another.
+    Each(Tasks),
     /// The block of each sensor with one of these names, from this id on.
     Sensors(Words, Option<u16>),
-    /// The verdict on the sensors that pass the filters.
-    Check(Filters),
+    /// The verdict on the sensors that pass the filters, in this detail.
+    Check(Filters, Detail),
+    /// The metrics of the sensors that pass the filters, and of the event log.
+    Metrics(Filters, Dialect),
 }
 
 /// The job of the task, for the records that pass the filters, if any are given.
@@ -113,7 +120,7 @@ fn run_task<'a, C: Connection, W: Write + Drop>(
     task: &'a Task,
     from: Option<u16>,
     filters: &'a Filters,
-    report: &Report<'a, '_>,
+    report: &Report<'_, '_>,
     out: &mut Output<W>,
 ) -> Option<RunError<'a>>
     requires task { IsTask task.now }
@@ -127,6 +134,36 @@ fn run_task<'a, C: Connection, W: Write + Drop>(
     let ending = run_job(alloc, ctl, limits, &report.format, job, out, &mut summary);
     let said = ctl.last_line(alloc);
     end_run(alloc, report, ending, said, &summary, out)
+}
+
+/// Prints what each of these tasks says, and reports how each run ended. After an error that the next run would meet too, nothing
+/// more.
+fn print_each_task<C: Connection, W: Write + Drop, E: MessageSink>(
+    alloc: Global,
+    ctl: &mut C,
+    limits: RequestLimits,
+    tasks: &[Task],
+    report: &Report<'_, '_>,
+    out: &mut Output<W>,
+    err: &mut E,
+) -> Outcome
+    requires { All IsTask tasks.now }
+    ensures { Each (RunsTask limits report.now) tasks.now
+        (state (C.seen ctl.old) (⟦<C as Connection>⟧.lost ctl.old) (out_of out.old))
+        (state (C.seen ctl.new) (⟦<C as Connection>⟧.lost ctl.new) (out_of out.new))
+        (E.received err.old) (E.received err.new) result }
+{
+    let filters = Filters::new(alloc);
+    let mut outcome = Outcome::of(&None);
+    for task in tasks {
+        let error = run_task(alloc, ctl, limits, task, None, &filters, report, out);
+        let told = report.tell(&error, err);
+        outcome = outcome.and(told);
+        if !RunError::is_recoverable(&error) {
+            return outcome;
+        }
+    }
+    outcome
 }
 
 /// Prints the blocks of the found sensors with this name. Returns why it did not, also if there is none.
@@ -264,10 +301,18 @@ pub(crate) fn print_query<C: Connection, W: Write + Drop, E: MessageSink>(
             let error = run_task(alloc, ctl, limits, task, *from, filters, report, out);
             report.tell(&error, err)
         }
+        Query::Each(tasks) => {
+            print_each_task(alloc, ctl, limits, tasks.as_slice(), report, out, err)
+        }
         Query::Sensors(names, from) => {
             let names = names.as_slice();
             print_by_name(alloc, ctl, limits, names, *from, report, out, err)
         }
-        Query::Check(filters) => check(alloc, ctl, limits, filters, report, out),
+        Query::Check(filters, detail) => {
+            check(alloc, ctl, limits, filters, *detail, report, out)
+        }
+        Query::Metrics(filters, dialect) => {
+            print_metrics(alloc, ctl, limits, filters, *dialect, report, out, err)
+        }
     }
 }

@@ -1,12 +1,12 @@
-//! The end of a run: its output is flushed, and the object `end` follows the objects of a run.
-ghost use Rattle.std.specs.Prelude.{◌≡◌, ◌+◌, ◌-◌, ◌<◌, ◌++◌, [], IfOk, OnErr, OnOk, length, option_map, string_bytes, take};
+//! The end of a run: its output is flushed, and the line at its end follows, as the object `end` of JSON.
+ghost use Rattle.std.specs.Prelude.{◌≡◌, ◌+◌, ◌-◌, ◌<◌, ◌++◌, [], IfOk, OnErr, OnOk, length, option_map, string_bytes, take, true};
 ghost use Rattle.std.specs.Str.Lossy.{utf8_lossy};
 ghost use Rattle.ipmi_commands.specs.Printed.{faults_of, pieces_of};
 ghost use Rattle.ipmi_output.specs.Failure.{write_faults};
 ghost use Rattle.ipmi_output.specs.Sink.{TakesPart};
 ghost use Rattle.ipmi_output.specs.Writer.{flush_faults};
 ghost use Rattle.serdimko.specs.Out.{out_of};
-ghost use Rattle.serdimko.specs.Printing.{EndsIn, EndsRun, is_faulty, IsEndLine, message_of, PrintsEnd, shown};
+ghost use Rattle.serdimko.specs.Printing.{EndsIn, EndsRun, is_faulty, IsEndLine, message_of, PrintsEnd, shown, WritesLine};
 ghost use Rattle.serdimko.specs.RunError.{error_text, faults_of_error, is_output_open};
 
 use crate::closable::{Output, is_closed};
@@ -14,10 +14,9 @@ use crate::outcome::Outcome;
 use crate::reason::reason_of;
 use crate::report::Report;
 use crate::run_error::RunError;
-use ipmi_commands::Summary;
-use ipmi_json::{Label, end_line};
+use ipmi_commands::{Framed, Summary};
 use ipmi_output::{Failure, Sink, SinkFault, write_all, write_message};
-use ipmi_program::{Wording, flush};
+use ipmi_program::flush;
 use std::alloc::{AllocError, Global};
 use std::io::Write;
 
@@ -59,25 +58,19 @@ pub(crate) fn message_of(
     }
 }
 
-/// The line at the end of this many objects.
+/// The line at the end of a run that printed so many texts.
 fn line_at_end(
     alloc: Global,
-    labels: &[Label<'_>],
     count: u64,
     error: &Option<RunError<'_>>,
     report: &Report<'_, '_>,
 ) -> Result<Vec<u8>, AllocError>
-    ensures { IfOk result (λ line. IsEndLine labels.now count report.now error.now line.items) }
+    ensures { IfOk result (λ line. IsEndLine report.now count error.now line.items) }
 {
     let message = message_of(alloc, error, report)?;
-    end_line(
-        alloc,
-        Outcome::of(error).status,
-        reason_of(error),
-        message.as_deref(),
-        count,
-        labels,
-    )
+    let (status, reason) = (Outcome::of(error).status, reason_of(error));
+    let form = &report.format.format;
+    form.end(alloc, status, reason, message.as_deref(), count)
 }
 
 /// Writes the text, and flushes it.
@@ -93,11 +86,26 @@ pub(crate) fn write_flushed<W: Write + Drop>(
     out.flush()
 }
 
-/// Prints the line at the end of this many objects of a run with this error, or without one, unless the output accepts no more.
-/// Returns the error, or that of this line.
+/// Writes a text after which a run ends with this error or without one, and flushes it. Returns the error, or that of the output.
+pub(crate) fn write_last<'a, W: Write + Drop>(
+    text: &[u8],
+    error: Option<RunError<'a>>,
+    out: &mut Output<W>,
+) -> Option<RunError<'a>>
+    ensures writes { WritesLine text.now (out_of out.old) (out_of out.new) error.entry result }
+    ensures faults { is_output_open error.entry ≡ true → (out_of out.new).faults + faults_of_error error.entry ≡
+        (out_of out.old).faults + faults_of_error result }
+{
+    match write_flushed(out, text) {
+        Ok(()) => error,
+        Err(fault) => RunError::of(Err(Failure::from(fault)), false, is_closed(out)),
+    }
+}
+
+/// Prints the line at the end of a run with this error, or without one, unless the output accepts no more. Returns the error, or that
+/// of this line.
 fn print_end<'a, W: Write + Drop>(
     alloc: Global,
-    labels: &[Label<'_>],
     count: u64,
     error: Option<RunError<'a>>,
     report: &Report<'_, '_>,
@@ -105,23 +113,20 @@ fn print_end<'a, W: Write + Drop>(
 ) -> Option<RunError<'a>>
     ensures faults { (out_of out.new).faults + faults_of_error error.entry ≡
         (out_of out.old).faults + faults_of_error result }
-    ensures ends { PrintsEnd (is_output_open error.entry) (IsEndLine labels.now count report.now error.entry)
+    ensures ends { PrintsEnd (is_output_open error.entry) (IsEndLine report.now count error.entry)
         (out_of out.old) (out_of out.new) error.entry result }
 {
     if !RunError::is_output_open(&error) {
         return error;
     }
-    let Ok(line) = line_at_end(alloc, labels, count, &error, report) else {
+    let Ok(line) = line_at_end(alloc, count, &error, report) else {
         return Some(RunError::Failed(Failure::OutOfMemory));
     };
-    match write_flushed(out, line.as_slice()) {
-        Ok(()) => error,
-        Err(fault) => RunError::of(Err(Failure::from(fault)), false, is_closed(out)),
-    }
+    write_last(line.as_slice(), error, out)
 }
 
-/// Ends a run with this error, or without one, that printed so many pieces: prints the line at the end of objects. Returns the
-/// error, or that of this line.
+/// Ends a run with this error, or without one, that printed so many pieces: prints the line at its end, if the form of output has one.
+/// Returns the error, or that of this line.
 pub(crate) fn end_with<'a, W: Write + Drop>(
     alloc: Global,
     report: &Report<'_, '_>,
@@ -133,10 +138,10 @@ pub(crate) fn end_with<'a, W: Write + Drop>(
         (out_of out.old).faults + faults_of_error result }
     ensures ends { EndsIn report.now pieces (out_of out.old) (out_of out.new) error.entry result }
 {
-    match report.format.format {
-        Wording::Json(labels) => print_end(alloc, labels, pieces, error, report, out),
-        Wording::Plain | Wording::Descriptive | Wording::Csv(_) => error,
+    if !report.format.format.has_end() {
+        return error;
     }
+    print_end(alloc, pieces, error, report, out)
 }
 
 /// Whether an item that was printed makes the run fail.

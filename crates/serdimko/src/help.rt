@@ -38,8 +38,8 @@ Options, anywhere, also after the command:
   --type TYPE     list only sensors of this type, a name or number (sdr type), or
                   events of such sensors
   --entity ID[.N]  list only what belongs to this entity
-  --id HEX        the ID of sel get in hex; in listings, only records or events
-                  with these ids: 0001-0005,000a
+  --id HEX        the IDs of sel get or fru print in hex: 0001-0005,000a; in
+                  listings, only records or events with these ids
   --exclude NAME  do not list records of this name; may come several times
   --since TIME    list only events at this time or later
   --until TIME    list only events at this time or earlier; TIME is
@@ -53,9 +53,11 @@ Options, anywhere, also after the command:
   --separator comma|semicolon  with --csv, the separator of values
   --label KEY=VALUE  with --json or --csv, a text in each object or line; may
                   come several times
-  --output FILE   capture writes to this file (-o)
+  --output FILE   capture or metrics writes to this file (-o)
   --partial       capture replaces a whole image also by one that is not whole
   --quiet         capture shows no progress
+  --perfdata      check adds performance data: values and ranges
+  --openmetrics   metrics prints OpenMetrics
   -h, --help      print help
   -V, --version   print the version
   --              everything after this is a word
@@ -118,8 +120,8 @@ const SEL: &str = "Prints the system event log.
   sel tail N            the N newest as in sel elist, without reading the whole
                         log: they begin where the log's info suggests, but if
                         there are not N from there on, this is sel elist last N
-  sel get ID            a block with all about one event
-  sel get --id HEX      the same, by an id as sel list prints it
+  sel get ID..          a block with all about each of these events
+  sel get --id HEX      the same, by ids as sel list prints them: 0001-0005,000a
 
 N is 0 to 65535, and 0 means all; sel tail takes no 0. ID is 1 to 65534. Both
 are decimal, or 0x and four hex digits at most: 0016 is --id 0016, 0x16 or 22.
@@ -135,7 +137,7 @@ nor events for which the standard has no words.
 const FRU: &str = "Prints inventories of field replaceable units.
 
   fru print       that of device 0, and of each that a locator names; also fru
-  fru print ID    that of one device
+  fru print ID..  those of these devices; also fru print --id 00-05,0a
   fru list        a line for each of these devices: id, name, whether it is
                   present, and the product's name, part number and serial
 
@@ -161,6 +163,19 @@ Status 0: OK. 1: WARNING, the worst sensor needs a look. 2: CRITICAL, a sensor
 that was read needs help. 3: UNKNOWN, something was not read, a record can't be
 judged, or there is no sensor; the line says why, also for a wrong command line.
 Sensors without a reading, and those of other owners, are counted in the line.
+--exclude NAME, --type, --entity and --id choose the sensors. --perfdata adds
+the values of sensors with thresholds, and their ranges, after a bar.
+";
+
+const METRICS: &str = "Prints metrics of sensors and of the event log for Prometheus.
+
+  serdimko-live -I lanplus -H HOST -U USER -E -- metrics -o FILE.prom
+  serdimko --image FILE metrics --type fan
+
+Each sensor has a value, as ipmi_temperature_celsius, and a state: 0 is nominal,
+1 a warning, 2 critical, NaN not known. ipmi_up is 0 if not all sensors could be
+asked; then, or if the log's info can't be read, the status is 1.
+--openmetrics prints OpenMetrics. -o FILE writes another file and renames it.
 --exclude NAME, --type, --entity and --id choose the sensors.
 ";
 
@@ -207,6 +222,7 @@ pub(crate) fn help_on(alloc: Global, topic: Topic) -> Result<String, AllocError>
             Topic::Sel => SEL,
             Topic::Fru => FRU,
             Topic::Check => CHECK,
+            Topic::Metrics => METRICS,
             Topic::Capture => CAPTURE,
             Topic::Image => IMAGE,
             Topic::SensorTypes => return sensor_types(alloc),

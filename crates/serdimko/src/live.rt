@@ -8,7 +8,8 @@ ghost use Rattle.ipmi_raw.specs.Piped.{no_units};
 ghost use Rattle.serdimko.specs.Live.{name_of, pipe_name, PrintsLive, tool_of};
 ghost use Rattle.serdimko.specs.Out.{out_of, state};
 ghost use Rattle.serdimko.specs.Columns.{Then};
-ghost use Rattle.serdimko.specs.Printing.{PrintsQuery, Reports};
+ghost use Rattle.serdimko.specs.Printing.{Reports};
+ghost use Rattle.serdimko.specs.Query.{PrintsQuery};
 ghost use Rattle.serdimko.specs.Settings.{IsQuery};
 
 use crate::closable::Output;

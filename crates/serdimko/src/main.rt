@@ -4,7 +4,6 @@
 
 ghost use Rattle.std.specs.Prelude.{◌≤◌, IfSome};
 ghost use Rattle.ipmi_command_line.specs.Request.{IsRequest};
-ghost use Rattle.serdimko.specs.Images.{IsImageQuery};
 ghost use Rattle.serdimko.specs.Settings.{IsQuery};
 
 mod capture;
@@ -16,26 +15,28 @@ mod ending;
 mod help;
 mod images;
 mod live;
+mod metrics;
 mod mistake;
 mod outcome;
 mod reason;
 mod report;
 mod run_error;
 
-use capture::{Counter, Target, capture_live};
+use capture::{Counter, Target, UNWRITTEN, capture_live, write_file};
 use check::unknown_text;
 use closable::{Closable, Output};
 use driver::Query;
 use help::{SHORT, VERSION, help_on};
 use images::{ImageQuery, fail, image_of, print_images};
 use ipmi_bus::Shelf;
-use ipmi_check::{Verdict, text_without_memory};
+use ipmi_check::{Detail, Verdict, text_without_memory};
 use ipmi_command_line::{
-    Action, Format, Limits, LiveTool, Request, Source, UsageError, UsageFault, VALUED, Word, Words,
-    request_of,
+    Action, Format, Limits, LiveTool, Request, Source, UsageError, UsageFault, Word, Words,
+    request_of, takes_value,
 };
 use ipmi_commands::{LIVE_PART, RequestLimits, report};
 use ipmi_image::WithRecords;
+use ipmi_metrics::Dialect;
 use ipmi_output::Part::{self, Escaped, Number, Text};
 use ipmi_output::{Failure, MessageSink, Written, write_message};
 use ipmi_program::{labels_of, read_input, read_words, wrong_label};
@@ -80,7 +81,7 @@ fn is_check(words: &Words) -> bool {
         if is_value {
             is_value = false;
         } else if let Some(name) = word.strip_prefix("--") {
-            is_value = VALUED.contains(&name) || ["from", "part", "tries"].contains(&name);
+            is_value = takes_value(name);
         } else if !word.starts_with('-') {
             return word == "check";
         } else {
@@ -201,14 +202,38 @@ fn run<E: MessageSink>(rt: &HostRuntime, request: Request, err: &mut E) -> Resul
             return run_capture(rt, &source, settings.limits, target, quiet, err);
         }
         Action::Rewrite => return run_rewrite(rt, &source, &settings, err),
-        Action::Check => {
-            let query = Query::Check(filters);
+        Action::Check { has_data } => {
+            let query = Query::Check(filters, detail_of(has_data));
             return Ok(run_check(rt, &query, &source, records, &settings, err));
         }
+        Action::Metrics { is_open, output } => {
+            let query = Query::Metrics(filters, dialect_of(is_open));
+            let file = output.as_ref();
+            return run_metrics(rt, &query, &source, records, &settings, file, err);
+        }
         Action::Print(task, from) => Query::Print(task, from, filters),
+        Action::PrintEach(tasks) => Query::Each(tasks),
         Action::GetSensors(names, from) => Query::Sensors(names, from),
     };
     run_query(rt, &query, &source, records, &settings, err)
+}
+
+/// What a check prints beside its verdict.
+fn detail_of(has_data: bool) -> Detail {
+    if has_data {
+        Detail::PerformanceData
+    } else {
+        Detail::Plain
+    }
+}
+
+/// The format of metrics.
+fn dialect_of(is_open: bool) -> Dialect {
+    if is_open {
+        Dialect::OpenMetrics
+    } else {
+        Dialect::Prometheus
+    }
 }
 
 fn settings_of(limits: Limits, format: Format, strict: bool) -> Settings
@@ -236,7 +261,10 @@ fn run_query<E: MessageSink>(
         return Ok(refuse(&line, err));
     }
     tell_waiting(rt, source, err);
-    let Some(outcome) = print_inputs(rt, query, source, records, settings, err)? else {
+    let mut out = buffered_output(rt)?;
+    let outcome = print_inputs(rt, query, source, records, settings, &mut out, err);
+    discard(out);
+    let Some(outcome) = outcome? else {
         return Ok(USAGE);
     };
     if let Query::Sensors(names, _) = query {
@@ -258,7 +286,16 @@ fn run_check<E: MessageSink>(
 {
     tell_waiting(rt, source, err);
     let mut said = Vec::new(rt.alloc());
-    match print_inputs(rt, query, source, records, settings, &mut said) {
+    let outcome = match buffered_output(rt) {
+        Ok(mut out) => {
+            let outcome =
+                print_inputs(rt, query, source, records, settings, &mut out, &mut said);
+            discard(out);
+            outcome
+        }
+        Err(AllocError) => Err(AllocError),
+    };
+    match outcome {
         Ok(Some(outcome)) if outcome.has_verdict => {
             // that the records were read from the machine is no reason for the verdict
             if !said.is_empty() {
@@ -271,28 +308,75 @@ fn run_check<E: MessageSink>(
     }
 }
 
-/// Prints what a query asks for, from each input. None if there is no input, which is reported.
-fn print_inputs<E: MessageSink>(
+/// Prints metrics, or writes them to a file in one step. The file stays as it is if there are none, as without an image.
+fn run_metrics<E: MessageSink>(
     rt: &HostRuntime,
     query: &Query,
     source: &Source,
     records: Option<&Word>,
     settings: &Settings,
+    file: Option<&Word>,
+    err: &mut E,
+) -> Result<u8, AllocError>
+    requires { IsQuery query.now }
+{
+    let Some(file) = file else {
+        return run_query(rt, query, source, records, settings, err);
+    };
+    tell_waiting(rt, source, err);
+    let memory = Closable::new(Vec::new(rt.alloc()));
+    let mut out = Written::new(BufWriter::new(rt.alloc(), memory).or(Err(AllocError))?);
+    let outcome = print_inputs(rt, query, source, records, settings, &mut out, err);
+    let (memory, _) = out.into_inner().into_parts();
+    let text = memory.into_inner();
+    match outcome? {
+        Some(outcome) if text.is_empty() => Ok(outcome.status),
+        Some(outcome) => Ok(save(rt, text.as_slice(), file, outcome.status, err)),
+        None => Ok(USAGE),
+    }
+}
+
+/// Writes a text to a file in one step, and returns this exit status, or another if that failed.
+fn save<E: MessageSink>(
+    rt: &HostRuntime,
+    text: &[u8],
+    file: &Word,
+    status: u8,
+    err: &mut E,
+) -> u8 {
+    if write_file(rt, file.as_str(), text).is_ok() {
+        return status;
+    }
+    let _ = write_message(err, &[Text("cannot write "), Escaped(file.as_str())]);
+    UNWRITTEN
+}
+
+/// Prints what a query asks for, from each input. None if there is no input, which is reported.
+fn print_inputs<W: Write + Drop, E: MessageSink>(
+    rt: &HostRuntime,
+    query: &Query,
+    source: &Source,
+    records: Option<&Word>,
+    settings: &Settings,
+    out: &mut Output<W>,
     err: &mut E,
 ) -> Result<Option<Outcome>, AllocError>
     requires { IsQuery query.now }
 {
-    let outcome = match source {
+    match source {
         Source::Images(images) => {
             let (query, images) = (ImageQuery::Print(query), images.as_slice());
-            run_images(rt, query, images, settings, err)?
+            Ok(Some(print_images(rt, settings, query, images, out, err)))
         }
         Source::Live(tool, folder, host) => match live_of(rt, *tool, folder.as_str(), err)? {
-            Some(live) => run_live(rt, query, live, host.as_ref(), records, settings, err)?,
-            None => return Ok(None),
+            Some(live) => {
+                let host = host.as_ref();
+                let outcome = print_machine(rt, query, live, host, records, settings, out, err)?;
+                Ok(Some(outcome))
+            }
+            None => Ok(None),
         },
-    };
-    Ok(Some(outcome))
+    }
 }
 
 /// Prints each image in its canonical spelling.
@@ -305,7 +389,11 @@ fn run_rewrite<E: MessageSink>(
     tell_waiting(rt, source, err);
     match source {
         Source::Images(images) => {
-            Ok(run_images(rt, ImageQuery::Rewrite, images.as_slice(), settings, err)?.status)
+            let mut out = buffered_output(rt)?;
+            let (query, images) = (ImageQuery::Rewrite, images.as_slice());
+            let outcome = print_images(rt, settings, query, images, &mut out, err);
+            discard(out);
+            Ok(outcome.status)
         }
         Source::Live(..) => Ok(refuse(&[Text("'image rewrite' needs an image")], err)),
     }
@@ -383,14 +471,14 @@ fn discard<W: Write + Drop>(out: Output<W>) {
 }
 
 /// Prints what is asked for from the live controller, with the sensor data records of an image if one is named and has them.
-fn print_machine<'a, E: MessageSink>(
+fn print_machine<'a, W: Write + Drop, E: MessageSink>(
     rt: &HostRuntime,
     query: &Query,
     live: Live<'_>,
     host: Option<&'a Word>,
     records: Option<&'a Word>,
     settings: &'a Settings,
-    out: &mut Output<io::Printer<'_, HostRuntime>>,
+    out: &mut Output<W>,
     err: &mut E,
 ) -> Result<Outcome, AllocError>
     requires { IsQuery query.now }
@@ -424,40 +512,6 @@ fn print_machine<'a, E: MessageSink>(
     ];
     let _ = write_message(err, &line);
     Ok(print_live(alloc, settings, host, query, &mut machine, out, err))
-}
-
-/// Prints what is asked for from the live controller, with buffered output.
-fn run_live<E: MessageSink>(
-    rt: &HostRuntime,
-    query: &Query,
-    live: Live<'_>,
-    host: Option<&Word>,
-    records: Option<&Word>,
-    settings: &Settings,
-    err: &mut E,
-) -> Result<Outcome, AllocError>
-    requires { IsQuery query.now }
-{
-    let mut out = buffered_output(rt)?;
-    let outcome = print_machine(rt, query, live, host, records, settings, &mut out, err);
-    discard(out);
-    outcome
-}
-
-/// Prints what is asked for from these images, with buffered output.
-fn run_images<E: MessageSink>(
-    rt: &HostRuntime,
-    query: ImageQuery<'_>,
-    images: &[Word],
-    settings: &Settings,
-    err: &mut E,
-) -> Result<Outcome, AllocError>
-    requires { IsImageQuery query }
-{
-    let mut out = buffered_output(rt)?;
-    let outcome = print_images(rt, settings, query, images, &mut out, err);
-    discard(out);
-    Ok(outcome)
 }
 
 /// Says that an image is read from a terminal, if it is.

@@ -3,13 +3,13 @@ ghost use Rattle.std.specs.Prelude.{◌≡◌, [], Some};
 ghost use Rattle.ipmi_output.specs.Received.{ReceivesText};
 ghost use Rattle.serdimko.specs.RunError.{said_of_error, Tells};
 ghost use Rattle.serdimko.specs.Images.{lacking};
-ghost use Rattle.serdimko.specs.Settings.{is_headed, texts_of, wording_of};
+ghost use Rattle.ipmi_program.specs.Wording.{wording_of};
+ghost use Rattle.serdimko.specs.Settings.{is_headed, texts_of};
 
 use crate::outcome::Outcome;
 use crate::run_error::RunError;
-use ipmi_command_line::{Format, Word};
+use ipmi_command_line::{Form, Format, Word};
 use ipmi_commands::RequestLimits;
-use ipmi_csv::Csv;
 use ipmi_image::Lack;
 use ipmi_json::Label;
 use ipmi_output::{MessageSink, write_message};
@@ -32,14 +32,14 @@ impl Settings {
         ensures { result ≡ is_headed self.now.format is_only_input }
     {
         match &self.format {
-            Format::Json(_) | Format::Csv(..) => false,
+            Format::Labelled(..) => false,
             Format::Plain | Format::Descriptive => !is_only_input,
         }
     }
 
     /// Whether rows are printed.
     pub(crate) fn is_csv(&self) -> bool {
-        matches!(self.format, Format::Csv(..))
+        matches!(self.format, Format::Labelled(Form::Csv, ..))
     }
 
     /// The labels of objects or rows, each `KEY=VALUE`.
@@ -47,7 +47,7 @@ impl Settings {
         ensures { result.now ≡ texts_of self.now.format }
     {
         match &self.format {
-            Format::Json(labels) | Format::Csv(_, labels) => labels.as_slice(),
+            Format::Labelled(_, _, labels) => labels.as_slice(),
             Format::Plain | Format::Descriptive => &[],
         }
     }
@@ -65,18 +65,9 @@ impl Settings {
         ensures input { result.is_only_input ≡ is_only_input }
         ensures nothing_lacks { result.format.lacks.now ≡ [] }
     {
-        let wording = match &self.format {
-            Format::Plain => Wording::Plain,
-            Format::Descriptive => Wording::Descriptive,
-            Format::Json(_) => Wording::Json(labels),
-            Format::Csv(separator, _) => Wording::Csv(Csv {
-                separator: *separator,
-                labels,
-            }),
-        };
         Report {
             format: WithLacks {
-                format: wording,
+                format: Wording::of(&self.format, labels),
                 lacks: &[],
             },
             strict: self.strict,

@@ -1,7 +1,7 @@
 //! What command lines of `serdimko` ask for, and why others are refused.
 use crate::cases::parts;
 use ipmi_command_line::{
-    Action, Filters, Format, IdRange, Ids, Request, Source, Task, UsageError, Word, Words,
+    Action, Filters, Form, Format, IdRange, Ids, Request, Source, Task, UsageError, Word, Words,
     request_of,
 };
 use std::alloc::Global;
@@ -40,6 +40,17 @@ fn task_text(rt: &impl Abort, alloc: Global, task: &Task) -> String {
     }
 }
 
+/// Tasks, each after a space.
+fn tasks_text(rt: &impl Abort, alloc: Global, tasks: &[Task]) -> String {
+    let mut text = String::new(alloc);
+    for task in tasks {
+        let task = task_text(rt, alloc, task);
+        text.push_str(" ").expect(rt, "memory");
+        text.push_str(task.as_str()).expect(rt, "memory");
+    }
+    text
+}
+
 fn file_text(file: Option<&Word>) -> &str {
     match file {
         Some(file) => file.as_str(),
@@ -53,6 +64,10 @@ fn action_text(rt: &impl Abort, alloc: Global, action: &Action) -> String {
             let task = task_text(rt, alloc, task);
             format!(in alloc; "{task} {from:?}").expect(rt, "memory")
         }
+        Action::PrintEach(tasks) => {
+            let tasks = tasks_text(rt, alloc, tasks.as_slice());
+            format!(in alloc; "each{tasks}").expect(rt, "memory")
+        }
         Action::GetSensors(names, from) => {
             let names = spaced(rt, alloc, names.as_slice());
             format!(in alloc; "sensors{names} {from:?}").expect(rt, "memory")
@@ -65,7 +80,14 @@ fn action_text(rt: &impl Abort, alloc: Global, action: &Action) -> String {
             let file = file_text(output.as_ref());
             format!(in alloc; "capture {file} {quiet} {partial}").expect(rt, "memory")
         }
-        Action::Check => String::from_str(alloc, "check").expect(rt, "memory"),
+        Action::Check { has_data: false } => String::from_str(alloc, "check").expect(rt, "memory"),
+        Action::Check { has_data: true } => {
+            String::from_str(alloc, "check and data").expect(rt, "memory")
+        }
+        Action::Metrics { is_open, output } => {
+            let file = file_text(output.as_ref());
+            format!(in alloc; "metrics {is_open} {file}").expect(rt, "memory")
+        }
         Action::Rewrite => String::from_str(alloc, "rewrite").expect(rt, "memory"),
         Action::Help(topic) => format!(in alloc; "help {topic:?}").expect(rt, "memory"),
         Action::Version => String::from_str(alloc, "version").expect(rt, "memory"),
@@ -90,11 +112,11 @@ fn format_text(rt: &impl Abort, alloc: Global, form: &Format) -> String {
     match form {
         Format::Plain => String::from_str(alloc, "plain").expect(rt, "memory"),
         Format::Descriptive => String::from_str(alloc, "words").expect(rt, "memory"),
-        Format::Json(labels) => {
+        Format::Labelled(Form::Json, _, labels) => {
             let labels = spaced(rt, alloc, labels.as_slice());
             format!(in alloc; "json{labels}").expect(rt, "memory")
         }
-        Format::Csv(separator, labels) => {
+        Format::Labelled(Form::Csv, separator, labels) => {
             let labels = spaced(rt, alloc, labels.as_slice());
             format!(in alloc; "csv {separator:?}{labels}").expect(rt, "memory")
         }
@@ -216,8 +238,12 @@ sel,elist,last,3|SelList(Last(3)) None; images; None 5; words; false
 sel,tail,5|SelList(Tail(5)) None; images; None 5; words; false
 sel,tail,0xffff,--json|SelList(Tail(65535)) None; images; None 5; json; false
 sel,get,0x16|SelGet(22) None; images; None 5; plain; false
-sel,get,--id,0016|SelGet(22) None; images; None 5; plain; false
---id=0x16,sel,get|SelGet(22) None; images; None 5; plain; false
+sel,get,--id,0016|each SelGet(22); images; None 5; plain; false
+--id=0x16,sel,get|each SelGet(22); images; None 5; plain; false
+sel,get,--id,000e-0010|each SelGet(14) SelGet(15) SelGet(16); images; None 5; plain; false
+fru,print,--id,fd-fe,--json|each Fru(Some(253)) Fru(Some(254)); images; None 5; json; false
+sel,get,1,0x10,3|each SelGet(1) SelGet(16) SelGet(3); images; None 5; plain; false
+fru,print,0,254|each Fru(Some(0)) Fru(Some(254)); images; None 5; plain; false
 fru,print,254|Fru(Some(254)) None; images; None 5; plain; false
 fru,list,--strict,--strict|Fru(None) None; images; None 5; words; true
 --json,--label,a=1,--label,b=2,fru|Fru(None) None; images; None 5; json a=1 b=2; false
@@ -230,6 +256,10 @@ check|check; images; None 5; plain; false
 check,--image,a,--exclude,Fan 1,--type,fan|check type 4 not Fan 1; images a; None 5; plain; false
 --live,ipmitool:x,--records,a,check,--tries,1|check; Ipmitool x a; None 1; plain; false
 help,check|help Check; images; None 5; plain; false
+check,--perfdata|check and data; images; None 5; plain; false
+metrics|metrics false -; images; None 5; plain; false
+--live,ipmitool:x,metrics,-o,a.prom,--openmetrics,--type,fan|metrics true a.prom type 4; Ipmitool x ; None 5; plain; false
+help,metrics|help Metrics; images; None 5; plain; false
 --live,ipmitool:/tmp/x:fe80::1%eth0,fru|Fru(None) None; Ipmitool /tmp/x fe80::1%eth0; None 5; plain; false
 --live,ipmitool:x,--records,r.image,sensor|List(Sensors) None; Ipmitool x r.image; None 5; words; false
 image,rewrite,--image,a|rewrite; images a; None 5; plain; false
@@ -247,7 +277,7 @@ fn lines_ask_for_this(rt: HostRuntime) {
 
 /// `words|why they are refused`.
 const REFUSED: &str = "srd|unknown command 'srd': did you mean 'sdr'?
-foo|unknown command 'foo': use one of sdr sensor sel fru check capture image help
+foo|unknown command 'foo': use one of sdr sensor sel fru check metrics capture image help
 server.image|unknown command 'server.image': a file comes after --image
 sdr,lst|unknown word 'lst' after 'sdr': did you mean 'list'?
 sel,cl\u{7}ear|unknown word 'cl\\x07ear' after 'sel': use one of info list elist tail get
@@ -263,7 +293,7 @@ sdr,type,Fan,--type,Fan|--type does not go with 'sdr type'
 sdr,entity|'sdr entity' needs an entity: ID or ID.INSTANCE, 0 to 255 and 0 to 127
 sdr,entity,3.128|'3.128' is not an entity: ID or ID.INSTANCE, 0 to 255 and 0 to 127
 sdr,entity,3,1|unexpected word '1' with 'sdr entity'
-sensor,--id,5-1|--id '5-1' is not a hex id from 1 to FFFE; a listing also takes ascending ranges and commas, as 0001-0005,000A
+sensor,--id,5-1|--id '5-1' is not a list of hex ids (events 1 to FFFE, devices 0 to FE), as 16 or 0001-0005,000A
 sdr,get,A,--exclude,B|--exclude does not go with 'sdr get'
 sel,tail,5,--type,Fan|--type does not go with 'sel tail'
 sel,list,--entity,3|--entity does not go with 'sel list'
@@ -286,6 +316,13 @@ sdr,info,foo|unexpected word 'foo' with 'sdr info'
 sel,list,ten|'ten' is not a number from 0 to 65535, in decimal without leading zeros or as 0x and up to four hex digits
 sel,get,0016|'0016' is not an ID from 1 to 65534, in decimal without leading zeros or as 0x and up to four hex digits: in hex write 0x0016, or --id 0016
 sel,get|'sel get' needs an ID from 1 to 65534
+sel,get,1,0,2|'0' is not an ID from 1 to 65534, in decimal without leading zeros or as 0x and up to four hex digits
+sel,get,--id,0-3|--id '0-3' is not a list of hex ids (events 1 to FFFE, devices 0 to FE), as 16 or 0001-0005,000A
+fru,print,0,255|'255' is not an ID from 0 to 254, in decimal without leading zeros or as 0x and up to four hex digits
+fru,print,1f|'1f' is not an ID from 0 to 254, in decimal without leading zeros or as 0x and up to four hex digits: in hex write 0x1f, or --id 1f
+fru,print,--id,00ff|--id '00ff' is not a list of hex ids (events 1 to FFFE, devices 0 to FE), as 16 or 0001-0005,000A
+fru,print,1,--id,2|'fru print' takes an ID or --id, not both
+fru,print,1,2,--from,0001|--from does not go with 'fru print'
 sel,tail|'sel tail' needs a number from 1 to 65535
 sel,tail,0|'0' is not a number from 1 to 65535, in decimal without leading zeros or as 0x and up to four hex digits
 sel,tail,5,6|unexpected word '6' with 'sel tail'
@@ -301,6 +338,10 @@ capture|'capture' needs a live controller: see serdimko-live --help
 --image,a,--image,b,image,rewrite|'image rewrite' takes one image
 --image,a,--image,b,check|'check' takes one image
 check,--from,0001|--from does not go with 'check'
+metrics,--perfdata|--perfdata does not go with 'metrics'
+metrics,fans|unexpected word 'fans' with 'metrics'
+--image,a,--image,b,metrics|'metrics' takes one image
+--json,metrics|--json does not go with 'metrics'
 check,sensors|unexpected word 'sensors' with 'check'
 check,--worse,warning|--worse does not go with 'check'
 --json,check|--json does not go with 'check'

@@ -4,8 +4,8 @@ use super::saved::THREE_ROWS;
 use crate::cases::first_line;
 use crate::command_line::lines::{command, read_line};
 use ipmi_command_line::{Command, UsageFault};
-use ipmi_commands::answer;
 use ipmi_output::Written;
+use ipmi_plain::answer;
 use std::alloc::Global;
 use std::process::Abort;
 

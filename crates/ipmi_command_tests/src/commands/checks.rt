@@ -2,11 +2,12 @@
 use super::over_images::scripted;
 use crate::writers::assert_written_text;
 use ipmi_bus::Code;
-use ipmi_check::{Standing, Verdict, check_text, text_without_memory};
+use ipmi_check::{Detail, Standing, Verdict, check_text, text_without_memory};
 use ipmi_command_line::Filters;
-use ipmi_commands::{FoundSensors, RequestLimits, Sought, find_sensors};
-use ipmi_image::{Item, Lack};
-use std::alloc::Global;
+use ipmi_commands::RequestLimits;
+use ipmi_image::{Image, ImageController, Item, Lack};
+use ipmi_sensors::{FoundSensors, Sought, find_sensors};
+use std::alloc::{AllocError, Global};
 use std::process::Abort;
 
 /// A temperature sensor with number 01h, a FRU device, and a power supply with number 10h. The readings follow.
@@ -78,7 +79,7 @@ fn assert_check(
         "{wanted}: {}",
         verdict.status()
     );
-    let text = check_text(alloc, &found, &[], why).expect(rt, "memory");
+    let text = check_text(alloc, &found, &[], why, Detail::Plain).expect(rt, "memory");
     assert_written_text(rt, &text, wanted);
     drop(text);
     drop(found);
@@ -152,7 +153,7 @@ fn a_reading_that_was_not_captured_is_unknown(rt: HostRuntime) {
     }];
     let status = Verdict::of(&found, &lacks, has_failed).status();
     assert!(&rt; status == 3, "{status}");
-    let text = check_text(alloc, &found, &lacks, None).expect(&rt, "memory");
+    let text = check_text(alloc, &found, &lacks, None, Detail::Plain).expect(&rt, "memory");
     let wanted = "IPMI UNKNOWN - a record can't be judged; not judged: 1
 unknown: record 0004 can't be judged
 ";
@@ -261,5 +262,97 @@ fn with_troubles_a_critical_sensor_is_never_ok(rt: HostRuntime) {
         assert!(&rt; status >= 2, "{moods}: {status}");
         drop(found);
         drop(moods);
+    }
+}
+
+/// Voltages in units of 0.06. The first name is `A'B=C|D`. Of the second only the lower critical and non-critical thresholds are readable,
+/// and of the third none. The fourth has no reading, and the fifth no thresholds.
+const VOLTAGES: &str = "ipmi-image 1
+sdr 0015 0016 150051013220000f07017f680201950a950a3f3f000400000600000000e00780a010ff00faf5f0646e780202000000c74127423d437c44
+sdr 0016 0017 160051012e20001007017f680201950a950a033f000400000600000000e00780a010ff00faf5f0646e780202000000c3503556
+sdr 0017 0018 170051012f20001107017f680201950a950a0000000400000600000000e00780a010ff00faf5f0646e780202000000c450335633
+sdr 0018 0019 180051012f20001207017f680201950a950a3f3f000400000600000000e00780a010ff00faf5f0646e780202000000c450315638
+sdr 0019 ffff 190051012f20001307017f68026f950a950a3f3f000400000600000000e00780a010ff00faf5f0646e780202000000c456424154
+";
+
+/// The data of `VOLTAGES`. An end that is not readable is left out.
+const VOLTAGE_DATA: &str =
+    "IPMI OK - 5 sensors; without a reading: 1 | 'A''B/C/D'=12;7.2:14.4;6.6:14.7 'P5V'=3;7.2:;6.6: 'P3V3'=6;;\n";
+
+/// Asserts the text of a check with performance data.
+fn assert_data(rt: &impl Abort, alloc: Global, records: &str, readings: &str, wanted: &str) {
+    let (found, _) = search(rt, alloc, records, readings, "");
+    let text = check_text(alloc, &found, &[], None, Detail::PerformanceData).expect(rt, "memory");
+    assert_written_text(rt, &text, wanted);
+    drop(text);
+    drop(found);
+}
+
+#[test]
+fn performance_data_end_the_first_line(rt: HostRuntime) {
+    let alloc = rt.alloc();
+    let readings = "reading 0 01 2dc00000\nreading 0 10 00c00100\n";
+    let wanted = "IPMI OK - 2 sensors | 'CPU Temp'=45;:85;:90\n";
+    assert_data(&rt, alloc, SENSORS, readings, wanted);
+    let readings = "reading 0 01 5cc01800\nreading 0 10 00c00100\n";
+    let wanted =
+        "IPMI CRITICAL - 1 of 2 sensors: CPU Temp (92 degrees C, ucr) | 'CPU Temp'=92;:85;:90
+critical: CPU Temp (92 degrees C, ucr)
+";
+    assert_data(&rt, alloc, SENSORS, readings, wanted);
+}
+
+/// Raw readings C8h, 32h and 64h.
+#[test]
+fn performance_data_have_the_thresholds_that_can_be_read(rt: HostRuntime) {
+    let readings = "reading 0 0f c8c00000
+reading 0 10 32c00000
+reading 0 11 64c00000
+reading 0 13 c8c00000
+";
+    assert_data(&rt, rt.alloc(), VOLTAGES, readings, VOLTAGE_DATA);
+}
+
+/// No sensor with thresholds has a reading.
+#[test]
+fn without_performance_data_there_is_no_bar(rt: HostRuntime) {
+    let readings = "reading 0 10 00c00100\n";
+    let wanted = "IPMI OK - 2 sensors; without a reading: 1\n";
+    assert_data(&rt, rt.alloc(), SENSORS, readings, wanted);
+}
+
+/// The text of a check of `VOLTAGES` with performance data, where memory may be refused at any request.
+fn checked_voltages(alloc: Global) -> Result<Vec<u8>, AllocError> {
+    let image = format!(in alloc; "{VOLTAGES}reading 0 0f c8c00000\nend\n")?;
+    let Ok(image) = Image::read(alloc, image.as_bytes()) else {
+        return Err(AllocError);
+    };
+    let mut ctl = ImageController::new(image);
+    let filters = Filters::new(alloc);
+    let mut found = FoundSensors::new(alloc);
+    let limits = RequestLimits::new(32, 1);
+    let sought = Sought::Sensors(&filters);
+    match find_sensors(alloc, &mut ctl, limits, sought, None, &mut found) {
+        Ok(()) => check_text(alloc, &found, &[], None, Detail::PerformanceData),
+        Err(_) => Err(AllocError),
+    }
+}
+
+/// What `checked_voltages` returns.
+const CHECKED: &str =
+    "IPMI OK - 5 sensors; without a reading: 4 | 'A''B/C/D'=12;7.2:14.4;6.6:14.7\n";
+
+/// With ample memory the text is returned.
+#[test]
+fn not_always_out_of_memory(rt: HostRuntime) {
+    let text = checked_voltages(rt.alloc()).expect(&rt, "memory");
+    assert_written_text(&rt, &text, CHECKED);
+}
+
+/// With memory refused the text is returned, or the call fails when out of memory.
+#[test]
+fn memory_may_be_refused(rt: HostRuntime) {
+    if let Ok(text) = checked_voltages(rt.alloc()) {
+        assert_written_text(&rt, &text, CHECKED);
     }
 }

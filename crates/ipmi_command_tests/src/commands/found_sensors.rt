@@ -3,10 +3,11 @@ use super::over_images::scripted;
 use crate::writers::assert_written_text;
 use ipmi_bus::Ended;
 use ipmi_command_line::Words;
-use ipmi_commands::{FoundSensors, RequestLimits, Sought, Summary, find_sensors, print_sensors};
+use ipmi_commands::{RequestLimits, Summary};
 use ipmi_fixtures::{CPU_TEMP_BLOCK, PSU1_BLOCK};
 use ipmi_output::{Failure, Written};
 use ipmi_program::Wording;
+use ipmi_sensors::{FoundSensors, Sought, find_sensors, print_sensors};
 use std::alloc::Global;
 use std::process::Abort;
 

@@ -2,8 +2,9 @@
 use crate::controllers::Counting;
 use ipmi_bus::Controller;
 use ipmi_command_line::Command;
-use ipmi_commands::{Job, RequestLimits, Summary, execute, run};
+use ipmi_commands::{Job, RequestLimits, Summary, execute};
 use ipmi_output::{Failure, Sink, Written};
+use ipmi_plain::run;
 use ipmi_program::Wording;
 use std::alloc::Global;
 use std::process::Abort;

@@ -11,9 +11,9 @@ use crate::controllers::Counting;
 use crate::writers::assert_written_text;
 use ipmi_bus::Controller;
 use ipmi_command_line::{Command, Task};
-use ipmi_commands::run_pages;
 use ipmi_image::{Image, ImageController, ImageFault};
 use ipmi_output::Written;
+use ipmi_plain::run_pages;
 use std::alloc::Global;
 use std::process::Abort;
 

@@ -6,15 +6,16 @@ use Rattle.clap.specs.declared.error.kind.ErrorKind.TheVariants.{OutOfMemory}
 use Rattle.clap.specs.declared.parser.matches.ArgMatches.{ArgMatches}
 use Rattle.clap.specs.Words.{App, FailsBy, HasMatchesOf, IsAmong, Kinds, Text, fault_of, found_of, is_simple, is_simple_and_free, kind_of, matches_of, rows_of}
 use Rattle.ipmi_command_line.specs.Arguments.{command_line, is_taken, rows_of_words}
+use Rattle.ipmi_command_line.specs.Options.{options, options_anywhere, reference_options}
 use Rattle.clap.specs.Walk.{is_empty}
 use Rattle.ipmi_command_line.proofs.arguments.arguments.Goals as goal
 
 is_simple-command_line : is_simple command_line ≡ true
-unfolding clap_on_literals
+unfolding clap_on_literals options options_anywhere reference_options
 is_simple-command_line = refl
 
 is_simple_and_free-command_line : is_simple_and_free command_line ≡ true
-unfolding clap_on_literals
+unfolding clap_on_literals options options_anywhere reference_options
 is_simple_and_free-command_line = refl
 
 is_empty-kinds : (k : ErrorKind) (ks : Kinds) → IsAmong k ks → is_empty ks ≡ false

@@ -1,4 +1,4 @@
-use Rattle.std.proofs.Common.{◌∙◌, ap, arith, sym}
+use Rattle.std.proofs.Common.{arith}
 use Rattle.ipmi_command_line.proofs.FilterLemmas.{no_ids, some_ids}
 use Rattle.ipmi_command_line.proofs.filters.ids_of.Goals as goal
 

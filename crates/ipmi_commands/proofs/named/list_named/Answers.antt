@@ -2,9 +2,9 @@ use Rattle.std.proofs.Common.{Ok, Err, refl, sym, ◌∙◌}
 use Rattle.ipmi_commands.proofs.AskLemmas.{passed}
 use Rattle.ipmi_commands.proofs.NamedLemmas.{devices_run, events_run, names_failed, some_is}
 use Rattle.ipmi_commands.proofs.PartLemmas.{after_spares, job_spares, walk_spares}
-use Rattle.ipmi_commands.specs.declared.format.Detail.{Detail}
+use Rattle.ipmi_selection.specs.declared.detail.Detail.{Detail}
 use Rattle.ipmi_commands.specs.Below.{IsStateOf}
-use Rattle.ipmi_commands.specs.Selection.{in_detail}
+use Rattle.ipmi_selection.specs.Selection.{in_detail}
 use Rattle.ipmi_commands.proofs.named.list_named.Goals as goal
 
 pub returns-in_err-walked-clause-runs : goal.returns-in_err-walked-clause-runs

@@ -14,10 +14,10 @@ list_records-requires-clause-room g c = fresh_room c.in_ok-cursor.ensures
 
 pub returns-in_err-list_records-clause-honest : goal.returns-in_err-list_records-clause-honest
 returns-in_err-list_records-clause-honest g c = λ some h.
-    rw (passed _ _ c.from_residual-in_err-list_records.ensures.1) (page_by_cursor (g.F.Format.texts c.args.format.now) (Err _) c.in_ok-cursor.ensures some h (c.in_err-list_records.ensures.lists.honest h))
+    rw (passed _ _ c.from_residual-in_err-list_records.ensures.1) (page_by_cursor (g.F.Format.texts c.args.format.now) (Err _) (rw c.shelf.ensures at c.in_ok-cursor.ensures) some h (c.in_err-list_records.ensures.lists.honest h))
 
 pub returns-clause-honest : goal.returns-clause-honest
-returns-clause-honest g c = λ some h. rw c.resume_at.ensures (page_by_cursor (g.F.Format.texts c.args.format.now) (Ok _) c.in_ok-cursor.ensures some h (c.in_ok-list_records.ensures.lists.honest h))
+returns-clause-honest g c = λ some h. rw c.resume_at.ensures (page_by_cursor (g.F.Format.texts c.args.format.now) (Ok _) (rw c.shelf.ensures at c.in_ok-cursor.ensures) some h (c.in_ok-list_records.ensures.lists.honest h))
 
 pub returns-in_err-cursor-clause-whole : goal.returns-in_err-cursor-clause-whole
 returns-in_err-cursor-clause-whole g c = whole_none c.args.form.now _ (ending_of c.from_residual.result)

@@ -19,6 +19,6 @@ returns g c = record {
   status = c.print_verdict.result;
   prints = rw (c.of_connection-error.ensures, c.of.ensures) at c.print_verdict.ensures;
   result_is = c.of_verdict.ensures;
-  fine = λ honest zero. zero_is_fine c.args.report.now _ _ c.args.limits.tries _ _ c.find_sensors-ending.new.found c.find_sensors-ending.result c.last_line-said.result (out_of c.args.out.now) (out_of c.print_verdict.new.out) c.print_verdict.result
+  fine = λ honest zero. zero_is_fine c.args.report.now c.args.detail _ _ c.args.limits.tries _ _ c.find_sensors-ending.new.found c.find_sensors-ending.result c.last_line-said.result (out_of c.args.out.now) (out_of c.print_verdict.new.out) c.print_verdict.result
       (rw c.new-found.ensures at (c.find_sensors-ending.ensures.searches honest)) (rw (c.of_connection-error.ensures, c.of.ensures) at c.print_verdict.ensures) zero;
 }

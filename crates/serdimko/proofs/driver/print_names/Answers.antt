@@ -1,6 +1,6 @@
 use Rattle.std.proofs.Common.{ℕ, List, Err, arith, refl, subst}
 use Rattle.ipmi_commands.specs.Prelude.{printed}
-use Rattle.ipmi_commands.specs.Sensors.{PrintsFound}
+use Rattle.ipmi_sensors.specs.Sensors.{PrintsFound}
 use Rattle.serdimko.specs.Settings.{texts_for}
 use Rattle.serdimko.specs.Out.{out_of}
 use Rattle.serdimko.proofs.NamesLemmas.{named_all, named_last, named_none, named_one}

@@ -1,7 +1,7 @@
 use Rattle.std.proofs.Common.{[]}
 use Rattle.ipmi_json.specs.Members.{Top}
 use Rattle.ipmi_json.specs.Sdr.{fault_members}
-use Rattle.ipmi_csv.specs.declared.columns.Table.{Table}
+use Rattle.ipmi_commands.specs.declared.format.Table.{Table}
 use Rattle.ipmi_csv.specs.Columns.{columns_of}
 use Rattle.ipmi_csv.proofs.RowLemmas.{row_is_some}
 use Rattle.ipmi_csv.proofs.format.CsvFormat.fault.Goals as goal

@@ -1,4 +1,4 @@
-use Rattle.ipmi_csv.specs.declared.columns.Table.{Table}
+use Rattle.ipmi_commands.specs.declared.format.Table.{Table}
 use Rattle.ipmi_csv.specs.Columns.{columns_of}
 use Rattle.ipmi_csv.proofs.RowLemmas.{record_told}
 use Rattle.ipmi_csv.proofs.format.CsvFormat.record.Goals as goal

@@ -1,0 +1,4 @@
+pub mod EscapeLemmas
+pub mod LabelLemmas
+pub mod LawLemmas
+pub mod MetricsLemmas
