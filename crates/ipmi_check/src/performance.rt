@@ -9,9 +9,9 @@ ghost use Rattle.ipmi_check.specs.Name.{name_or_id};
 ghost use Rattle.ipmi_check.specs.Performance.{after_bar, AreEnds, IsDataPart, IsDatum, IsDatumOf, IsDatumOfView, IsEnd, IsRange, label_byte, label_part, reported_value};
 
 use crate::name::push_name;
-use ipmi_sensors::FoundSensor;
 use ipmi_json::{threshold_value, value_shown};
 use ipmi_records::{FullSensor, KnownReading, SdrView, Threshold, has_thresholds, shown_of};
+use ipmi_sensors::FoundSensor;
 use ipmi_text::{Fixed, fixed_text};
 use std::alloc::{AllocError, Global};
 

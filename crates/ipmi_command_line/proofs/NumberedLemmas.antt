@@ -29,7 +29,6 @@ some_tasks kind words tasks all is =
     ap (λ (t : List Task). Some t) (is ∙ those_of_texts (task_of_word kind) words)
     ∙ sym (chosen kind (texts words) true (sym (all_of_texts (is_number kind) words) ∙ all))
 
-
 -- ---- each task is in its range
 
 is_task : (kind : Numbered) (n : ℕ) → lowest kind ≤ n → n ≤ highest kind → IsTask (task_numbered kind n)

@@ -34,11 +34,7 @@ fn with_options<'a>(
 }
 
 /// The command line: all options, and any number of words.
-#[tactic(auto, unfolding(
-    crate::specs::Options::options,
-    crate::specs::Options::reference_options,
-    crate::specs::Options::options_anywhere
-))]
+#[tactic(auto, unfolding(crate::specs::Options::options, crate::specs::Options::reference_options, crate::specs::Options::options_anywhere))]
 fn command_line<'a>(alloc: Global) -> Result<Command<'a>, AllocError>
     ensures { IfOk result (λ c. app_of c ≡ command_line) }
 {
@@ -96,9 +92,7 @@ pub(crate) fn value_count(matches: &ArgMatches<'_>, name: &str) -> usize
 fn has_other(matches: &ArgMatches<'_>) -> bool
     ensures { result ≡ has_other (rows_of (found_of matches.now)) }
 {
-    is_any_present(&OPTIONS, matches)
-        || is_given(matches, "version")
-        || is_given(matches, "help")
+    is_any_present(&OPTIONS, matches) || is_given(matches, "version") || is_given(matches, "help")
 }
 
 /// Whether there are only options of the reference program, and at most one image.

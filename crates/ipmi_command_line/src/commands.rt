@@ -76,14 +76,7 @@ pub type CommandRow = (
 );
 
 /// The options of commands that print records.
-const PRINTING: &[&str] = &[
-    "image",
-    "live",
-    "records",
-    "separator",
-    "label",
-    "strict",
-];
+const PRINTING: &[&str] = &["image", "live", "records", "separator", "label", "strict"];
 
 /// The options of commands that list sensor data records.
 const LISTING: &[&str] = &[

@@ -248,9 +248,7 @@ fn rule_of(option: &str) -> &'static str {
         "from" => "four hex digits from 0001 to FFFE",
         "part" => "a number from 1 to 254, decimal without leading zeros",
         "tries" => "a number from 0 to 255, decimal without leading zeros",
-        "id" => {
-            "a list of hex ids (events 1 to FFFE, devices 0 to FE), as 16 or 0001-0005,000A"
-        }
+        "id" => { "a list of hex ids (events 1 to FFFE, devices 0 to FE), as 16 or 0001-0005,000A" }
         "since" | "until" => {
             "a date, a time with Z or an offset, from 1970 to 2106, or hours or days ago: 2026-11-30, 2026-11-30T12:00Z, 2h or 3d"
         }

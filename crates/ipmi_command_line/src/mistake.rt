@@ -407,9 +407,8 @@ pub(crate) fn word_error<'a>(
             own,
             Hint::None,
         )),
-        (_, [word, ..]) if own.len() == 1 && !matches!(own, ["capture" | "check" | "metrics"]) => unknown(
-            alloc, word, own,
-        ),
+        (_, [word, ..]) if own.len() == 1 && !matches!(own, ["capture" | "check" | "metrics"]) =>
+            unknown(alloc, word, own),
         (_, [word, ..]) if is_file(word) => Ok(UsageError::Extra(word, own, Hint::File)),
         (_, [word, ..]) => Ok(UsageError::Extra(word, own, Hint::None)),
     }

@@ -395,11 +395,7 @@ fn tail_of(words: &[&str]) -> Option<Task>
 }
 
 /// The task of a command that prints records.
-fn task_of_row(
-    alloc: Global,
-    row: &CommandRow,
-    words: &[&str],
-) -> Result<Option<Task>, AllocError>
+fn task_of_row(alloc: Global, row: &CommandRow, words: &[&str]) -> Result<Option<Task>, AllocError>
     ensures value { IfOk result (λ task. task ≡ task_of_row (row_state row.now) (texts words.now)) }
     ensures range { IfOk result (λ task. IfSome task IsTask) }
 {

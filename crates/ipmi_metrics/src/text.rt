@@ -6,8 +6,8 @@ ghost use Rattle.ipmi_metrics.specs.Metrics.{AreSamples, end_of, faults_part, ga
 
 use crate::families::{FAMILIES, Family, push_head, push_with_head};
 use crate::samples::push_samples_of_view;
-use ipmi_sensors::{FoundSensor, FoundSensors};
 use ipmi_records::{Info, KnownReading};
+use ipmi_sensors::{FoundSensor, FoundSensors};
 use std::alloc::{AllocError, Global};
 
 /// The capacity for the samples of most families.

@@ -144,7 +144,11 @@ fn say_lost<'a, E: MessageSink>(line: &'a str, name: &'a str, err: &mut E)
 }
 
 /// Writes the file in one step: writes another file, then renames it.
-pub(crate) fn write_file<R: Files + AllocGlobal>(rt: &R, name: &str, text: &[u8]) -> io::Result<()> {
+pub(crate) fn write_file<R: Files + AllocGlobal>(
+    rt: &R,
+    name: &str,
+    text: &[u8],
+) -> io::Result<()> {
     let partial = format!(in rt.alloc(); "{name}.part")?;
     let mut file = File::create(rt, partial.as_str())?;
     let written = file

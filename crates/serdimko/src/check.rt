@@ -29,13 +29,7 @@ fn text_of(
     ensures { IfOk result (λ text. IsCheckText report.now.format.lacks.now found.now (message_of report.now error.now) detail text.items) }
 {
     let why = message_of(alloc, error, report)?;
-    check_text(
-        alloc,
-        found,
-        report.format.lacks,
-        why.as_deref(),
-        detail,
-    )
+    check_text(alloc, found, report.format.lacks, why.as_deref(), detail)
 }
 
 /// Prints the text of this verdict. Returns the exit status.
@@ -92,9 +86,7 @@ pub(crate) fn check<C: Connection, W: Write + Drop>(
     let ending = find_sensors(alloc, ctl, limits, sought, None, &mut found);
     let said = ctl.last_line(alloc);
     let error = RunError::of_connection(RunError::of(ending, false, false), said);
-    Outcome::of_verdict(print_verdict(
-        alloc, &found, &error, detail, report, out,
-    ))
+    Outcome::of_verdict(print_verdict(alloc, &found, &error, detail, report, out))
 }
 
 /// The text of a check that could not begin, for the reason in the last of these lines.

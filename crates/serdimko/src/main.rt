@@ -288,8 +288,7 @@ fn run_check<E: MessageSink>(
     let mut said = Vec::new(rt.alloc());
     let outcome = match buffered_output(rt) {
         Ok(mut out) => {
-            let outcome =
-                print_inputs(rt, query, source, records, settings, &mut out, &mut said);
+            let outcome = print_inputs(rt, query, source, records, settings, &mut out, &mut said);
             discard(out);
             outcome
         }
@@ -337,13 +336,7 @@ fn run_metrics<E: MessageSink>(
 }
 
 /// Writes a text to a file in one step, and returns this exit status, or another if that failed.
-fn save<E: MessageSink>(
-    rt: &HostRuntime,
-    text: &[u8],
-    file: &Word,
-    status: u8,
-    err: &mut E,
-) -> u8 {
+fn save<E: MessageSink>(rt: &HostRuntime, text: &[u8], file: &Word, status: u8, err: &mut E) -> u8 {
     if write_file(rt, file.as_str(), text).is_ok() {
         return status;
     }

@@ -42,7 +42,10 @@ fn read_log<'a, C: Controller>(
         return LogRead { info: None, ending };
     }
     match read_info(ctl, Shelf::Sel, tries) {
-        Ok(info) => LogRead { info, ending: Ok(()) },
+        Ok(info) => LogRead {
+            info,
+            ending: Ok(()),
+        },
         Err(ended) => LogRead {
             info: None,
             ending: Err(Failure::Ended(ended)),
@@ -94,14 +97,6 @@ pub(crate) fn print_metrics<C: Connection, W: Write + Drop, E: MessageSink>(
     let LogRead { info, ending } = read_log(ctl, searched, limits.tries().count);
     let said = ctl.last_line(alloc);
     let error = RunError::of_connection(RunError::of(ending, false, false), said);
-    let last = print_text(
-        alloc,
-        &found,
-        info.as_ref(),
-        is_up,
-        dialect,
-        error,
-        out,
-    );
+    let last = print_text(alloc, &found, info.as_ref(), is_up, dialect, error, out);
     report.tell(&last, err)
 }

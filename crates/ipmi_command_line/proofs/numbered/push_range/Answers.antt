@@ -16,5 +16,5 @@ loop-number-preserved c = (
 pub returns : goal.returns
 returns c =
     let all : c.loop-number.number - c.args.range.now.first ≡ c.args.range.now.last + 1 - c.args.range.now.first =
-        omega (arith, c.loop-number-test.false, c.loop-number.invariant.0, c.loop-number.invariant.1) in
+    omega (arith, c.loop-number-test.false, c.loop-number.invariant.0, c.loop-number.invariant.1) in
     c.loop-number.invariant.2 ∙ ap (λ (n : ℕ). c.args.tasks.now.items ++ map (task_numbered c.args.kind) (range_with_len c.args.range.now.first n)) all
