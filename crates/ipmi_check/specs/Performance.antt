@@ -15,7 +15,7 @@ use Rattle.ipmi_check.specs.declared.performance.Detail.{Detail}
 
 -- ---- labels
 
--- a quote is doubled; a slash stands for `=` and a bar, and a space for a line feed, which would end the label or all data
+-- a quote is doubled; `=` and a bar become a slash, and a line feed a space, since they would end the label or all data
 abbrev pub label_byte : ℕ → List ℕ
 label_byte byte =
     if byte == 39 then 39 ∷ 39 ∷ []
@@ -83,7 +83,7 @@ IsDatumOf found text = IsDatumIn found.id (sdr_view_of found.bytes) (known found
 
 -- ---- all data
 
--- a bar stands before data
+-- the data follow a bar
 abbrev pub after_bar : List ℕ → List ℕ
 after_bar [] = []
 after_bar (first ∷ rest) = codes " |" ++ (first ∷ rest)
@@ -93,7 +93,7 @@ pub record AreData (found : List Found) (text : List ℕ) : Type 0 where
   pub are_all : AreTexts IsDatumOf found all
   pub text_is : text ≡ after_bar all
 
--- what stands at the end of the first line
+-- the end of the first line
 abbrev pub IsDataPart : List Found → Detail → List ℕ → Type 0
 IsDataPart found Detail.Plain text = text ≡ []
 IsDataPart found Detail.PerformanceData text = AreData found text

@@ -221,7 +221,7 @@ fn push_after_bar(text: &mut Vec<u8>, all: &[u8]) -> Result<(), AllocError>
     text.extend_from_slice(all)
 }
 
-/// Appends what stands at the end of the first line.
+/// Appends the end of the first line.
 pub(crate) fn push_data(
     alloc: Global,
     text: &mut Vec<u8>,

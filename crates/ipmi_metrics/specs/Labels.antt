@@ -7,7 +7,7 @@ use Rattle.ipmi_records.specs.declared.sensor.Sensor.{Sensor}
 use Rattle.ipmi_records.specs.declared.threshold.Threshold.{Threshold}
 use Rattle.ipmi_metrics.specs.declared.measure.Measure.{Measure}
 
--- a backslash stands before a backslash, a quote and the letter for a line feed
+-- a backslash, a quote and a line feed are escaped with a backslash
 abbrev pub escaped_byte : ℕ → List ℕ
 escaped_byte byte =
     if byte == 92 then 92 ∷ 92 ∷ []

@@ -66,7 +66,7 @@ abbrev pub end_of : Dialect → List ℕ
 end_of Dialect.Prometheus = []
 end_of Dialect.OpenMetrics = codes "# EOF\n"
 
--- No two families have one name, and each stands once.
+-- No two families have the same name, and each is listed once.
 pub record IsMetricsText (found : List Found) (info : Option (List ℕ)) (is_up : Bool) (dialect : Dialect) (text : List ℕ) : Type 0 where
   pub sensors : List ℕ
   pub are_families : AreTexts (IsFamily found) families sensors

@@ -21,7 +21,7 @@ use Rattle.ipmi_metrics.specs.declared.families.Family.{Family}
 abbrev pub sample : List ℕ → List ℕ → List ℕ → List ℕ
 sample name labels value = name ++ (codes "{" ++ (labels ++ (codes "} " ++ (value ++ codes "\n"))))
 
--- NaN stands for no value
+-- NaN if there is no value
 abbrev pub IsNumber : Option ℤ → List ℕ → Type 0
 IsNumber None text = text ≡ codes "NaN"
 IsNumber (Some value) text = IsDecimalOf value text

@@ -159,7 +159,7 @@ fn push_up(text: &mut String, is_up: bool) -> Result<(), AllocError>
     push_gauge(text, "ipmi_up", help, "{collector=\"ipmi\"}", value)
 }
 
-/// What stands at the end of a text.
+/// The end of a text.
 fn end_of(dialect: Dialect) -> &'static str
     ensures { result.now ≡ end_of dialect }
 {
