@@ -3,7 +3,6 @@ use Rattle.std.specs.Prelude.{◌≡◌, ℕ, ◌+◌, ◌<◌, ◌≤◌, ◌/�
 use Rattle.jiff.specs.Words.{date_text, epoch_day}
 use Rattle.jiff.specs.declared.civil.Date.{Date}
 use Rattle.ipmi_text.specs.TwoDigits.{two_digits}
-use Rattle.ipmi_text.specs.declared.times.Moment.{Moment}
 use Rattle.ipmi_text.specs.declared.times.Meaning.{Meaning}
 use Rattle.ipmi_text.specs.declared.times.Meaning.TheVariants.{Unspecified, SinceStart, At}
 
@@ -21,18 +20,11 @@ pub record IsMoment (day : ℕ) (time text : List ℕ) : Type 0 where
   pub day_is : epoch_day date ≡ pos day
   pub text_is : text ≡ date_text date ++ (codes " " ++ time)
 
--- the text of a moment, and of the meaning of a time stamp
-abbrev pub moment_text : Moment → List ℕ
-moment_text moment =
-    date_text moment.date
-    ++ (codes " " ++ (two_digits moment.hour.value
-    ++ (codes ":" ++ (two_digits moment.minute.value
-    ++ (codes ":" ++ two_digits moment.second.value)))))
-
+-- the text of the meaning of a time stamp
 abbrev pub meaning_text : Meaning → List ℕ
 meaning_text Unspecified = codes "unspecified"
 meaning_text (SinceStart seconds) = codes "+" ++ (decimal seconds ++ codes " s")
-meaning_text (At moment) = moment_text moment
+meaning_text (At moment) = moment.characters
 
 -- a time stamp in seconds (IPMI v2.0, section 37): FFFFFFFFh is unspecified, those up to 20000000h count
 -- from the start of the controller's clock, and all others from 1970-01-01 00:00:00

@@ -1,6 +1,7 @@
 //! Values and texts shared by the other crates: the answer of a sensor, and how fields are printed.
 #![tactic(auto)]
 
+mod ascii;
 mod capacity;
 mod chassis;
 mod decimal;
@@ -14,7 +15,6 @@ mod reading;
 mod sdr_header;
 mod sensor_types;
 mod times;
-mod two_digits;
 mod units;
 
 pub use chassis::chassis_text;

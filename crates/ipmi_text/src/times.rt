@@ -1,52 +1,29 @@
 //! The texts of points in time.
-ghost use Rattle.std.specs.Prelude.{◌≡◌, ◌+◌, ◌/◌, ◌%◌, ◌<◌, ◌≤◌, ◌^◌, IfOk, string_bytes, pos};
+ghost use Rattle.std.specs.Prelude.{◌≡◌, ◌+◌, ◌/◌, ◌%◌, ◌<◌, ◌≤◌, ◌^◌, IfOk, string_bytes, pos, unsigned_abs};
 ghost use Rattle.jiff.specs.Words.{epoch_day};
-ghost use Rattle.ipmi_text.specs.Times.{IsMinutesTextOf, IsMoment, IsUtcTextOf, minute_text, moment_text, second_text, meaning_text};
+ghost use Rattle.ipmi_text.specs.Times.{IsMinutesTextOf, IsMoment, IsUtcTextOf, minute_text, second_text, meaning_text};
+ghost use Rattle.ipmi_text.specs.TwoDigits.{two_digits};
 
+use crate::ascii::AsciiText;
 use crate::capacity::text_with_capacity;
-use crate::two_digits::TwoDigits;
-use jiff::ToSpan;
-use jiff::civil::{Date, date};
+use jiff_core::civil::Date;
 use std::alloc::{AllocError, Global};
 use std::fmt;
 use std::marker::Model;
 
-/// The day number of 1996-01-01, counted from 1970-01-01.
-const FIRST_FRU_DAY: u32 = 9496;
+/// 1996-01-01 00:00, in seconds after 1970-01-01 00:00.
+const FIRST_FRU_SECOND: u32 = 820_454_400;
+
+/// The length of `YYYY-MM-DD HH:MM`.
+const TO_THE_MINUTE: usize = 16;
 
 /// The capacity for a text: a date and a time take 19 bytes.
 const CAPACITY: usize = 24;
 
 const SECONDS_OF_DAY: u32 = 86_400;
 
-const MINUTES_OF_DAY: u32 = 1440;
-
 /// The last time stamp that counts from the start of the controller's clock.
 const LAST_SINCE_START: u32 = 0x2000_0000;
-
-/// A date and a time of day, printed as `YYYY-MM-DD HH:MM:SS`.
-#[derive(Clone, Copy, Debug)]
-struct Moment {
-    date: Date,
-    hour: TwoDigits,
-    minute: TwoDigits,
-    second: TwoDigits,
-}
-
-impl fmt::Display for Moment {
-    ghost use Rattle.std.specs.Prelude.{Some};
-    ghost use Rattle.ipmi_text.specs.Times.{moment_text};
-
-    ghost output = { λ moment. Some (moment_text moment) };
-
-    fn fmt<W: fmt::Write>(&self, f: &mut fmt::Formatter<W>) -> fmt::Result {
-        let date = self.date;
-        let hour = self.hour;
-        let minute = self.minute;
-        let second = self.second;
-        write!(f, "{date} {hour}:{minute}:{second}")
-    }
-}
 
 /// What a time stamp of the event log means (IPMI v2.0, section 37).
 #[derive(Clone, Copy, Debug)]
@@ -55,8 +32,8 @@ enum Meaning {
     Unspecified,
     /// Up to 20000000h: seconds since the start of the controller's clock.
     SinceStart(u32),
-    /// A moment in UTC.
-    At(Moment),
+    /// A moment in UTC, as `YYYY-MM-DD HH:MM:SS`.
+    At(AsciiText<19>),
 }
 
 /// A time stamp of the event log, printed like `utc_text`. In contracts it is its text.
@@ -107,7 +84,7 @@ impl fmt::Display for UtcTime {
         match self.meaning {
             Meaning::Unspecified => f.write_str("unspecified"),
             Meaning::SinceStart(seconds) => write!(f, "+{seconds} s"),
-            Meaning::At(moment) => write!(f, "{moment}"),
+            Meaning::At(moment) => f.write_str(moment.as_str()),
         }
     }
 }
@@ -115,26 +92,39 @@ impl fmt::Display for UtcTime {
 /// The date `day` days after 1970-01-01.
 fn date_of_day(day: u32) -> Date
     requires { day < 100000 }
-    ensures { epoch_day result ≡ pos day }
+    ensures day { epoch_day result ≡ pos day }
+    ensures year { result.year ≡ pos (unsigned_abs result.year) }
 {
-    date(1970, 1, 1).checked_add((day as i64).days()).unwrap()
+    Date::from_unix_epoch_day(i64::from(day)).unwrap()
 }
 
-/// The moment `seconds` seconds after 1970-01-01 00:00:00.
-fn moment_of(seconds: u32) -> Moment
-    ensures { IsMoment (seconds / 86_400) (second_text (seconds % 86_400)) (moment_text result) }
+/// A number below 100 in two digits.
+#[inline(always)]
+fn two_digits(value: u32) -> [u8; 2]
+    requires { value < 100 }
+    ensures { result ≡ two_digits value }
 {
+    [b'0' + (value / 10) as u8, b'0' + (value % 10) as u8]
+}
+
+/// `YYYY-MM-DD HH:MM:SS` for `seconds` seconds after 1970-01-01 00:00:00.
+fn moment_of(seconds: u32) -> AsciiText<19>
+    ensures { IsMoment (seconds / 86_400) (second_text (seconds % 86_400)) result.characters }
+{
+    let date = date_of_day(seconds / SECONDS_OF_DAY);
+    let year = u32::from(date.year.unsigned_abs());
     let second = seconds % SECONDS_OF_DAY;
-    Moment {
-        date: date_of_day(seconds / SECONDS_OF_DAY),
-        hour: TwoDigits {
-            value: second / 60 / 60,
-        },
-        minute: TwoDigits {
-            value: second / 60 % 60,
-        },
-        second: TwoDigits { value: second % 60 },
-    }
+    let [y0, y1] = two_digits(year / 100);
+    let [y2, y3] = two_digits(year % 100);
+    let [m0, m1] = two_digits(u32::from(date.month));
+    let [d0, d1] = two_digits(u32::from(date.day));
+    let [h0, h1] = two_digits(second / 60 / 60);
+    let [n0, n1] = two_digits(second / 60 % 60);
+    let [s0, s1] = two_digits(second % 60);
+    let characters = [
+        y0, y1, y2, y3, b'-', m0, m1, b'-', d0, d1, b' ', h0, h1, b':', n0, n1, b':', s0, s1,
+    ];
+    AsciiText { characters }
 }
 
 /// `YYYY-MM-DD HH:MM` for `minutes` minutes after 1996-01-01 00:00.
@@ -143,11 +133,8 @@ fn text_to_minute(alloc: Global, minutes: u32) -> Result<String, AllocError>
     ensures { IfOk result (λ text. IsMoment (9496 + minutes / 1440)
         (minute_text (minutes % 1440)) (string_bytes text)) }
 {
-    let date = date_of_day(FIRST_FRU_DAY + minutes / MINUTES_OF_DAY);
-    let minute = minutes % MINUTES_OF_DAY;
-    let hour = TwoDigits { value: minute / 60 };
-    let minute = TwoDigits { value: minute % 60 };
-    text_with_capacity(alloc, CAPACITY, format_args!("{date} {hour}:{minute}"))
+    let moment = moment_of(FIRST_FRU_SECOND + 60 * minutes);
+    String::from_str(alloc, &moment.as_str()[..TO_THE_MINUTE])
 }
 
 /// The text of a time stamp of the event log, in seconds (IPMI v2.0, section 37): `unspecified` for
