@@ -1,5 +1,5 @@
 //! Exact decimals.
-ghost use Rattle.std.specs.Prelude.{◌≡◌, ◌<◌, ◌/◌, ◌%◌, ◌^◌, IfOk, OnOk, string_bytes};
+ghost use Rattle.std.specs.Prelude.{◌≡◌, ◌<◌, ◌/◌, ◌%◌, ◌^◌, ◌++◌, decimal, IfOk, OnOk, string_bytes};
 ghost use Rattle.ipmi_text.specs.Appended.{Appends};
 ghost use Rattle.ipmi_text.specs.Decimal.{AppendsFraction, IsDecimalOf, sign_of};
 
@@ -57,6 +57,16 @@ fn parts(size: u128) -> (u128, u64)
     }
 }
 
+/// Appends a number. Nearly all numbers fit in 64 bits, and are printed far faster then.
+fn push_whole(text: &mut String, whole: u128) -> Result<(), AllocError>
+    ensures { OnOk result (string_bytes text.new ≡ string_bytes text.old ++ decimal whole) }
+{
+    match u64::try_from(whole) {
+        Ok(whole) => write!(text, "{whole}"),
+        Err(_) => write!(text, "{whole}"),
+    }
+}
+
 /// Appends the shortest exact decimal of a value. The contract says what its sign and digits are; the module `laws`
 /// says that no other text meets it.
 pub fn push_fixed(text: &mut String, value: Fixed) -> Result<(), AllocError>
@@ -64,8 +74,8 @@ pub fn push_fixed(text: &mut String, value: Fixed) -> Result<(), AllocError>
         (Appends (IsDecimalOf value.0) (string_bytes text.old) (string_bytes text.new)) }
 {
     let (whole, fraction) = parts(value.0.unsigned_abs());
-    let sign = sign(value.0);
-    write!(text, "{sign}{whole}")?;
+    text.push_str(sign(value.0))?;
+    push_whole(text, whole)?;
     push_fraction(text, fraction)
 }
 

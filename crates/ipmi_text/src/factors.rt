@@ -1,5 +1,5 @@
 //! Converts a raw reading to a value by the factors of its sensor (IPMI v2.0, section 36.3).
-ghost use Rattle.std.specs.Prelude.{◌≡◌, ◌≤◌, ◌^◌, ◌↔◌, ◌≤ℤ◌, ◌*ℤ◌, ◌*◌, pos, IfSome, IsSome, IsTrue, option_map, unsigned_abs};
+ghost use Rattle.std.specs.Prelude.{◌≡◌, ◌<◌, ◌≤◌, ◌^◌, ◌↔◌, ◌≤ℤ◌, ◌*ℤ◌, ◌*◌, pos, IfSome, IsSome, IsTrue, option_map, unsigned_abs};
 ghost use Rattle.ipmi_text.specs.ReadingValue.{HasRanges, IsTwosComplement, SensorFactors, raw_number, reading_value, ten_to};
 
 use crate::decimal::Fixed;
@@ -25,6 +25,41 @@ const FACTOR_HALF: u16 = 512;
 
 /// How many of the 4-bit numbers of 2's complement are negative. Each exponent has 4 bits.
 const EXPONENT_HALF: u16 = 8;
+
+/// The powers of ten, indexed by exponent.
+const POWERS_OF_TEN: [i128; 31] = [
+    1,
+    10,
+    100,
+    1000,
+    10000,
+    100000,
+    1000000,
+    10000000,
+    100000000,
+    1000000000,
+    10000000000,
+    100000000000,
+    1000000000000,
+    10000000000000,
+    100000000000000,
+    1000000000000000,
+    10000000000000000,
+    100000000000000000,
+    1000000000000000000,
+    10000000000000000000,
+    100000000000000000000,
+    1000000000000000000000,
+    10000000000000000000000,
+    100000000000000000000000,
+    1000000000000000000000000,
+    10000000000000000000000000,
+    100000000000000000000000000,
+    1000000000000000000000000000,
+    10000000000000000000000000000,
+    100000000000000000000000000000,
+    1000000000000000000000000000000,
+];
 
 /// The factors by which a full sensor record turns a raw reading into a value (IPMI v2.0, section 36.3 and table
 /// 43-1). In contracts they are a record of six numbers.
@@ -112,6 +147,14 @@ fn raw_number(format: u8, raw: u8) -> i32
     }
 }
 
+/// Ten to a power from 0 to 30.
+fn ten_to(exponent: usize) -> i128
+    requires { exponent < 31 }
+    ensures { result ≡ pos (10 ^ exponent) }
+{
+    POWERS_OF_TEN[exponent]
+}
+
 /// A number times a power of ten.
 fn scaled(number: i32, exponent: i32) -> i128
     requires number { unsigned_abs number ≤ 2 ^ 17 }
@@ -124,7 +167,7 @@ fn scaled(number: i32, exponent: i32) -> i128
     if number == 0 {
         return 0;
     }
-    number as i128 * 10i128.pow(exponent as u32)
+    number as i128 * ten_to(exponent as usize)
 }
 
 /// The value of a raw reading (IPMI v2.0, section 36.3): M x 10^(K2+16) + B 10^(K1+K2+16) units of 10^-16, where x is
