@@ -195,6 +195,7 @@ fn copy_bytes(lent: &Record<'_>, line: &mut LineBuffer)
 }
 
 /// The text of the record in this form. Empty for a record that is left out. A `RowText::Line` is written to `line`.
+#[inline(always)]
 pub(crate) fn row_text<F: Format, C: Controller>(
     alloc: Global,
     ctl: &mut C,

@@ -31,17 +31,32 @@ fn push_id(line: &mut LineBuffer, id: u16)
     push(line, &field);
 }
 
-/// Appends the bytes of a record in hex.
+/// Appends bytes in hex, by way of a buffer of N digits.
+#[inline(always)]
+fn push_digits<const N: usize>(line: &mut LineBuffer, bytes: &[u8])
+    requires digits { (2 * length bytes.now ≤ N) × (N ≤ 512) }
+    requires fits { length line.old.items + 2 * length bytes.now ≤ 527 }
+    ensures items { line.new.items ≡ line.old.items ++ encode_lower bytes.now }
+    ensures len { length line.new.items ≡ length line.old.items + 2 * length bytes.now }
+{
+    let mut digits = [0; N];
+    let digits = &mut digits[..2 * bytes.len()];
+    hex::encode_to_slice(bytes, digits).unwrap();
+    push(line, digits);
+}
+
+/// Appends the bytes of a record in hex. Most records are short, and a short buffer costs less to clear.
 fn push_hex(line: &mut LineBuffer, bytes: &[u8])
     requires record { length bytes.now ≤ 256 }
     requires fits { length line.old.items + 2 * length bytes.now ≤ 527 }
     ensures items { line.new.items ≡ line.old.items ++ encode_lower bytes.now }
     ensures len { length line.new.items ≡ length line.old.items + 2 * length bytes.now }
 {
-    let mut digits = [0; 512];
-    let digits = &mut digits[..2 * bytes.len()];
-    hex::encode_to_slice(bytes, digits).unwrap();
-    push(line, digits);
+    if bytes.len() <= 64 {
+        push_digits::<128>(line, bytes)
+    } else {
+        push_digits::<512>(line, bytes)
+    }
 }
 
 /// Overwrites `line` with the line of a record as in an image of version 1: `sdr ID NEXT HEX` and a line feed, ids in

@@ -46,6 +46,7 @@ impl SnapshotController {
 
     /// The code with which a call for `asked` bytes of the item fails, if it does. Then the call is counted. `ahead`: the call reads
     /// ahead.
+    #[inline(always)]
     fn refusal(&mut self, item: Item, asked: u8, ahead: bool) -> Option<Code>
         ensures code { result ≡ refusal item self.old.responder.image self.old.lacks.items }
         ensures same { self.new.responder ≡ record self.old.responder { tally = self.new.responder.tally } }

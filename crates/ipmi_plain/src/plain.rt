@@ -104,6 +104,7 @@ impl Format for Plain {
         Ok(sdr_fault_line(alloc, id, fault)?.into_bytes())
     }
 
+    #[inline(always)]
     fn hex(
         &self,
         _alloc: Global,
@@ -235,6 +236,7 @@ impl Format for Descriptive {
         Plain.fault(alloc, id, fault, bytes)
     }
 
+    #[inline(always)]
     fn hex(
         &self,
         alloc: Global,

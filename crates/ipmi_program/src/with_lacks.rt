@@ -73,6 +73,7 @@ impl<F: Format> Format for WithLacks<'_, F> {
         self.format.has_names(detail)
     }
 
+    #[inline(always)]
     fn record(
         &self,
         alloc: Global,
@@ -95,6 +96,7 @@ impl<F: Format> Format for WithLacks<'_, F> {
         self.format.fault(alloc, id, fault, bytes)
     }
 
+    #[inline(always)]
     fn hex(
         &self,
         alloc: Global,
@@ -104,6 +106,7 @@ impl<F: Format> Format for WithLacks<'_, F> {
         self.format.hex(alloc, lent, line)
     }
 
+    #[inline(always)]
     fn entry(
         &self,
         alloc: Global,
