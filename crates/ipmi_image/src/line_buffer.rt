@@ -1,5 +1,5 @@
 //! The line of a single record, written without allocation.
-ghost use Rattle.std.specs.Prelude.{◌≡◌, ◌+◌, ◌*◌, ◌++◌, ◌≤◌, ◌∷◌, [], length};
+ghost use Rattle.std.specs.Prelude.{◌≡◌, ◌+◌, ◌*◌, ◌++◌, ◌≤◌, ◌∷◌, [], codes, length};
 ghost use Rattle.hex.specs.Hex.{encode_lower};
 ghost use Rattle.ipmi_image.specs.Below.{row_of_record};
 ghost use Rattle.ipmi_image.specs.Prelude.{hex_of, record_line_of};
@@ -20,15 +20,28 @@ fn push(line: &mut LineBuffer, bytes: &[u8])
     line.try_extend_from_slice(bytes).unwrap();
 }
 
-/// Appends an id in hex, and a space.
-fn push_id(line: &mut LineBuffer, id: u16)
-    requires { length line.old.items + 5 ≤ 527 }
-    ensures items { line.new.items ≡ line.old.items ++ (hex_of 2 id ++ 32 ∷ []) }
-    ensures len { length line.new.items ≡ length line.old.items + 5 }
+/// The digits of an id.
+#[inline(always)]
+fn id_digits(id: u16) -> [u8; 4]
+    ensures { result ≡ hex_of 2 id }
 {
-    let mut field = [b' '; 5];
-    hex::encode_to_slice(&id.to_be_bytes(), &mut field[..4]).unwrap();
-    push(line, &field);
+    let mut digits = [0; 4];
+    hex::encode_to_slice(&id.to_be_bytes(), &mut digits).unwrap();
+    digits
+}
+
+/// Appends `sdr ID NEXT `.
+fn push_head(line: &mut LineBuffer, id: u16, next: u16)
+    requires { length line.old.items + 14 ≤ 527 }
+    ensures items { line.new.items ≡ line.old.items ++ (codes "sdr " ++ (hex_of 2 id ++ 32 ∷ (hex_of 2 next ++ 32 ∷ []))) }
+    ensures len { length line.new.items ≡ length line.old.items + 14 }
+{
+    let [a, b, c, d] = id_digits(id);
+    let [e, f, g, h] = id_digits(next);
+    push(
+        line,
+        &[b's', b'd', b'r', b' ', a, b, c, d, b' ', e, f, g, h, b' '],
+    );
 }
 
 /// Appends bytes in hex, by way of a buffer of N digits.
@@ -67,9 +80,7 @@ pub fn record_line(lent: &Record<'_>, line: &mut LineBuffer)
     ensures { line.new.items ≡ record_line_of (row_of_record lent.now) }
 {
     line.clear();
-    push(line, b"sdr ");
-    push_id(line, lent.id);
-    push_id(line, lent.next);
+    push_head(line, lent.id, lent.next);
     push_hex(line, lent.bytes);
     push(line, b"\n");
 }

@@ -87,6 +87,7 @@ impl Format for Wording<'_> {
         in_form!(self, form => form.has_names(detail))
     }
 
+    #[inline(always)]
     fn record(
         &self,
         alloc: Global,
@@ -108,6 +109,7 @@ impl Format for Wording<'_> {
         in_form!(self, form => form.fault(alloc, id, fault, bytes))
     }
 
+    #[inline(always)]
     fn hex(
         &self,
         alloc: Global,
@@ -117,6 +119,7 @@ impl Format for Wording<'_> {
         in_form!(self, form => form.hex(alloc, lent, line))
     }
 
+    #[inline(always)]
     fn entry(
         &self,
         alloc: Global,
