@@ -1,16 +1,17 @@
--- The line of an entry in words (the project's own): the time, the sensor and the words of an
+-- The line of an entry in words (the project's own): the time, the sensor, the words and the severity of an
 -- event.
-use Rattle.std.specs.Prelude.{◌≡◌, ℕ, ◌/◌, ◌%◌, Option, Some, None, List, [], ◌∷◌, ◌++◌, codes, slice_index}
+use Rattle.std.specs.Prelude.{◌≡◌, ℕ, ◌/◌, ◌%◌, Option, Some, None, List, [], ◌∷◌, ◌++◌, codes}
 use Rattle.ipmi_text.specs.Hex.{hex_word}
 use Rattle.ipmi_text.specs.Times.{IsUtcTextOf}
 use Rattle.ipmi_records.specs.Bytes.{columns_line}
-use Rattle.ipmi_records.specs.Prelude.{direction_text, event_data, event_type, generator_id, IsSelLine, is_deasserted, numbered_sensor, sensor_number, sensor_type, time_stamp}
+use Rattle.ipmi_records.specs.Prelude.{direction_text, event_type, generator_id, IsSelLine, is_deasserted, numbered_sensor, sensor_number, sensor_type, time_stamp}
 use Rattle.ipmi_records.specs.declared.sdr.SdrView.{SdrView}
 use Rattle.ipmi_records.specs.declared.sel.SelView.{SelView}
 use Rattle.ipmi_events.specs.Details.{IsDetails}
 use Rattle.ipmi_events.specs.Name.{sensor_name}
 use Rattle.ipmi_events.specs.Sensors.{sensor_for}
-use Rattle.ipmi_events.specs.Words.{event_in_words}
+use Rattle.ipmi_events.specs.Severity.{event_severity, severity_column}
+use Rattle.ipmi_events.specs.Words.{event_in_words, event_offset}
 
 -- ---- the sensor
 
@@ -41,10 +42,6 @@ full_of _ = None
 
 -- ---- lines
 
--- the offset: bits 3:0 of the first byte of event data
-abbrev pub event_offset : List ℕ → ℕ
-event_offset event = slice_index (event_data event) 0 % 16
-
 -- a column of the details, if there are any
 abbrev pub details_columns : List ℕ → List (List ℕ)
 details_columns [] = []
@@ -67,6 +64,7 @@ pub record IsEventLineInWords (id : ℕ) (event : List ℕ) (view : Option SdrVi
       ∷ sensor_column event view
       ∷ event_in_words (event_type event) (sensor_type event) (event_offset event)
       ∷ direction_text (is_deasserted event)
+      ∷ severity_column (event_severity event)
       ∷ details_columns details)
 
 -- an entry that is not an event has the line of `sel list`

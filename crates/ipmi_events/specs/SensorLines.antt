@@ -2,8 +2,10 @@
 use Rattle.std.specs.Prelude.{◌≡◌, ℕ, Bool, true, false, if◌then◌else◌, Option, Some, None, List, [], ◌∷◌, ◌++◌, codes, flat_map}
 use Rattle.ipmi_events.specs.Below.{IsRawValue, IsSdrLine, KnownReading, SdrView, Sensor, Threshold, byte_h, columns_line, has_thresholds, is_readable, padded_to, printed_name, sensor_in, shown_of, threshold_in}
 use Rattle.ipmi_events.specs.Entities.{entity_in_words}
+use Rattle.ipmi_events.specs.Severity.{severity_column}
 use Rattle.ipmi_events.specs.Shown.{IsReadingInWords}
 use Rattle.ipmi_events.specs.Status.{status_in_words}
+use Rattle.ipmi_events.specs.Worst.{sensor_severity}
 
 -- ---- thresholds
 
@@ -59,8 +61,8 @@ head_columns view sensor =
     ++ (codes " | " ++ (byte_h sensor.number
     ++ (codes " | " ++ (entity_in_words sensor.entity ++ codes " | "))))
 
--- The name of the record, by which `sensor get` finds it, then number, entity, reading, status, and the thresholds from lowest to
--- highest. For sensors that share a record, the number and the reading are those of the first.
+-- The name of the record, by which `sensor get` finds it, then number, entity, reading, status, severity, and the thresholds
+-- from lowest to highest. For sensors that share a record, the number and the reading are those of the first.
 pub record IsLineOfSensor (view : SdrView) (sensor : Sensor) (reading : KnownReading)
     (text : List ℕ) : Type 0 where
   pub column : List ℕ
@@ -73,6 +75,7 @@ pub record IsLineOfSensor (view : SdrView) (sensor : Sensor) (reading : KnownRea
       ∷ entity_in_words sensor.entity
       ∷ padded_to 17 column
       ∷ padded_to 3 (status_in_words sensor (shown_of sensor reading))
+      ∷ padded_to 8 (severity_column (sensor_severity sensor (shown_of sensor reading)))
       ∷ thresholds)
 
 -- the line of a full or a compact record; any other record has the line of `sdr list`

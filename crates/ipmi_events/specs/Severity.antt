@@ -2,8 +2,18 @@
 use Rattle.std.specs.Prelude.{ℕ, ◌-◌, ◌==◌, List, [], ◌∷◌, map, codes, Option, None, Some, option_map, slice_get, if◌then◌else◌}
 use Rattle.std.specs.Option.{option_and_then}
 use Rattle.ipmi_records.specs.Prelude.{event_type, is_deasserted, sensor_type}
-use Rattle.ipmi_events.specs.EventLines.{event_offset}
+use Rattle.ipmi_events.specs.Words.{event_offset}
 use Rattle.ipmi_events.specs.declared.severity.Severity.{Severity}
+
+abbrev pub severity_word : Severity → List ℕ
+severity_word Severity.Nominal = codes "nominal"
+severity_word Severity.Warning = codes "warning"
+severity_word Severity.Critical = codes "critical"
+
+-- the column of a severity: its word, or a dash if there is none
+abbrev pub severity_column : Option Severity → List ℕ
+severity_column None = codes "-"
+severity_column (Some severity) = severity_word severity
 
 -- n: nominal, w: warning, c: critical; another letter marks an offset that the standard reserves
 abbrev pub severity_by : ℕ → Option Severity

@@ -1,8 +1,13 @@
 -- The words of an event (IPMI v2.0, section 42).
-use Rattle.std.specs.Prelude.{ℕ, ◌==◌, List, ◌++◌, codes, decimal, Option, unwrap_or, if◌then◌else◌}
+use Rattle.std.specs.Prelude.{ℕ, ◌%◌, ◌==◌, List, ◌++◌, codes, decimal, Option, unwrap_or, if◌then◌else◌, slice_index}
 use Rattle.ipmi_text.specs.Hex.{hex_byte}
+use Rattle.ipmi_records.specs.Prelude.{event_data}
 use Rattle.ipmi_events.specs.Generic.{generic_words}
 use Rattle.ipmi_events.specs.Specific.{specific_words}
+
+-- the offset: bits 3:0 of the first byte of event data
+abbrev pub event_offset : List ℕ → ℕ
+event_offset event = slice_index (event_data event) 0 % 16
 
 -- the words at an offset, if the standard has any: by the event/reading type, and for type 6Fh by
 -- the sensor type

@@ -3,12 +3,13 @@ ghost use Rattle.std.specs.Prelude.{◌≡◌, ◌++◌, IfOk, OnOk, option_map,
 ghost use Rattle.ipmi_text.specs.Appended.{Appends};
 ghost use Rattle.ipmi_records.specs.Prelude.{event_type, sensor_type};
 ghost use Rattle.ipmi_events.specs.Details.{IsDetails};
-ghost use Rattle.ipmi_events.specs.EventLines.{details_column, event_offset, full_of, IsEventInWords, IsEventLineInWords, record_for, sensor_column};
-ghost use Rattle.ipmi_events.specs.Words.{event_in_words};
+ghost use Rattle.ipmi_events.specs.EventLines.{details_column, full_of, IsEventInWords, IsEventLineInWords, record_for, sensor_column};
+ghost use Rattle.ipmi_events.specs.Words.{event_in_words, event_offset};
 
 use crate::details::push_details;
 use crate::name::push_sensor_name;
 use crate::sensors::Sensors;
+use crate::severity::{event_severity, severity_column};
 use crate::words::EventInWords;
 use ipmi_records::{
     EventEntry, FullSensor, SdrView, SelView, direction_text, sel_line, sensor_of_event,
@@ -110,7 +111,8 @@ fn push_columns(
     push_sensor(alloc, line, event, view)?;
     let words = words_of(event);
     let direction = direction_text(event);
-    write!(line, " | {words} | {direction}")?;
+    let severity = severity_column(event_severity(event));
+    write!(line, " | {words} | {direction} | {severity}")?;
     push_details_column(line, details)?;
     line.push_str("\n")
 }
@@ -133,7 +135,7 @@ fn event_line_of(
 }
 
 /// The line of an entry, with its id. For an event, the columns are the time, the name of the sensor, the words, the
-/// event direction and the details, joined by ` | `. For any other entry it is the line of `sel_line`.
+/// event direction, the severity (a dash for none) and the details, joined by ` | `. For any other entry it is the line of `sel_line`.
 pub fn event_line(
     alloc: Global,
     id: u16,

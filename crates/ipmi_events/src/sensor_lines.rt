@@ -5,8 +5,10 @@ ghost use Rattle.ipmi_events.specs.SensorLines.{AppendsColumns, AppendsPadded, I
 ghost use Rattle.ipmi_events.specs.Shown.{IsReadingInWords};
 
 use crate::entities::EntityInWords;
+use crate::severity::severity_column;
 use crate::shown::push_reading_in_words;
 use crate::status::status_in_words;
+use crate::worst::sensor_severity;
 use ipmi_records::SdrView::{self, Compact, Controller, EventOnly, Fru, Full, Generic, Other};
 use ipmi_records::{
     FullSensor, KnownReading, Sensor, Threshold, has_thresholds, pad, push_name_column, push_value,
@@ -23,6 +25,9 @@ const READING_WIDTH: usize = 17;
 
 /// The minimum width of the status column.
 const STATUS_WIDTH: usize = 3;
+
+/// The minimum width of the severity column, in characters.
+const SEVERITY_WIDTH: usize = 8;
 
 /// The thresholds in the order of their columns.
 const FROM_LOWEST: [Threshold; 6] = [
@@ -104,15 +109,15 @@ fn push_reading_column(
     pad(line, start, READING_WIDTH)
 }
 
-/// Appends ` | ` and a status, padded to the width of its column.
-fn push_status_column(line: &mut String, status: &str) -> Result<(), AllocError>
+/// Appends ` | ` and a text, padded to the width of its column.
+fn push_column(line: &mut String, text: &str, width: usize) -> Result<(), AllocError>
     ensures { OnOk result
-        (string_bytes line.new ≡ string_bytes line.old ++ (codes " | " ++ padded_to 3 status.now)) }
+        (string_bytes line.new ≡ string_bytes line.old ++ (codes " | " ++ padded_to width text.now)) }
 {
     line.push_str(" | ")?;
     let start = line.as_bytes().len();
-    line.push_str(status)?;
-    pad(line, start, STATUS_WIDTH)
+    line.push_str(text)?;
+    pad(line, start, width)
 }
 
 /// The line of the sensor of a full or compact record.
@@ -127,14 +132,16 @@ fn line_of_sensor(
     let mut line = String::with_capacity(alloc, LINE_CAPACITY)?;
     push_head_columns(alloc, &mut line, view, sensor)?;
     push_reading_column(&mut line, view, reading)?;
-    push_status_column(&mut line, status_in_words(sensor, reading))?;
+    push_column(&mut line, status_in_words(sensor, reading), STATUS_WIDTH)?;
+    let severity = severity_column(sensor_severity(sensor, reading));
+    push_column(&mut line, severity, SEVERITY_WIDTH)?;
     push_thresholds(&mut line, with_thresholds(view))?;
     line.push_str("\n")?;
     Ok(line)
 }
 
-/// The line of a sensor: the name of its record, its number, its entity, its reading, its status, and the thresholds
-/// of its record, from lowest to highest. For a discrete sensor, the reading column has the states in words.
+/// The line of a sensor: the name of its record, its number, its entity, its reading, its status, its severity (a dash
+/// for none), and the thresholds of its record, from lowest to highest. For a discrete sensor, the reading column has the states in words.
 /// `reading` is what is known of the reading of the sensor that `SdrView::reading_of` names. If sensors share
 /// the record, the number is that of the first. A record that is neither full nor compact has its line of `sdr_line`.
 pub fn sensor_line(

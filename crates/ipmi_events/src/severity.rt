@@ -3,7 +3,7 @@
 //! The standard gives severities to the offsets of type 07h only. Most of the others are FreeIPMI's defaults for asserted events;
 //! docs/DECISIONS.md says which are not.
 ghost use Rattle.std.specs.Prelude.{◌≡◌, map};
-ghost use Rattle.ipmi_events.specs.Severity.{event_severity, generic_types, sensor_types, severities, severity_at, severity_of};
+ghost use Rattle.ipmi_events.specs.Severity.{event_severity, generic_types, sensor_types, severities, severity_at, severity_column, severity_of, severity_word};
 
 use crate::event_lines::OFFSET_BITS;
 use crate::words::SENSOR_SPECIFIC;
@@ -18,6 +18,29 @@ pub enum Severity {
     Warning,
     /// It needs help now.
     Critical,
+}
+
+impl Severity {
+    /// Its word.
+    pub fn as_str(self) -> &'static str
+        ensures { result.now ≡ severity_word self }
+    {
+        match self {
+            Severity::Nominal => "nominal",
+            Severity::Warning => "warning",
+            Severity::Critical => "critical",
+        }
+    }
+}
+
+/// The column of a severity: its word, or a dash if there is none.
+pub(crate) fn severity_column(severity: Option<Severity>) -> &'static str
+    ensures { result.now ≡ severity_column severity }
+{
+    match severity {
+        Some(severity) => severity.as_str(),
+        None => "-",
+    }
 }
 
 const NOMINAL: Option<Severity> = Some(Severity::Nominal);

@@ -2,6 +2,7 @@
 use Rattle.std.specs.Prelude.{ℕ, List, [], ◌∷◌, Option, None, Some, codes}
 use Rattle.json.specs.Json.{Json, null, string}
 use Rattle.ipmi_text.specs.FieldText.{binary_text}
+use Rattle.ipmi_events.specs.Severity.{severity_word}
 use Rattle.ipmi_events.specs.declared.severity.Severity.{Severity}
 use Rattle.ipmi_json.specs.Object.{integer, Pair}
 
@@ -13,11 +14,6 @@ head_members object id type kind =
     ∷ (codes "record_type", integer type)
     ∷ (codes "kind", string kind)
     ∷ []
-
-abbrev pub severity_word : Severity → List ℕ
-severity_word Severity.Nominal = codes "nominal"
-severity_word Severity.Warning = codes "warning"
-severity_word Severity.Critical = codes "critical"
 
 -- null without a severity
 abbrev pub severity_value : Option Severity → Json

@@ -8,10 +8,10 @@ use Rattle.ipmi_records.specs.Prelude.{data_after_type, entry_bytes, entry_type,
 use Rattle.ipmi_records.specs.declared.sdr.SdrView.{SdrView}
 use Rattle.ipmi_records.specs.declared.sel.SelView.{SelView}
 use Rattle.ipmi_events.specs.Details.{IsDetails}
-use Rattle.ipmi_events.specs.EventLines.{event_offset, full_of, record_for}
+use Rattle.ipmi_events.specs.EventLines.{full_of, record_for}
 use Rattle.ipmi_events.specs.Name.{sensor_name}
 use Rattle.ipmi_events.specs.Severity.{event_severity}
-use Rattle.ipmi_events.specs.Words.{event_words}
+use Rattle.ipmi_events.specs.Words.{event_offset, event_words}
 use Rattle.ipmi_json.specs.declared.object.Label.{Label}
 use Rattle.ipmi_json.specs.Object.{integer, IsLineOfSome, Pair, text_or_null, text_unless_empty}
 use Rattle.ipmi_json.specs.Record.{head_members, raw_members, severity_value}

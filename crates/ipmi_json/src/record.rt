@@ -1,7 +1,7 @@
 //! Members that the objects of records and of entries both have.
 ghost use Rattle.std.specs.Prelude.{◌≡◌, OnOk};
 ghost use Rattle.ipmi_json.specs.Members.{Tells};
-ghost use Rattle.ipmi_json.specs.Record.{head_members, raw_members, severity_members, severity_word};
+ghost use Rattle.ipmi_json.specs.Record.{head_members, raw_members, severity_members};
 
 use crate::digits::hex_text;
 use crate::members::Members;
@@ -32,17 +32,6 @@ pub(crate) fn tell_head<M: Members>(
     out.put("kind", Value::Text(kind))
 }
 
-/// The word for a severity.
-fn severity_word(severity: Severity) -> &'static str
-    ensures { result.now ≡ severity_word severity }
-{
-    match severity {
-        Severity::Nominal => "nominal",
-        Severity::Warning => "warning",
-        Severity::Critical => "critical",
-    }
-}
-
 /// Tells a severity, or null.
 pub(crate) fn tell_severity<M: Members>(
     out: &mut M,
@@ -51,7 +40,7 @@ pub(crate) fn tell_severity<M: Members>(
     ensures { OnOk result (Tells M.told (severity_members severity) out.old out.new) }
 {
     match severity {
-        Some(severity) => out.put("severity", Value::Text(severity_word(severity))),
+        Some(severity) => out.put("severity", Value::Text(severity.as_str())),
         None => out.put("severity", Value::Null),
     }
 }

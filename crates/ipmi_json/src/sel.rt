@@ -3,8 +3,8 @@ ghost use Rattle.std.specs.Prelude.{◌≡◌, ◌∷◌, [], IfOk, OnOk, codes,
 ghost use Rattle.json.specs.Json.{string};
 ghost use Rattle.ipmi_text.specs.FieldText.{binary_text};
 ghost use Rattle.ipmi_records.specs.Prelude.{entry_bytes, event_data, event_type, generator_id, is_deasserted, revision, sensor_type, words_of_event};
-ghost use Rattle.ipmi_events.specs.EventLines.{event_offset, full_of};
-ghost use Rattle.ipmi_events.specs.Words.{event_words};
+ghost use Rattle.ipmi_events.specs.EventLines.{full_of};
+ghost use Rattle.ipmi_events.specs.Words.{event_offset, event_words};
 ghost use Rattle.ipmi_json.specs.Members.{Tells, TellsSome};
 ghost use Rattle.ipmi_json.specs.Object.{integer};
 ghost use Rattle.ipmi_json.specs.Sel.{AreDetailsMembers, AreEntryMembers, AreEventMembers, AreTimedMembers, AreTold, IsSelLine, data_members, direction_word, kind_word, meaning_members, name_by, sensor_record, source_members};
