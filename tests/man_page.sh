@@ -113,9 +113,11 @@ for file in "$page" docs/serdimko-live.1; do
 done
 
 # The words that the definitions print in the columns of a sensor data record, in an event and as a time.
-printed=$(sed 's/^ *--.*//' crates/ipmi_records/specs/Columns.antt crates/ipmi_text/specs/Times.antt crates/ipmi_text/specs/Events.antt \
-  crates/ipmi_events/specs/{SensorLines,States,Status,Shown,Discrete}.antt |
-  grep -oE 'codes "[a-z][^"]*"' | sed -E 's/codes "//; s/ ?"$//' | grep -E '[a-z]')
+printed=$({
+  sed 's/^ *--.*//' crates/ipmi_records/specs/Columns.antt crates/ipmi_text/specs/Times.antt crates/ipmi_text/specs/Events.antt \
+    crates/ipmi_events/specs/{SensorLines,States,Status,Shown,Discrete}.antt
+  grep '^severity_word' crates/ipmi_events/specs/Severity.antt
+} | grep -oE 'codes "[a-z][^"]*"' | sed -E 's/codes "//; s/ ?"$//' | grep -E '[a-z]')
 shown=$(sed -E 's/^\.[A-Z]+ ?//; s/\\f[A-Z]|[\\"]//g; s/ +/ /g' "$page")
 if [ "$(wc -l <<< "$printed")" -lt 20 ]; then
   failed=1

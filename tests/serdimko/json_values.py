@@ -239,15 +239,16 @@ def sensor_differs(line, shown):
     if line["kind"] not in ("full", "compact"):
         return record_differs(line, shown)
     cells = cells_of(shown)
-    if len(cells) != 11:
+    if len(cells) != 12:
         return True
-    name, number, entity, reading, status, *columns = cells
-    return severity_differs(line) or thresholds_differ(line, columns) or [name, number, entity, reading, status] != [
+    name, number, entity, reading, status, severity, *columns = cells
+    return severity_differs(line) or thresholds_differ(line, columns) or [name, number, entity, reading, status, severity] != [
         name_of(line),
         f"{line['sensor_number']:02X}h",
         f"{line['entity_name']} {line['entity_instance']}",
         words_of_reading(line, reading),
         line["status_words"],
+        line["severity"] or "-",
     ]
 
 
@@ -320,6 +321,7 @@ def event_differs(line, shown):
         (line["sensor_name"] or f"{line['sensor_type_name']} #0x{line['sensor_number']:02x}").strip(),
         line["event_words"] or f"offset {offset} of type 0x{line['event_type']:02x}",
         line["direction"].capitalize(),
+        line["severity"] or "-",
     ]
     return cells_of(shown) != wanted + ([] if line["event_details"] is None else [line["event_details"]])
 

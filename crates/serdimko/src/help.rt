@@ -96,7 +96,8 @@ and --entity leave out a record that can't be read, --exclude does not.
 const SENSOR: &str = "Prints sensors in words.
 
   sensor list          a line for each sensor: name, number, entity, reading,
-                       status, and thresholds from lower to upper; also sensor
+                       status, severity, thresholds from lower to upper; also
+                       sensor
   sensor get NAME..    a block for each sensor of these names; quote a name with
                        spaces: sensor get 'CPU1 Temp' 'CPU2 Temp'
 
@@ -104,8 +105,10 @@ The thresholds are lnr, lcr, lnc, unc, ucr, unr: lower (l) or upper (u), and
 non-recoverable (nr), critical (cr) or non-critical (nc); - where there is none.
 The status is the worst that is passed, as unc; ok: none is, or there is none;
 ns: none, or not captured; na: not a sensor of this controller. sdr list has no
-l and u. --type TYPE, --entity ID[.N], --id HEX[-HEX],.. and --exclude NAME list
-fewer sensors.
+l and u. The severity is that of the threshold or of the worst state: nominal,
+warning or critical; -: no reading, or a state without words.
+--type TYPE, --entity ID[.N], --id HEX[-HEX],.. and --exclude NAME list fewer
+sensors.
 --from HEX4 starts at this record id, in the order of the next ids.
 ";
 
@@ -116,7 +119,7 @@ const SEL: &str = "Prints the system event log.
   sel list [first] N    the N oldest
   sel list last N       the N newest
   sel elist ..          the same as sel list .., in words: the sensor's name, what
-                        happened, and what the event's data say
+                        happened, the severity, and what the event's data say
   sel tail N            the N newest as in sel elist, without reading the whole
                         log: they begin where the log's info suggests, but if
                         there are not N from there on, this is sel elist last N

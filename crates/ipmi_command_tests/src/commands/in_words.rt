@@ -150,15 +150,15 @@ fn assert_outputs_in_words(rt: &impl Abort, alloc: Global, cases: &str) {
 const EVENTS: &str = "sel list|log|
 0 8
 --
-0001 | 1987-01-05 18:48:33 | CPU Temp | Upper Critical going high | Asserted | Reading 95 degrees C > threshold 90
-0002 | 1987-01-05 18:48:33 | Drive Slot #0x40 | Drive Fault | Asserted
+0001 | 1987-01-05 18:48:33 | CPU Temp | Upper Critical going high | Asserted | critical | Reading 95 degrees C > threshold 90
+0002 | 1987-01-05 18:48:33 | Drive Slot #0x40 | Drive Fault | Asserted | critical
 0003 | unspecified | OEM record 0xc0 | 001357 | 010203040506
 ====
 sel list first 2|log|
 0 7
 --
-0001 | 1987-01-05 18:48:33 | CPU Temp | Upper Critical going high | Asserted | Reading 95 degrees C > threshold 90
-0002 | 1987-01-05 18:48:33 | Drive Slot #0x40 | Drive Fault | Asserted
+0001 | 1987-01-05 18:48:33 | CPU Temp | Upper Critical going high | Asserted | critical | Reading 95 degrees C > threshold 90
+0002 | 1987-01-05 18:48:33 | Drive Slot #0x40 | Drive Fault | Asserted | critical
 ====
 sel list last 1|log|
 0 8
@@ -168,14 +168,14 @@ sel list last 1|log|
 --from 0002 sel list|log|
 0 7
 --
-0002 | 1987-01-05 18:48:33 | Drive Slot #0x40 | Drive Fault | Asserted
+0002 | 1987-01-05 18:48:33 | Drive Slot #0x40 | Drive Fault | Asserted | critical
 0003 | unspecified | OEM record 0xc0 | 001357 | 010203040506
 ====
 sel list|no sensor|
 0 5
 --
-0001 | 1987-01-05 18:48:33 | Temperature #0x01 | Upper Critical going high | Asserted | Reading raw 0x5f > threshold raw 0x5a
-0002 | +536870912 s | Temperature #0x30 | Upper Non-critical going high | Deasserted | Reading raw 0x00, threshold raw 0x00
+0001 | 1987-01-05 18:48:33 | Temperature #0x01 | Upper Critical going high | Asserted | critical | Reading raw 0x5f > threshold raw 0x5a
+0002 | +536870912 s | Temperature #0x30 | Upper Non-critical going high | Deasserted | nominal | Reading raw 0x00, threshold raw 0x00
 ";
 
 // A reservation, a header and two parts of the sensor come first, or a reservation and the answer that there is none.
@@ -189,30 +189,30 @@ const ENDED: &str = "sel list|cycle|
 1 8
 names of sensors may be missing: sensor data records have a cycle at 0001h
 --
-0001 | 1987-01-05 18:48:33 | CPU Temp | Upper Critical going high | Asserted | Reading 95 degrees C > threshold 90
-0002 | 1987-01-05 18:48:33 | Drive Slot #0x40 | Drive Fault | Asserted
+0001 | 1987-01-05 18:48:33 | CPU Temp | Upper Critical going high | Asserted | critical | Reading 95 degrees C > threshold 90
+0002 | 1987-01-05 18:48:33 | Drive Slot #0x40 | Drive Fault | Asserted | critical
 0003 | unspecified | OEM record 0xc0 | 001357 | 010203040506
 ====
 sel list last 2|cycle|
 1 8
 names of sensors may be missing: sensor data records have a cycle at 0001h
 --
-0002 | 1987-01-05 18:48:33 | Drive Slot #0x40 | Drive Fault | Asserted
+0002 | 1987-01-05 18:48:33 | Drive Slot #0x40 | Drive Fault | Asserted | critical
 0003 | unspecified | OEM record 0xc0 | 001357 | 010203040506
 ====
 sel list|nowhere|
 1 9
 names of sensors may be missing: sensor data record 0009h not present
 --
-0001 | 1987-01-05 18:48:33 | CPU Temp | Upper Critical going high | Asserted | Reading 95 degrees C > threshold 90
-0002 | 1987-01-05 18:48:33 | Drive Slot #0x40 | Drive Fault | Asserted
+0001 | 1987-01-05 18:48:33 | CPU Temp | Upper Critical going high | Asserted | critical | Reading 95 degrees C > threshold 90
+0002 | 1987-01-05 18:48:33 | Drive Slot #0x40 | Drive Fault | Asserted | critical
 0003 | unspecified | OEM record 0xc0 | 001357 | 010203040506
 ====
 sel list 1|nowhere|
 1 7
 names of sensors may be missing: sensor data record 0009h not present
 --
-0001 | 1987-01-05 18:48:33 | CPU Temp | Upper Critical going high | Asserted | Reading 95 degrees C > threshold 90
+0001 | 1987-01-05 18:48:33 | CPU Temp | Upper Critical going high | Asserted | critical | Reading 95 degrees C > threshold 90
 ";
 
 // Sensors found before the walk ended keep their names.
@@ -225,22 +225,22 @@ fn a_walk_of_the_sensors_that_is_not_whole_is_told_at_the_end(rt: HostRuntime) {
 const TROUBLES: &str = "--tries 1 sel list|log|.B
 0 9
 --
-0001 | 1987-01-05 18:48:33 | CPU Temp | Upper Critical going high | Asserted | Reading 95 degrees C > threshold 90
-0002 | 1987-01-05 18:48:33 | Drive Slot #0x40 | Drive Fault | Asserted
+0001 | 1987-01-05 18:48:33 | CPU Temp | Upper Critical going high | Asserted | critical | Reading 95 degrees C > threshold 90
+0002 | 1987-01-05 18:48:33 | Drive Slot #0x40 | Drive Fault | Asserted | critical
 0003 | unspecified | OEM record 0xc0 | 001357 | 010203040506
 ====
 --tries 1 sel list|log|..C
 0 11
 --
-0001 | 1987-01-05 18:48:33 | CPU Temp | Upper Critical going high | Asserted | Reading 95 degrees C > threshold 90
-0002 | 1987-01-05 18:48:33 | Drive Slot #0x40 | Drive Fault | Asserted
+0001 | 1987-01-05 18:48:33 | CPU Temp | Upper Critical going high | Asserted | critical | Reading 95 degrees C > threshold 90
+0002 | 1987-01-05 18:48:33 | Drive Slot #0x40 | Drive Fault | Asserted | critical
 0003 | unspecified | OEM record 0xc0 | 001357 | 010203040506
 ====
 --tries 1 sel list|log|....B
 0 9
 --
-0001 | 1987-01-05 18:48:33 | CPU Temp | Upper Critical going high | Asserted | Reading 95 degrees C > threshold 90
-0002 | 1987-01-05 18:48:33 | Drive Slot #0x40 | Drive Fault | Asserted
+0001 | 1987-01-05 18:48:33 | CPU Temp | Upper Critical going high | Asserted | critical | Reading 95 degrees C > threshold 90
+0002 | 1987-01-05 18:48:33 | Drive Slot #0x40 | Drive Fault | Asserted | critical
 0003 | unspecified | OEM record 0xc0 | 001357 | 010203040506
 ====
 --tries 0 sel list|log|.B
@@ -262,7 +262,7 @@ sel list|log|......R
 1 7
 record 0002h refused with code D4h
 --
-0001 | 1987-01-05 18:48:33 | CPU Temp | Upper Critical going high | Asserted | Reading 95 degrees C > threshold 90
+0001 | 1987-01-05 18:48:33 | CPU Temp | Upper Critical going high | Asserted | critical | Reading 95 degrees C > threshold 90
 ";
 
 // After a lost reservation there is a new one, and the record is read again from its beginning.
@@ -275,12 +275,12 @@ fn troubles_on_either_walk_are_overcome_or_told(rt: HostRuntime) {
 const SENSORS: &str = "sdr list|sensor|
 0 5
 --
-CPU Temp         | 01h | processor 1 | 45 degrees C      | ok  | - | - | - | 85 | 90 | 95
+CPU Temp         | 01h | processor 1 | 45 degrees C      | ok  | nominal  | - | - | - | 85 | 90 | 95
 ====
 sdr list|log|
 0 5
 --
-CPU Temp         | 01h | processor 1 | no reading        | ns  | - | - | - | 85 | 90 | 95
+CPU Temp         | 01h | processor 1 | no reading        | ns  | -        | - | - | - | 85 | 90 | 95
 ====
 sdr,get,CPU Temp|sensor|
 0 5
@@ -319,15 +319,15 @@ fn sensors_have_a_line_and_a_block(rt: HostRuntime) {
 const STATUSES: &str = "sdr list|statuses|
 0 36
 --
-A                | 01h | processor 1 | 45 degrees C      | lnr | - | - | - | 85 | 90 | 95
-B                | 02h | processor 1 | 45 degrees C      | lcr | - | - | - | 85 | 90 | 95
-C                | 03h | processor 1 | 45 degrees C      | lnc | - | - | - | 85 | 90 | 95
-D                | 04h | processor 1 | 45 degrees C      | ok  | - | - | - | 85 | 90 | 95
-E                | 05h | processor 1 | 45 degrees C      | unc | - | - | - | 85 | 90 | 95
-F                | 06h | processor 1 | 45 degrees C      | ucr | - | - | - | 85 | 90 | 95
-G                | 07h | processor 1 | 45 degrees C      | unr | - | - | - | 85 | 90 | 95
-H                | 08h | processor 1 | no reading        | ns  | - | - | - | 85 | 90 | 95
-I                | 09h | processor 1 | other owner       | na  | - | - | - | 85 | 90 | 95
+A                | 01h | processor 1 | 45 degrees C      | lnr | critical | - | - | - | 85 | 90 | 95
+B                | 02h | processor 1 | 45 degrees C      | lcr | critical | - | - | - | 85 | 90 | 95
+C                | 03h | processor 1 | 45 degrees C      | lnc | warning  | - | - | - | 85 | 90 | 95
+D                | 04h | processor 1 | 45 degrees C      | ok  | nominal  | - | - | - | 85 | 90 | 95
+E                | 05h | processor 1 | 45 degrees C      | unc | warning  | - | - | - | 85 | 90 | 95
+F                | 06h | processor 1 | 45 degrees C      | ucr | critical | - | - | - | 85 | 90 | 95
+G                | 07h | processor 1 | 45 degrees C      | unr | critical | - | - | - | 85 | 90 | 95
+H                | 08h | processor 1 | no reading        | ns  | -        | - | - | - | 85 | 90 | 95
+I                | 09h | processor 1 | other owner       | na  | -        | - | - | - | 85 | 90 | 95
 ";
 
 // A reservation, three calls for each record, and one for each reading except that of the other owner.
@@ -340,10 +340,10 @@ fn sensors_have_each_status(rt: HostRuntime) {
 const SHARED_EVENTS: &str = "sel list|shared|
 0 12
 --
-0001 | 1987-01-05 18:48:33 | DIMM 2 | Presence detected | Asserted
-0002 | 1987-01-05 18:48:33 | Fan AA | State Asserted | Asserted
-0003 | 1987-01-05 18:48:33 | Memory #0x50 | Presence detected | Asserted
-0004 | 1987-01-05 18:48:33 | Memory #0x14 | Presence detected | Asserted
+0001 | 1987-01-05 18:48:33 | DIMM 2 | Presence detected | Asserted | nominal
+0002 | 1987-01-05 18:48:33 | Fan AA | State Asserted | Asserted | warning
+0003 | 1987-01-05 18:48:33 | Memory #0x50 | Presence detected | Asserted | nominal
+0004 | 1987-01-05 18:48:33 | Memory #0x14 | Presence detected | Asserted | nominal
 ";
 
 // Two calls for each record, after a reservation. The numbers of the memory sensors begin at 1, and the letters of the fans at Z.
@@ -356,15 +356,15 @@ fn events_have_the_suffixes_of_sensors_that_share_a_record(rt: HostRuntime) {
 const SHARED_SENSORS: &str = "sdr list|shared|
 0 9
 --
-DIMM             | 10h | memory device 1 | no reading        | ns  | - | - | - | - | - | -
-                 | 50h | memory device 1 | no reading        | ns  | - | - | - | - | - | -
+DIMM             | 10h | memory device 1 | no reading        | ns  | -        | - | - | - | - | - | -
+                 | 50h | memory device 1 | no reading        | ns  | -        | - | - | - | - | - | -
 ====
 sdr list all|shared|
 0 9
 --
-DIMM             | 10h | memory device 1 | no reading        | ns  | - | - | - | - | - | -
+DIMM             | 10h | memory device 1 | no reading        | ns  | -        | - | - | - | - | - | -
 Fan              | event only        | na
-                 | 50h | memory device 1 | no reading        | ns  | - | - | - | - | - | -
+                 | 50h | memory device 1 | no reading        | ns  | -        | - | - | - | - | - | -
 ====
 sdr,get,DIMM |shared|
 0 8

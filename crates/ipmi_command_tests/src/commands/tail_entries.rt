@@ -354,15 +354,15 @@ const IN_WORDS: &str = "1 05|named|run|
 3 05|named|run|
 0 9
 --
-0001 | 1987-01-05 18:48:33 | CPU Temp | Upper Critical going high | Asserted | Reading 95 degrees C > threshold 90
-0002 | 1987-01-05 18:48:33 | Drive Slot #0x40 | Drive Fault | Asserted
+0001 | 1987-01-05 18:48:33 | CPU Temp | Upper Critical going high | Asserted | critical | Reading 95 degrees C > threshold 90
+0002 | 1987-01-05 18:48:33 | Drive Slot #0x40 | Drive Fault | Asserted | critical
 0003 | unspecified | OEM record 0xc0 | 001357 | 010203040506
 ====
 1 05|named in a cycle|run|
 1 7
 names of sensors may be missing: sensor data records have a cycle at 0001h
 --
-0002 | 1987-01-05 18:48:33 | Drive Slot #0x40 | Drive Fault | Asserted
+0002 | 1987-01-05 18:48:33 | Drive Slot #0x40 | Drive Fault | Asserted | critical
 ====
 1 05|named|run|....R
 1 5

@@ -17,7 +17,7 @@ const EVENT: [u8; 16] = [
 ];
 
 const LINE: &str =
-    "0001 | 1987-01-05 18:48:33 | FAN AA | State Asserted | Asserted | was State Deasserted
+    "0001 | 1987-01-05 18:48:33 | FAN AA | State Asserted | Asserted | warning | was State Deasserted
 ";
 
 /// The line of the event, with the sensors of the record.

@@ -9,42 +9,42 @@ use std::process::Abort;
 
 /// `changes of CPU_TEMP|reading|line after the name`.
 const FULL_LINES: &str =
-    "|2dc00000|01h | processor 1 | 45 degrees C      | ok  | - | - | - | 85 | 90 | 95
-|none|01h | processor 1 | no reading        | ns  | - | - | - | 85 | 90 | 95
-|lacking|01h | processor 1 | not captured      | ns  | - | - | - | 85 | 90 | 95
-6=22|lacking|01h | processor 1 | other owner       | na  | - | - | - | 85 | 90 | 95
-|2d203f00|01h | processor 1 | no reading        | ns  | - | - | - | 85 | 90 | 95
-6=22|2dc03f00|01h | processor 1 | other owner       | na  | - | - | - | 85 | 90 | 95
-|2dc0c000|01h | processor 1 | 45 degrees C      | ok  | - | - | - | 85 | 90 | 95
-|2dc02000|01h | processor 1 | 45 degrees C      | unr | - | - | - | 85 | 90 | 95
-|2dc01000|01h | processor 1 | 45 degrees C      | ucr | - | - | - | 85 | 90 | 95
-|2dc00800|01h | processor 1 | 45 degrees C      | unc | - | - | - | 85 | 90 | 95
-|2dc00400|01h | processor 1 | 45 degrees C      | lnr | - | - | - | 85 | 90 | 95
-|2dc00200|01h | processor 1 | 45 degrees C      | lcr | - | - | - | 85 | 90 | 95
-|2dc00100|01h | processor 1 | 45 degrees C      | lnc | - | - | - | 85 | 90 | 95
-|2dc03f00|01h | processor 1 | 45 degrees C      | unr | - | - | - | 85 | 90 | 95
-|2dc01f00|01h | processor 1 | 45 degrees C      | lnr | - | - | - | 85 | 90 | 95
-|2dc01b00|01h | processor 1 | 45 degrees C      | ucr | - | - | - | 85 | 90 | 95
-|2dc00b00|01h | processor 1 | 45 degrees C      | lcr | - | - | - | 85 | 90 | 95
-|2dc00900|01h | processor 1 | 45 degrees C      | unc | - | - | - | 85 | 90 | 95
-19=00|2dc00000|01h | processor 1 | 45 degrees C      | ok  | - | - | - | - | - | -
-19=07|2dc00000|01h | processor 1 | 45 degrees C      | ok  | 0 | 0 | 0 | - | - | -
-19=c0|2dc00000|01h | processor 1 | 45 degrees C      | ok  | - | - | - | - | - | -
-19=3f,40=05,41=0a,42=0f|2dc00000|01h | processor 1 | 45 degrees C      | ok  | 5 | 10 | 15 | 85 | 90 | 95
-30=f0|2dc00000|01h | processor 1 | 4.5 degrees C     | ok  | - | - | - | 8.5 | 9 | 9.5
-24=01|2dc00000|01h | processor 1 | raw 0x2d          | ok  | - | - | - | raw 0x55 | raw 0x5a | raw 0x5f
-21=c0|2d400182|01h | processor 1 | states 0x0201     | lnc | - | - | - | raw 0x55 | raw 0x5a | raw 0x5f
-14=6f|2dc03f00|01h | processor 1 | 45 degrees C      | ok  | - | - | - | - | - | -
-21=c0,14=03|00400200|01h | processor 1 | State Asserted    | ok  | - | - | - | - | - | -
-21=c0,14=03|00400300|01h | processor 1 | State Deasserted, State Asserted | ok  | - | - | - | - | - | -
-21=c0,14=03|00400582|01h | processor 1 | State Deasserted, state 2, state 9 | ok  | - | - | - | - | - | -
-21=c0,14=03|00400040|01h | processor 1 | state 14          | ok  | - | - | - | - | - | -
-21=c0,14=03|00400080|01h | processor 1 | no state          | ok  | - | - | - | - | - | -
-21=c0,14=03|00400000|01h | processor 1 | no state          | ok  | - | - | - | - | - | -
-21=c0,14=03|none|01h | processor 1 | no reading        | ns  | - | - | - | - | - | -
-21=c0,14=03,6=22|00400200|01h | processor 1 | other owner       | na  | - | - | - | - | - | -
-8=af,9=0a,10=ff|2dc00000|AFh | power supply 127 | 45 degrees C      | ok  | - | - | - | 85 | 90 | 95
-9=43|2dc00000|01h | entity 0x43 1 | 45 degrees C      | ok  | - | - | - | 85 | 90 | 95";
+    "|2dc00000|01h | processor 1 | 45 degrees C      | ok  | nominal  | - | - | - | 85 | 90 | 95
+|none|01h | processor 1 | no reading        | ns  | -        | - | - | - | 85 | 90 | 95
+|lacking|01h | processor 1 | not captured      | ns  | -        | - | - | - | 85 | 90 | 95
+6=22|lacking|01h | processor 1 | other owner       | na  | -        | - | - | - | 85 | 90 | 95
+|2d203f00|01h | processor 1 | no reading        | ns  | -        | - | - | - | 85 | 90 | 95
+6=22|2dc03f00|01h | processor 1 | other owner       | na  | -        | - | - | - | 85 | 90 | 95
+|2dc0c000|01h | processor 1 | 45 degrees C      | ok  | nominal  | - | - | - | 85 | 90 | 95
+|2dc02000|01h | processor 1 | 45 degrees C      | unr | critical | - | - | - | 85 | 90 | 95
+|2dc01000|01h | processor 1 | 45 degrees C      | ucr | critical | - | - | - | 85 | 90 | 95
+|2dc00800|01h | processor 1 | 45 degrees C      | unc | warning  | - | - | - | 85 | 90 | 95
+|2dc00400|01h | processor 1 | 45 degrees C      | lnr | critical | - | - | - | 85 | 90 | 95
+|2dc00200|01h | processor 1 | 45 degrees C      | lcr | critical | - | - | - | 85 | 90 | 95
+|2dc00100|01h | processor 1 | 45 degrees C      | lnc | warning  | - | - | - | 85 | 90 | 95
+|2dc03f00|01h | processor 1 | 45 degrees C      | unr | critical | - | - | - | 85 | 90 | 95
+|2dc01f00|01h | processor 1 | 45 degrees C      | lnr | critical | - | - | - | 85 | 90 | 95
+|2dc01b00|01h | processor 1 | 45 degrees C      | ucr | critical | - | - | - | 85 | 90 | 95
+|2dc00b00|01h | processor 1 | 45 degrees C      | lcr | critical | - | - | - | 85 | 90 | 95
+|2dc00900|01h | processor 1 | 45 degrees C      | unc | warning  | - | - | - | 85 | 90 | 95
+19=00|2dc00000|01h | processor 1 | 45 degrees C      | ok  | nominal  | - | - | - | - | - | -
+19=07|2dc00000|01h | processor 1 | 45 degrees C      | ok  | nominal  | 0 | 0 | 0 | - | - | -
+19=c0|2dc00000|01h | processor 1 | 45 degrees C      | ok  | nominal  | - | - | - | - | - | -
+19=3f,40=05,41=0a,42=0f|2dc00000|01h | processor 1 | 45 degrees C      | ok  | nominal  | 5 | 10 | 15 | 85 | 90 | 95
+30=f0|2dc00000|01h | processor 1 | 4.5 degrees C     | ok  | nominal  | - | - | - | 8.5 | 9 | 9.5
+24=01|2dc00000|01h | processor 1 | raw 0x2d          | ok  | nominal  | - | - | - | raw 0x55 | raw 0x5a | raw 0x5f
+21=c0|2d400182|01h | processor 1 | states 0x0201     | lnc | warning  | - | - | - | raw 0x55 | raw 0x5a | raw 0x5f
+14=6f|2dc03f00|01h | processor 1 | 45 degrees C      | ok  | -        | - | - | - | - | - | -
+21=c0,14=03|00400200|01h | processor 1 | State Asserted    | ok  | warning  | - | - | - | - | - | -
+21=c0,14=03|00400300|01h | processor 1 | State Deasserted, State Asserted | ok  | warning  | - | - | - | - | - | -
+21=c0,14=03|00400582|01h | processor 1 | State Deasserted, state 2, state 9 | ok  | -        | - | - | - | - | - | -
+21=c0,14=03|00400040|01h | processor 1 | state 14          | ok  | -        | - | - | - | - | - | -
+21=c0,14=03|00400080|01h | processor 1 | no state          | ok  | nominal  | - | - | - | - | - | -
+21=c0,14=03|00400000|01h | processor 1 | no state          | ok  | nominal  | - | - | - | - | - | -
+21=c0,14=03|none|01h | processor 1 | no reading        | ns  | -        | - | - | - | - | - | -
+21=c0,14=03,6=22|00400200|01h | processor 1 | other owner       | na  | -        | - | - | - | - | - | -
+8=af,9=0a,10=ff|2dc00000|AFh | power supply 127 | 45 degrees C      | ok  | nominal  | - | - | - | 85 | 90 | 95
+9=43|2dc00000|01h | entity 0x43 1 | 45 degrees C      | ok  | nominal  | - | - | - | 85 | 90 | 95";
 
 /// A compact record: sensor 05h, LUN 3, entity 7.1, event/reading type 03h.
 const DOOR: &str = "030051021f2003050701000005030000000000\
@@ -60,9 +60,9 @@ const EVT1: &str = "05005103102000302281126f00000000c445565431";
 
 /// `reading of the sensor of DOOR|line`.
 const COMPACT_LINES: &str =
-    "00400200|Door             | 05h | system board 1 | State Asserted    | ok  | - | - | - | - | - | -
-none|Door             | 05h | system board 1 | no reading        | ns  | - | - | - | - | - | -
-lacking|Door             | 05h | system board 1 | not captured      | ns  | - | - | - | - | - | -";
+    "00400200|Door             | 05h | system board 1 | State Asserted    | ok  | warning  | - | - | - | - | - | -
+none|Door             | 05h | system board 1 | no reading        | ns  | -        | - | - | - | - | - | -
+lacking|Door             | 05h | system board 1 | not captured      | ns  | -        | - | - | - | - | - | -";
 
 /// The block of `CPU_TEMP` with a reading.
 const CPU_TEMP_BLOCK: &str = "Record: 0001h
@@ -105,7 +105,7 @@ Status: ok
 
 /// The line of `DIMMS`. The first sensor has state 6.
 const DIMMS_LINE: &str = "DIMM             | 10h | memory device 1 | Presence detected | ok  | \
-    - | - | - | - | - | -";
+    nominal  | - | - | - | - | - | -";
 
 /// The block of `DIMMS`.
 const DIMMS_BLOCK: &str = "Record: 0002h
@@ -269,7 +269,7 @@ fn each_entity_has_its_name(rt: HostRuntime) {
 
 /// The line of `CPU_TEMP` with a reading.
 const CPU_TEMP_LINE: &str =
-    "CPU Temp         | 01h | processor 1 | 90 degrees C      | ucr | - | - | - | 85 | 90 | 95
+    "CPU Temp         | 01h | processor 1 | 90 degrees C      | ucr | critical | - | - | - | 85 | 90 | 95
 ";
 
 /// A text, or out of memory.

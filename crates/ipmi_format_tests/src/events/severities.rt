@@ -22,31 +22,31 @@ fn severity_of(rt: &impl Abort, sensor_type: u8, event_type: u8, data1: u8) -> O
 
 /// `these three bytes|severity`: thresholds that were passed, and one that is no longer; states of all three severities; a presence, one
 /// that ended, and an absence; a state that the vendor knows; offsets that are reserved, an OEM type, and a sensor type without offsets.
-const SEVERITIES: &str = "01 01 50|Warning
-01 01 52|Critical
-01 01 57|Warning
-01 01 56|Nominal
-01 81 52|Nominal
-01 01 5b|Critical
+const SEVERITIES: &str = "01 01 50|warning
+01 01 52|critical
+01 01 57|warning
+01 01 56|nominal
+01 81 52|nominal
+01 01 5b|critical
 01 01 0c|none
-0d 6f 00|Nominal
-0d ef 00|Nominal
-0d 6f a1|Critical
-08 6f a3|Critical
+0d 6f 00|nominal
+0d ef 00|nominal
+0d 6f a1|critical
+08 6f a3|critical
 08 6f 08|none
-05 6f 00|Critical
-0c 6f 20|Warning
-0c 6f 01|Critical
-c0 03 01|Warning
-c0 03 00|Nominal
-04 0b 00|Nominal
-04 0b 01|Critical
-08 08 00|Critical
-08 08 01|Nominal
-07 07 04|Warning
+05 6f 00|critical
+0c 6f 20|warning
+0c 6f 01|critical
+c0 03 01|warning
+c0 03 00|nominal
+04 0b 00|nominal
+04 0b 01|critical
+08 08 00|critical
+08 08 01|nominal
+07 07 04|warning
 23 6f 04|none
 23 ef 04|none
-2a 6f 02|Warning
+2a 6f 02|warning
 0c 70 01|none
 0c f0 01|none
 01 6f 00|none
@@ -60,9 +60,7 @@ fn assert_severity(rt: &impl Abort, case: &str) {
     let (event_type, data1) = rest.split_once(' ').expect(rt, case);
     let (sensor_type, event_type) = (byte_of(rt, sensor_type), byte_of(rt, event_type));
     let got = match severity_of(rt, sensor_type, event_type, byte_of(rt, data1)) {
-        Some(Severity::Nominal) => "Nominal",
-        Some(Severity::Warning) => "Warning",
-        Some(Severity::Critical) => "Critical",
+        Some(severity) => severity.as_str(),
         None => "none",
     };
     assert!(rt; got == wanted, "{case}: got {got}");
