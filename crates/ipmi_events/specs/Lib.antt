@@ -9,6 +9,7 @@ pub mod Generic
 pub mod Laws
 pub mod Name
 pub mod Parts
+pub mod Reason
 pub mod SensorBlocks
 pub mod SensorLaws
 pub mod SensorLines

@@ -9,7 +9,7 @@ use crate::status::worst_passed;
 use ipmi_records::{KnownReading, Sensor, Shown, Threshold, has_thresholds, shown_of, states_in};
 
 /// The place of a severity among the others, from the best: what has none comes before a warning.
-fn rank(severity: Option<Severity>) -> u8
+pub(crate) fn rank(severity: Option<Severity>) -> u8
     ensures { result ≡ rank severity }
 {
     match severity {
@@ -28,7 +28,7 @@ fn worse_of(one: Option<Severity>, other: Option<Severity>) -> Option<Severity>
 }
 
 /// The severity of the worst state that is set; nominal without one.
-fn discrete_severity(sensor: &Sensor, states: u16) -> Option<Severity>
+pub(crate) fn discrete_severity(sensor: &Sensor, states: u16) -> Option<Severity>
     ensures { result ≡ discrete_severity sensor.now states }
 {
     let mut worst = Some(Severity::Nominal);
