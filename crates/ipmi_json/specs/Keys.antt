@@ -51,6 +51,7 @@ object_keys =
     codes "event_words" ∷
     codes "direction" ∷
     codes "severity" ∷
+    codes "severity_reason" ∷
     codes "event_data" ∷
     codes "event_details" ∷
     codes "manufacturer_id" ∷

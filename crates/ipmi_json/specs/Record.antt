@@ -4,7 +4,7 @@ use Rattle.json.specs.Json.{Json, null, string}
 use Rattle.ipmi_text.specs.FieldText.{binary_text}
 use Rattle.ipmi_events.specs.Severity.{severity_word}
 use Rattle.ipmi_events.specs.declared.severity.Severity.{Severity}
-use Rattle.ipmi_json.specs.Object.{integer, Pair}
+use Rattle.ipmi_json.specs.Object.{integer, Pair, text_or_null}
 
 -- the name of the object, and the id, the type and the kind
 abbrev pub head_members : List ℕ → ℕ → ℕ → List ℕ → List Pair
@@ -20,8 +20,10 @@ abbrev pub severity_value : Option Severity → Json
 severity_value None = null
 severity_value (Some severity) = string (severity_word severity)
 
-abbrev pub severity_members : Option Severity → List Pair
-severity_members severity = (codes "severity", severity_value severity) ∷ []
+-- a severity, and what makes it worse than nominal
+abbrev pub severity_members : Option Severity → Option (List ℕ) → List Pair
+severity_members severity reason =
+    (codes "severity", severity_value severity) ∷ (codes "severity_reason", text_or_null reason) ∷ []
 
 abbrev pub raw_members : List ℕ → List Pair
 raw_members bytes = (codes "raw", string (binary_text bytes)) ∷ []

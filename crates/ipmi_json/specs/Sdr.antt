@@ -20,9 +20,10 @@ use Rattle.ipmi_records.specs.declared.threshold.Threshold.{Threshold}
 use Rattle.ipmi_events.specs.Entities.{entity_words}
 use Rattle.ipmi_events.specs.States.{set_states, state_words}
 use Rattle.ipmi_events.specs.Status.{status_in_words}
+use Rattle.ipmi_events.specs.Reason.{sensor_reason}
 use Rattle.ipmi_events.specs.Worst.{sensor_severity}
 use Rattle.ipmi_json.specs.declared.object.Label.{Label}
-use Rattle.ipmi_json.specs.Object.{integer, integer_or_null, IsDecimalOrNull, IsLineOfSome, Pair, text_unless_empty, texts}
+use Rattle.ipmi_json.specs.Object.{integer, integer_or_null, IsDecimalOrNull, IsLineOfSome, Pair, text_or_null, text_unless_empty, texts}
 use Rattle.ipmi_json.specs.Record.{head_members, raw_members, severity_value}
 
 -- ---- every record
@@ -112,6 +113,7 @@ shown_members sensor shown status =
     ∷ (codes "status", string status)
     ∷ (codes "status_words", string (status_words sensor shown))
     ∷ (codes "severity", severity_value (sensor_severity sensor shown))
+    ∷ (codes "severity_reason", text_or_null (sensor_reason sensor shown))
     ∷ []
 
 -- ---- thresholds

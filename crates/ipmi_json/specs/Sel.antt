@@ -10,6 +10,7 @@ use Rattle.ipmi_records.specs.declared.sel.SelView.{SelView}
 use Rattle.ipmi_events.specs.Details.{IsDetails}
 use Rattle.ipmi_events.specs.EventLines.{full_of, record_for}
 use Rattle.ipmi_events.specs.Name.{sensor_name}
+use Rattle.ipmi_events.specs.Reason.{event_reason}
 use Rattle.ipmi_events.specs.Severity.{event_severity}
 use Rattle.ipmi_events.specs.Words.{event_offset, event_words}
 use Rattle.ipmi_json.specs.declared.object.Label.{Label}
@@ -65,6 +66,7 @@ meaning_members bytes =
     ∷ (codes "event_words", text_or_null (event_words (event_type bytes) (sensor_type bytes) (event_offset bytes)))
     ∷ (codes "direction", string (direction_word (is_deasserted bytes)))
     ∷ (codes "severity", severity_value (event_severity bytes))
+    ∷ (codes "severity_reason", text_or_null (event_reason bytes))
     ∷ (codes "event_data", string (binary_text (event_data bytes)))
     ∷ []
 

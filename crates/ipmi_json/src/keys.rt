@@ -3,7 +3,7 @@ ghost use Rattle.std.specs.Prelude.{◌≡◌};
 ghost use Rattle.ipmi_json.specs.Keys.{is_object_key};
 
 /// The keys of all objects. Those of objects inside them are left out, as no label is added there.
-const KEYS: [&str; 70] = [
+const KEYS: [&str; 71] = [
     "object",
     "record_id",
     "record_type",
@@ -48,6 +48,7 @@ const KEYS: [&str; 70] = [
     "event_words",
     "direction",
     "severity",
+    "severity_reason",
     "event_data",
     "event_details",
     "manufacturer_id",

@@ -1,11 +1,12 @@
 //! Members that the objects of records and of entries both have.
-ghost use Rattle.std.specs.Prelude.{◌≡◌, OnOk};
+ghost use Rattle.std.specs.Prelude.{◌≡◌, OnOk, option_map};
 ghost use Rattle.ipmi_json.specs.Members.{Tells};
-ghost use Rattle.ipmi_json.specs.Record.{head_members, raw_members, severity_members};
+ghost use Rattle.ipmi_json.specs.Record.{head_members, raw_members, severity_members, severity_value};
+ghost use Rattle.ipmi_json.specs.Object.{json_of};
 
 use crate::digits::hex_text;
 use crate::members::Members;
-use crate::object::Value;
+use crate::object::{Value, text_or_null};
 use ipmi_events::Severity;
 use std::alloc::{AllocError, Global};
 
@@ -32,17 +33,27 @@ pub(crate) fn tell_head<M: Members>(
     out.put("kind", Value::Text(kind))
 }
 
-/// Tells a severity, or null.
+/// A severity, or null.
+fn severity_value(severity: Option<Severity>) -> Value<'static>
+    ensures { json_of result ≡ severity_value severity }
+{
+    match severity {
+        Some(severity) => Value::Text(severity.as_str()),
+        None => Value::Null,
+    }
+}
+
+/// Tells a severity, or null, and what makes it worse than nominal, or null.
 pub(crate) fn tell_severity<M: Members>(
     out: &mut M,
     severity: Option<Severity>,
+    reason: Option<&'static str>,
 ) -> Result<(), AllocError>
-    ensures { OnOk result (Tells M.told (severity_members severity) out.old out.new) }
+    ensures { OnOk result
+        (Tells M.told (severity_members severity (option_map (λ s. s.now) reason.entry)) out.old out.new) }
 {
-    match severity {
-        Some(severity) => out.put("severity", Value::Text(severity.as_str())),
-        None => out.put("severity", Value::Null),
-    }
+    out.put("severity", severity_value(severity))?;
+    out.put("severity_reason", text_or_null(reason))
 }
 
 /// Tells the bytes in hex, the last member of each.

@@ -11,7 +11,7 @@ use crate::members::{Members, put_members, put_printed};
 use crate::object::{Label, Value, begin, finish, integer_or_null, text_unless_empty};
 use crate::record::{put_raw, tell_head, tell_severity};
 use crate::states::tell_state_words;
-use ipmi_events::{EntityWords, sensor_severity, status_in_words};
+use ipmi_events::{EntityWords, sensor_reason, sensor_severity, status_in_words};
 use ipmi_records::SdrView::{Compact, Controller, EventOnly, Fru, Full, Generic, Other};
 use ipmi_records::{
     CompactSensor, Entity, FruLocator, FullSensor, KnownReading, Locator, SdrFault, SdrView,
@@ -197,7 +197,8 @@ fn tell_shown<M: Members>(
     tell_state_words(alloc, out, sensor, shown)?;
     out.put("status", Value::Text(status))?;
     out.put("status_words", Value::Text(words))?;
-    tell_severity(out, sensor_severity(sensor, reading))
+    let reason = sensor_reason(sensor, reading);
+    tell_severity(out, sensor_severity(sensor, reading), reason)
 }
 
 /// The value of a threshold of a full record, if it has one.

@@ -15,7 +15,7 @@ use crate::object::{Label, Value, begin, finish, text_or_null, text_unless_empty
 use crate::record::{tell_head, tell_severity};
 use crate::time::time_text;
 use ipmi_events::{
-    Sensors, event_severity, event_words, push_details, push_sensor_name, record_for,
+    Sensors, event_reason, event_severity, event_words, push_details, push_sensor_name, record_for,
 };
 use ipmi_records::SelView::{Event, OemPlain, OemTimed, Other};
 use ipmi_records::{EventEntry, FullSensor, OemTimestampedEntry, SdrView, SelView};
@@ -191,7 +191,7 @@ fn tell_meaning<M: Members>(
     tell_specified(out, text, event)?;
     out.put("event_words", text_or_null(words_of(event)))?;
     out.put("direction", Value::Text(direction_word(event)))?;
-    tell_severity(out, event_severity(event))?;
+    tell_severity(out, event_severity(event), event_reason(event))?;
     out.put("event_data", Value::Text(data_of(event, raw)))
 }
 

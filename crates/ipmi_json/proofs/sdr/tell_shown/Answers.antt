@@ -10,5 +10,5 @@ returns g c =
     let words = rw shown at c.in_ok-tell_state_words.ensures in
     let status = rw c.status_words-words.ensures at c.in_ok-put-4.ensures in
     on_ok_weaker c.tell_severity.result
-    (λ last. joined (joined (joined (joined (joined raw states) words) c.in_ok-put-3.ensures) status) (rw c.sensor_severity.ensures at last))
+    (λ last. joined (joined (joined (joined (joined raw states) words) c.in_ok-put-3.ensures) status) (rw (c.sensor_severity.ensures, c.sensor_reason-reason.ensures) at last))
     c.tell_severity.ensures
