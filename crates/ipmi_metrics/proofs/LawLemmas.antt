@@ -1,5 +1,5 @@
 -- No two families have one name, and there is at most one text of metrics.
-use Rattle.std.proofs.Common.{◌≡◌, ◌∙◌, ℕ, ℤ, Bool, true, false, not, ◌&&◌, Option, Some, None, Ok, Err, Result, List, [], ◌∷◌, ap, sym}
+use Rattle.std.proofs.Common.{◌≡◌, ◌∙◌, ℕ, ℤ, Bool, true, false, not, ◌&&◌, Option, Some, None, Ok, Err, Result, List, [], ◌∷◌, ◌++◌, ap, sym}
 use Rattle.std.proofs.lemmas.Bool.{and_parts, not-true, or_parts}
 use Rattle.std.specs.List.{AllByRecursion, IsDistinct, list_any}
 use Rattle.std.specs.Str.{bytes_eq}
@@ -12,7 +12,7 @@ use Rattle.ipmi_records.specs.declared.sdr.SdrView.{SdrView}
 use Rattle.ipmi_records.specs.declared.sensor.Sensor.{Sensor}
 use Rattle.ipmi_sensors.specs.Sensors.{Found}
 use Rattle.ipmi_metrics.specs.Families.{families, with_head}
-use Rattle.ipmi_metrics.specs.Labels.{threshold_labels}
+use Rattle.ipmi_metrics.specs.Labels.{name_labels, threshold_label}
 use Rattle.ipmi_metrics.specs.Laws.{MetricsTextIsUnique}
 use Rattle.ipmi_metrics.specs.Measure.{is_measure, measure_of}
 use Rattle.ipmi_metrics.specs.Metrics.{AreSamples, AreSamplesIn, IsFamily}
@@ -70,7 +70,8 @@ one_of_sensor decimals (Family.Value measure) id view reading sensor =
 one_of_sensor decimals (Family.State measure) id view reading sensor =
     one_if_so (is_measure measure (measure_of view)) _ (λ text other is also. is ∙ sym also)
 one_of_sensor decimals Family.Threshold id view reading sensor =
-    one_of_all (IsThresholdSample id view) (λ threshold. one_if_any decimals (threshold_labels id view threshold) (threshold_of view threshold)) all_thresholds
+    one_of_all (IsThresholdSample (name_labels id view) view)
+    (λ threshold. one_if_any decimals (name_labels id view ++ threshold_label threshold) (threshold_of view threshold)) all_thresholds
 one_of_sensor decimals Family.Info id view reading sensor = λ text other is also. is ∙ sym also
 
 one_of : DecimalIsUnique → (family : Family) (id : ℕ) (view : SdrView) (reading : KnownReading) (sensor : Option Sensor)

@@ -1,6 +1,5 @@
 -- The metrics, part by part.
 use Rattle.std.proofs.Common.{◌≡◌, ◌∙◌, ℕ, Bool, List, ◌++◌, append_assoc, codes, Option, []}
-use Rattle.ipmi_text.specs.Appended.{Appends}
 use Rattle.ipmi_text.specs.Texts.{AreTexts}
 use Rattle.ipmi_records.specs.Prelude.{info_in}
 use Rattle.ipmi_records.specs.declared.info.Info.{Info}
@@ -17,11 +16,11 @@ pub log_made : (info : List ℕ) (read : Info) (old first text : List ℕ) (entr
 log_made info read old first text entries free read_is entries_is free_is first_is text_is =
     text_is ∙ rw (first_is, free_is, entries_is, read_is) (simp append_assoc)
 
-pub metrics_made : (found : List Found) (info : Option (List ℕ)) (is_up : Bool) (dialect : Dialect) (none sensors faults log up text : List ℕ)
-    → none ≡ [] → Appends (AreTexts (IsFamily found) families) none sensors → faults ≡ sensors ++ faults_part found → log ≡ faults ++ log_part info
+pub metrics_made : (found : List Found) (info : Option (List ℕ)) (is_up : Bool) (dialect : Dialect) (sensors faults log up text : List ℕ)
+    → AreTexts (IsFamily found) families sensors → faults ≡ sensors ++ faults_part found → log ≡ faults ++ log_part info
     → up ≡ log ++ up_part is_up → text ≡ up ++ end_of dialect → IsMetricsText found info is_up dialect text
-metrics_made found info is_up dialect none sensors faults log up text none_is are faults_is log_is up_is text_is = record {
-  sensors = are.part;
-  are_families = are.is_text;
-  text_is = text_is ∙ rw (up_is, log_is, faults_is, are.text_is, none_is) (simp append_assoc);
+metrics_made found info is_up dialect sensors faults log up text are faults_is log_is up_is text_is = record {
+  sensors = sensors;
+  are_families = are;
+  text_is = text_is ∙ rw (up_is, log_is, faults_is) (simp append_assoc);
 }

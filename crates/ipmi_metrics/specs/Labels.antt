@@ -1,5 +1,5 @@
 -- The labels of a sensor, as the text format writes them.
-use Rattle.std.specs.Prelude.{ℕ, ◌==◌, if◌then◌else◌, List, [], ◌∷◌, ◌++◌, codes, decimal, flat_map}
+use Rattle.std.specs.Prelude.{◌≢◌, ℕ, ◌==◌, if◌then◌else◌, List, [], ◌∷◌, ◌++◌, codes, decimal, flat_map}
 use Rattle.ipmi_text.specs.SensorTypes.{sensor_type_text_of}
 use Rattle.ipmi_records.specs.Prelude.{printed_name}
 use Rattle.ipmi_records.specs.declared.sdr.SdrView.{SdrView}
@@ -14,6 +14,10 @@ escaped_byte byte =
     else if byte == 34 then 92 ∷ 34 ∷ []
     else if byte == 10 then 92 ∷ 110 ∷ []
     else byte ∷ []
+
+-- the others stand for themselves
+abbrev pub IsPlain : ℕ → Type 0
+IsPlain byte = (byte ≢ 92) × (byte ≢ 34) × (byte ≢ 10)
 
 abbrev pub escaped : List ℕ → List ℕ
 escaped text = flat_map escaped_byte text
@@ -37,15 +41,20 @@ abbrev pub type_part : Measure → Sensor → List ℕ
 type_part Measure.Other sensor = type_label sensor
 type_part measure sensor = []
 
-abbrev pub sensor_labels : Measure → ℕ → SdrView → Sensor → List ℕ
-sensor_labels measure id view sensor = name_labels id view ++ type_part measure sensor
+-- the labels of a sensor's value and state, after those of its name
+abbrev pub sensor_labels : List ℕ → Measure → Sensor → List ℕ
+sensor_labels names measure sensor = names ++ type_part measure sensor
 
-abbrev pub info_labels : ℕ → SdrView → Sensor → List ℕ
-info_labels id view sensor =
-    name_labels id view ++ (next_label (codes "entity_id") (decimal sensor.entity.id)
+-- what else a record says of its sensor
+abbrev pub place_labels : Sensor → List ℕ
+place_labels sensor =
+    next_label (codes "entity_id") (decimal sensor.entity.id)
     ++ (next_label (codes "entity_instance") (decimal sensor.entity.instance)
     ++ (next_label (codes "lun") (decimal sensor.lun)
-    ++ (next_label (codes "number") (decimal sensor.number) ++ type_label sensor))))
+    ++ (next_label (codes "number") (decimal sensor.number) ++ type_label sensor)))
+
+abbrev pub info_labels : List ℕ → Sensor → List ℕ
+info_labels names sensor = names ++ place_labels sensor
 
 abbrev pub threshold_word : Threshold → List ℕ
 threshold_word Threshold.UpperNonRecoverable = codes "upper_non_recoverable"
@@ -55,5 +64,5 @@ threshold_word Threshold.LowerNonRecoverable = codes "lower_non_recoverable"
 threshold_word Threshold.LowerCritical = codes "lower_critical"
 threshold_word Threshold.LowerNonCritical = codes "lower_non_critical"
 
-abbrev pub threshold_labels : ℕ → SdrView → Threshold → List ℕ
-threshold_labels id view threshold = name_labels id view ++ next_label (codes "threshold") (threshold_word threshold)
+abbrev pub threshold_label : Threshold → List ℕ
+threshold_label threshold = next_label (codes "threshold") (threshold_word threshold)

@@ -1,4 +1,5 @@
 pub mod Families
+pub mod Gathered
 pub mod Labels
 pub mod Laws
 pub mod Measure

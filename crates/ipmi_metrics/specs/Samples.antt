@@ -10,7 +10,7 @@ use Rattle.ipmi_records.specs.declared.threshold.Threshold.{Threshold}
 use Rattle.ipmi_events.specs.Worst.{sensor_severity}
 use Rattle.ipmi_events.specs.declared.severity.Severity.{Severity}
 use Rattle.ipmi_metrics.specs.Families.{family_name}
-use Rattle.ipmi_metrics.specs.Labels.{info_labels, sensor_labels, threshold_labels}
+use Rattle.ipmi_metrics.specs.Labels.{info_labels, name_labels, sensor_labels, threshold_label}
 use Rattle.ipmi_metrics.specs.Measure.{is_measure, measure_of}
 use Rattle.ipmi_text.specs.Texts.{AreTexts}
 use Rattle.ipmi_json.specs.Sdr.{threshold_value, value_shown}
@@ -58,8 +58,8 @@ abbrev pub IsSampleIfAny : List ℕ → Option ℤ → List ℕ → Type 0
 IsSampleIfAny labels None text = text ≡ []
 IsSampleIfAny labels (Some value) text = IsValueSample (family_name Family.Threshold) labels (Some value) text
 
-abbrev pub IsThresholdSample : ℕ → SdrView → Threshold → List ℕ → Type 0
-IsThresholdSample id view threshold text = IsSampleIfAny (threshold_labels id view threshold) (threshold_of view threshold) text
+abbrev pub IsThresholdSample : List ℕ → SdrView → Threshold → List ℕ → Type 0
+IsThresholdSample names view threshold text = IsSampleIfAny (names ++ threshold_label threshold) (threshold_of view threshold) text
 
 -- ---- the samples of a record in a family
 
@@ -71,13 +71,13 @@ IfSo false IsText text = text ≡ []
 abbrev pub AreSamplesOfSensor : Family → ℕ → SdrView → KnownReading → Sensor → List ℕ → Type 0
 AreSamplesOfSensor (Family.Value measure) id view reading sensor text =
     IfSo (is_measure measure (measure_of view)) (λ one. IsValueSample (family_name (Family.Value measure))
-    (sensor_labels measure id view sensor) (value_of view (shown_of sensor reading)) one) text
+    (sensor_labels (name_labels id view) measure sensor) (value_of view (shown_of sensor reading)) one) text
 AreSamplesOfSensor (Family.State measure) id view reading sensor text =
     IfSo (is_measure measure (measure_of view)) (λ one. one ≡ sample (family_name (Family.State measure))
-    (sensor_labels measure id view sensor) (severity_number (sensor_severity sensor (shown_of sensor reading)))) text
-AreSamplesOfSensor Family.Threshold id view reading sensor text = AreTexts (IsThresholdSample id view) all_thresholds text
+    (sensor_labels (name_labels id view) measure sensor) (severity_number (sensor_severity sensor (shown_of sensor reading)))) text
+AreSamplesOfSensor Family.Threshold id view reading sensor text = AreTexts (IsThresholdSample (name_labels id view) view) all_thresholds text
 AreSamplesOfSensor Family.Info id view reading sensor text =
-    text ≡ sample (family_name Family.Info) (info_labels id view sensor) (codes "1")
+    text ≡ sample (family_name Family.Info) (info_labels (name_labels id view) sensor) (codes "1")
 
 -- a record that is not one of a sensor has none
 abbrev pub AreSamplesOf : Family → ℕ → SdrView → KnownReading → Option Sensor → List ℕ → Type 0

@@ -1,15 +1,12 @@
 //! The labels of a sensor, as the text format writes them.
-ghost use Rattle.std.specs.Prelude.{◌≡◌, ◌++◌, decimal, encode_utf8, IfOk, OnOk, flat_map, string_bytes};
-ghost use Rattle.ipmi_records.specs.Prelude.{printed_name};
-ghost use Rattle.ipmi_metrics.specs.Labels.{escaped, escaped_byte, info_labels, name_labels, next_label, sensor_labels, threshold_labels, threshold_word, type_label, type_part};
+ghost use Rattle.std.specs.Prelude.{◌≡◌, ◌↔◌, ◌++◌, codes, decimal, encode_utf8, flat_map, IsTrue, OnOk, string_bytes};
+ghost use Rattle.ipmi_metrics.specs.Labels.{escaped, escaped_byte, IsPlain, name_labels, place_labels, threshold_label, type_label, type_part};
 
 use crate::measure::Measure;
-use ipmi_records::{SdrView, Sensor, Threshold};
+use crate::numbers::push_whole;
+use ipmi_records::{SdrView, Sensor, Threshold, push_name};
 use ipmi_text::SensorType;
 use std::alloc::{AllocError, Global};
-
-/// The capacity for most labels.
-const CAPACITY: usize = 128;
 
 /// Appends a character of a label's value.
 fn push_escaped_character(text: &mut String, character: char) -> Result<(), AllocError>
@@ -23,35 +20,54 @@ fn push_escaped_character(text: &mut String, character: char) -> Result<(), Allo
     }
 }
 
+/// Whether a byte stands for itself in a label's value.
+fn is_plain(byte: u8) -> bool
+    ensures { IsTrue result ↔ IsPlain byte }
+{
+    byte != b'\\' && byte != b'"' && byte != b'\n'
+}
+
+/// Whether all bytes of a label's value stand for themselves.
+#[tactic(auto, using(crate::proofs::EscapeLemmas::escaped_plain))]
+fn are_plain(value: &str) -> bool
+    ensures { IsTrue result → escaped value.now ≡ value.now }
+{
+    value.as_bytes().iter().all(|byte| is_plain(*byte))
+}
+
 /// Appends the value of a label.
 fn push_escaped(text: &mut String, value: &str) -> Result<(), AllocError>
     ensures { OnOk result (string_bytes text.new ≡ string_bytes text.old ++ escaped value.now) }
 {
+    // most values are plain: append such a value in one call
+    if are_plain(value) {
+        return text.push_str(value);
+    }
     for character in value.chars() {
         push_escaped_character(text, character)?;
     }
     Ok(())
 }
 
-/// Appends the name of a record, if it has one.
-fn push_name(alloc: Global, text: &mut String, view: &SdrView) -> Result<(), AllocError>
-    ensures { OnOk result (string_bytes text.new ≡ string_bytes text.old ++ escaped (printed_name view.now)) }
+/// Replaces labels with the id and the name of a record. `name` is used for the name.
+#[tactic(auto, using(crate::proofs::LabelLemmas::names_made))]
+pub(crate) fn set_labels(
+    alloc: Global,
+    labels: &mut String,
+    name: &mut String,
+    id: u16,
+    view: &SdrView,
+) -> Result<(), AllocError>
+    ensures { OnOk result (string_bytes labels.new ≡ name_labels id view.now) }
 {
-    match view.name(alloc)? {
-        Some(name) => push_escaped(text, name.as_str()),
-        None => Ok(()),
-    }
-}
-
-/// The id and the name of a record.
-fn name_labels(alloc: Global, id: u16, view: &SdrView) -> Result<String, AllocError>
-    ensures { IfOk result (λ text. string_bytes text ≡ name_labels id view.now) }
-{
-    let mut text = String::with_capacity(alloc, CAPACITY)?;
-    write!(text, "id=\"{id}\",name=\"")?;
-    push_name(alloc, &mut text, view)?;
-    text.push_str("\"")?;
-    Ok(text)
+    name.clear();
+    push_name(alloc, name, view)?;
+    labels.clear();
+    labels.push_str("id=\"")?;
+    push_whole(labels, u64::from(id))?;
+    labels.push_str("\",name=\"")?;
+    push_escaped(labels, name.as_str())?;
+    labels.push('"')
 }
 
 /// Appends the label with the type of a sensor.
@@ -63,7 +79,11 @@ fn push_type(text: &mut String, sensor: &Sensor) -> Result<(), AllocError>
 }
 
 /// Appends the label with the type of a sensor for whose measure there is no family of its own.
-fn push_type_part(text: &mut String, measure: Measure, sensor: &Sensor) -> Result<(), AllocError>
+pub(crate) fn push_type_part(
+    text: &mut String,
+    measure: Measure,
+    sensor: &Sensor,
+) -> Result<(), AllocError>
     ensures { OnOk result (string_bytes text.new ≡ string_bytes text.old ++ type_part measure sensor.now) }
 {
     match measure {
@@ -72,72 +92,36 @@ fn push_type_part(text: &mut String, measure: Measure, sensor: &Sensor) -> Resul
     }
 }
 
-/// The labels of a sensor's value and state.
-pub(crate) fn sensor_labels(
-    alloc: Global,
-    measure: Measure,
-    id: u16,
-    view: &SdrView,
-    sensor: &Sensor,
-) -> Result<String, AllocError>
-    ensures { IfOk result (λ text. string_bytes text ≡ sensor_labels measure id view.now sensor.now) }
+/// Appends a number after what comes before it.
+fn push_after(text: &mut String, before: &str, number: u8) -> Result<(), AllocError>
+    ensures { OnOk result (string_bytes text.new ≡ string_bytes text.old ++ (before.now ++ decimal number)) }
 {
-    let mut text = name_labels(alloc, id, view)?;
-    push_type_part(&mut text, measure, sensor)?;
-    Ok(text)
+    text.push_str(before)?;
+    push_whole(text, u64::from(number))
 }
 
-/// Appends a label with a number.
-fn push_number(text: &mut String, key: &str, number: u8) -> Result<(), AllocError>
-    ensures { OnOk result (string_bytes text.new ≡ string_bytes text.old ++ next_label key.now (decimal number)) }
+/// Appends the labels of what else a record says of its sensor.
+pub(crate) fn push_place(text: &mut String, sensor: &Sensor) -> Result<(), AllocError>
+    ensures { OnOk result (string_bytes text.new ≡ string_bytes text.old ++ place_labels sensor.now) }
 {
-    write!(text, ",{key}=\"{number}\"")
+    push_after(text, ",entity_id=\"", sensor.entity.id)?;
+    push_after(text, "\",entity_instance=\"", sensor.entity.instance)?;
+    push_after(text, "\",lun=\"", sensor.lun)?;
+    push_after(text, "\",number=\"", sensor.number)?;
+    text.push('"')?;
+    push_type(text, sensor)
 }
 
-/// The labels of what else a record says of its sensor.
-#[tactic(auto, using(crate::proofs::LabelLemmas::info_made))]
-pub(crate) fn info_labels(
-    alloc: Global,
-    id: u16,
-    view: &SdrView,
-    sensor: &Sensor,
-) -> Result<String, AllocError>
-    ensures { IfOk result (λ text. string_bytes text ≡ info_labels id view.now sensor.now) }
-{
-    let mut text = name_labels(alloc, id, view)?;
-    push_number(&mut text, "entity_id", sensor.entity.id)?;
-    push_number(&mut text, "entity_instance", sensor.entity.instance)?;
-    push_number(&mut text, "lun", sensor.lun)?;
-    push_number(&mut text, "number", sensor.number)?;
-    push_type(&mut text, sensor)?;
-    Ok(text)
-}
-
-/// The word for a threshold.
-fn threshold_word(threshold: Threshold) -> &'static str
-    ensures { result.now ≡ threshold_word threshold }
+/// The label of a threshold, and the brace after it.
+pub(crate) fn threshold_end(threshold: Threshold) -> &'static str
+    ensures { result.now ≡ threshold_label threshold ++ codes "} " }
 {
     match threshold {
-        Threshold::UpperNonRecoverable => "upper_non_recoverable",
-        Threshold::UpperCritical => "upper_critical",
-        Threshold::UpperNonCritical => "upper_non_critical",
-        Threshold::LowerNonRecoverable => "lower_non_recoverable",
-        Threshold::LowerCritical => "lower_critical",
-        Threshold::LowerNonCritical => "lower_non_critical",
+        Threshold::UpperNonRecoverable => ",threshold=\"upper_non_recoverable\"} ",
+        Threshold::UpperCritical => ",threshold=\"upper_critical\"} ",
+        Threshold::UpperNonCritical => ",threshold=\"upper_non_critical\"} ",
+        Threshold::LowerNonRecoverable => ",threshold=\"lower_non_recoverable\"} ",
+        Threshold::LowerCritical => ",threshold=\"lower_critical\"} ",
+        Threshold::LowerNonCritical => ",threshold=\"lower_non_critical\"} ",
     }
-}
-
-/// The labels of a threshold.
-pub(crate) fn threshold_labels(
-    alloc: Global,
-    id: u16,
-    view: &SdrView,
-    threshold: Threshold,
-) -> Result<String, AllocError>
-    ensures { IfOk result (λ text. string_bytes text ≡ threshold_labels id view.now threshold) }
-{
-    let mut text = name_labels(alloc, id, view)?;
-    let word = threshold_word(threshold);
-    write!(text, ",threshold=\"{word}\"")?;
-    Ok(text)
 }

@@ -2,9 +2,11 @@
 #![tactic(auto)]
 
 mod families;
+mod gathered;
 mod labels;
 pub mod laws;
 mod measure;
+mod numbers;
 mod samples;
 mod text;
 

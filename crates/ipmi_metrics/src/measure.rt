@@ -1,6 +1,6 @@
 //! What a sensor measures, by the units of its readings (IPMI v2.0, tables 43-1 and 43-15).
 ghost use Rattle.std.specs.Prelude.{◌≡◌};
-ghost use Rattle.ipmi_metrics.specs.Measure.{by_base_unit, by_units, is_measure, measure_of};
+ghost use Rattle.ipmi_metrics.specs.Measure.{by_base_unit, by_units, measure_of};
 
 use ipmi_records::SdrView;
 use ipmi_text::{NO_ANALOG_READING, Units};
@@ -76,12 +76,5 @@ impl Measure {
             }
             _ => Measure::Other,
         }
-    }
-
-    /// Whether it is this one.
-    pub(crate) fn is(self, wanted: Measure) -> bool
-        ensures { result ≡ is_measure wanted self }
-    {
-        self == wanted
     }
 }

@@ -1,22 +1,22 @@
-//! The samples of a sensor in each family.
-ghost use Rattle.std.specs.Prelude.{◌≡◌, ◌++◌, codes, IfOk, OnOk, option_map, string_bytes};
+//! The samples of a sensor.
+ghost use Rattle.std.specs.Prelude.{◌≡◌, ℕ, List, ◌++◌, codes, OnOk, option_map, string_bytes};
 ghost use Rattle.ipmi_text.specs.Appended.{Appends};
 ghost use Rattle.ipmi_text.specs.Texts.{AreTexts};
-ghost use Rattle.ipmi_records.specs.Prelude.{shown_of};
-ghost use Rattle.ipmi_events.specs.Worst.{sensor_severity};
+ghost use Rattle.ipmi_records.specs.Prelude.{all_thresholds, factors_in};
+ghost use Rattle.ipmi_records.specs.declared.sdr.SdrView.{SdrView};
+ghost use Rattle.ipmi_json.specs.Sdr.{threshold_value};
 ghost use Rattle.ipmi_metrics.specs.Families.{family_name};
 ghost use Rattle.ipmi_metrics.specs.Labels.{info_labels};
-ghost use Rattle.ipmi_metrics.specs.Measure.{is_measure, measure_of};
-ghost use Rattle.ipmi_metrics.specs.Samples.{AreSamplesOfSensor, AreSamplesOfView, IfSo, IsNumber, IsThresholdSample, IsValueSample, sample, severity_number, threshold_of, value_of};
+ghost use Rattle.ipmi_metrics.specs.Samples.{IsThresholdSample, IsValueSample, sample, severity_number, value_of};
 
 use crate::families::Family;
-use crate::labels::{info_labels, sensor_labels, threshold_labels};
-use crate::measure::Measure;
-use ipmi_events::{Severity, sensor_severity};
-use ipmi_json::{threshold_value, value_shown};
-use ipmi_records::{KnownReading, SdrView, Sensor, Shown, Threshold, shown_of};
-use ipmi_text::{Fixed, fixed_text};
-use std::alloc::{AllocError, Global};
+use crate::labels::{push_place, threshold_end};
+use crate::numbers::push_number;
+use ipmi_events::Severity;
+use ipmi_json::value_shown;
+use ipmi_records::{FullSensor, SdrView, Sensor, Shown, Threshold, has_thresholds};
+use ipmi_text::{Factors, Fixed, convert};
+use std::alloc::AllocError;
 
 /// The thresholds in the order of their bits, from the highest down.
 const THRESHOLDS: [Threshold; 6] = [
@@ -28,40 +28,61 @@ const THRESHOLDS: [Threshold; 6] = [
     Threshold::LowerNonCritical,
 ];
 
-/// Appends a sample.
-fn push_sample(text: &mut String, name: &str, labels: &str, value: &str) -> Result<(), AllocError>
-    ensures { OnOk result (string_bytes text.new ≡ string_bytes text.old ++ sample name.now labels.now value.now) }
+/// Appends the name and the first labels of a sample.
+fn push_begun(text: &mut String, name: &str, labels: &str) -> Result<(), AllocError>
+    ensures { OnOk result (string_bytes text.new ≡ string_bytes text.old ++ (name.now ++ (codes "{" ++ labels.now))) }
 {
-    write!(text, "{name}{{{labels}}} {value}\n")
+    text.push_str(name)?;
+    text.push('{')?;
+    text.push_str(labels)
 }
 
-/// The exact decimal of a value, or NaN if there is none.
-fn number_text(alloc: Global, value: Option<Fixed>) -> Result<String, AllocError>
-    ensures { IfOk result (λ text. IsNumber (option_map (λ value. value.0) value) (string_bytes text)) }
-{
-    match value {
-        Some(value) => fixed_text(alloc, value),
-        None => String::from_str(alloc, "NaN"),
-    }
-}
-
-/// Appends a sample of a value.
-fn push_value(
-    alloc: Global,
+/// Appends the sample of a value. `end` is what follows `labels` up to the value: more labels, if any, and a brace.
+#[tactic(auto, using(crate::proofs::SampleLemmas::value_made))]
+pub(crate) fn push_value(
     text: &mut String,
     name: &str,
     labels: &str,
+    end: &str,
     value: Option<Fixed>,
 ) -> Result<(), AllocError>
-    ensures { OnOk result (Appends (IsValueSample name.now labels.now (option_map (λ value. value.0) value))
-        (string_bytes text.old) (string_bytes text.new)) }
+    ensures { (all : List ℕ) → labels.now ++ end.now ≡ all ++ codes "} "
+        → OnOk result (Appends (IsValueSample name.now all (option_map (λ value. value.0) value)) (string_bytes text.old) (string_bytes text.new)) }
 {
-    let number = number_text(alloc, value)?;
-    push_sample(text, name, labels, number.as_str())
+    push_begun(text, name, labels)?;
+    text.push_str(end)?;
+    push_number(text, value)?;
+    text.push('\n')
+}
+
+/// The end of the sample of a state: a severity as a number.
+fn state_end(severity: Option<Severity>) -> &'static str
+    ensures { result.now ≡ codes "} " ++ (severity_number severity ++ codes "\n") }
+{
+    match severity {
+        Some(Severity::Nominal) => "} 0\n",
+        Some(Severity::Warning) => "} 1\n",
+        Some(Severity::Critical) => "} 2\n",
+        None => "} NaN\n",
+    }
+}
+
+/// Appends the sample of a state.
+#[tactic(auto, using(crate::proofs::SampleLemmas::state_made))]
+pub(crate) fn push_state(
+    text: &mut String,
+    name: &str,
+    labels: &str,
+    severity: Option<Severity>,
+) -> Result<(), AllocError>
+    ensures { OnOk result (string_bytes text.new ≡ string_bytes text.old ++ sample name.now labels.now (severity_number severity)) }
+{
+    push_begun(text, name, labels)?;
+    text.push_str(state_end(severity))
 }
 
 /// The value of the reading of a record's sensor, if there is one.
-fn value_of(view: &SdrView, shown: Shown) -> Option<Fixed>
+pub(crate) fn value_of(view: &SdrView, shown: Shown) -> Option<Fixed>
     ensures { option_map (λ value. value.0) result ≡ value_of view.now shown }
 {
     match view {
@@ -70,160 +91,71 @@ fn value_of(view: &SdrView, shown: Shown) -> Option<Fixed>
     }
 }
 
-/// A severity as a number.
-fn severity_number(severity: Option<Severity>) -> &'static str
-    ensures { result.now ≡ severity_number severity }
+/// The value of a threshold of a record with these factors, if it has one.
+fn threshold_of(full: &FullSensor, factors: &Factors, threshold: Threshold) -> Option<Fixed>
+    requires { factors.now ≡ factors_in full.now }
+    ensures { option_map (λ value. value.0) result ≡ threshold_value threshold full.now }
 {
-    match severity {
-        Some(Severity::Nominal) => "0",
-        Some(Severity::Warning) => "1",
-        Some(Severity::Critical) => "2",
-        None => "NaN",
-    }
-}
-
-/// Appends the sample of a sensor's value, if it measures this.
-fn push_measured(
-    alloc: Global,
-    text: &mut String,
-    measure: Measure,
-    id: u16,
-    view: &SdrView,
-    reading: KnownReading,
-    sensor: &Sensor,
-) -> Result<(), AllocError>
-    ensures { OnOk result (Appends (AreSamplesOfSensor (Family.Value measure) id view.now reading sensor.now)
-        (string_bytes text.old) (string_bytes text.new)) }
-{
-    if !Measure::of(view).is(measure) {
-        return Ok(());
-    }
-    let labels = sensor_labels(alloc, measure, id, view, sensor)?;
-    let value = value_of(view, shown_of(sensor, reading));
-    push_value(
-        alloc,
-        text,
-        Family::Value(measure).name(),
-        labels.as_str(),
-        value,
-    )
-}
-
-/// Appends the sample of a sensor's state, if it measures this.
-fn push_state(
-    alloc: Global,
-    text: &mut String,
-    measure: Measure,
-    id: u16,
-    view: &SdrView,
-    reading: KnownReading,
-    sensor: &Sensor,
-) -> Result<(), AllocError>
-    ensures { OnOk result (Appends (AreSamplesOfSensor (Family.State measure) id view.now reading sensor.now)
-        (string_bytes text.old) (string_bytes text.new)) }
-{
-    if !Measure::of(view).is(measure) {
-        return Ok(());
-    }
-    let labels = sensor_labels(alloc, measure, id, view, sensor)?;
-    let number = severity_number(sensor_severity(sensor, reading));
-    push_sample(text, Family::State(measure).name(), labels.as_str(), number)
-}
-
-/// The value of a threshold of a record, if it has one.
-fn threshold_of(view: &SdrView, threshold: Threshold) -> Option<Fixed>
-    ensures { option_map (λ value. value.0) result ≡ threshold_of view.now threshold }
-{
-    match view {
-        SdrView::Full(full) => threshold_value(full, threshold),
-        _ => None,
+    if has_thresholds(&full.sensor()) && full.is_readable(threshold) {
+        convert(factors, full.threshold(threshold))
+    } else {
+        None
     }
 }
 
 /// Appends the sample of a threshold that has a value.
 fn push_threshold(
-    alloc: Global,
     text: &mut String,
-    id: u16,
-    view: &SdrView,
+    labels: &str,
+    full: &FullSensor,
+    factors: &Factors,
     threshold: Threshold,
 ) -> Result<(), AllocError>
-    ensures { OnOk result (Appends (IsThresholdSample id view.now threshold) (string_bytes text.old) (string_bytes text.new)) }
-{
-    let Some(value) = threshold_of(view, threshold) else {
-        return Ok(());
-    };
-    let labels = threshold_labels(alloc, id, view, threshold)?;
-    let name = Family::Threshold.name();
-    push_value(alloc, text, name, labels.as_str(), Some(value))
-}
-
-/// Appends the samples of these thresholds.
-fn push_thresholds(
-    alloc: Global,
-    text: &mut String,
-    id: u16,
-    view: &SdrView,
-    thresholds: &[Threshold],
-) -> Result<(), AllocError>
-    ensures { OnOk result (Appends (AreTexts (IsThresholdSample id view.now) thresholds.now)
+    requires { factors.now ≡ factors_in full.now }
+    ensures { OnOk result (Appends (IsThresholdSample labels.now (SdrView.Full full.now) threshold)
         (string_bytes text.old) (string_bytes text.new)) }
 {
-    for threshold in thresholds {
-        push_threshold(alloc, text, id, view, *threshold)?;
+    let Some(value) = threshold_of(full, factors, threshold) else {
+        return Ok(());
+    };
+    let name = Family::Threshold.name();
+    push_value(text, name, labels, threshold_end(threshold), Some(value))
+}
+
+/// Appends the samples of the thresholds of a full record.
+fn push_all_thresholds(text: &mut String, labels: &str, full: &FullSensor) -> Result<(), AllocError>
+    ensures { OnOk result (Appends (AreTexts (IsThresholdSample labels.now (SdrView.Full full.now)) all_thresholds)
+        (string_bytes text.old) (string_bytes text.new)) }
+{
+    let factors = full.factors();
+    for threshold in &THRESHOLDS {
+        push_threshold(text, labels, full, &factors, *threshold)?;
     }
     Ok(())
 }
 
-/// Appends the sample with what else a record says of its sensor.
-fn push_info(
-    alloc: Global,
+/// Appends the samples of the thresholds of a record. Only a full record has thresholds.
+pub(crate) fn push_thresholds(
     text: &mut String,
-    id: u16,
+    labels: &str,
     view: &SdrView,
-    sensor: &Sensor,
 ) -> Result<(), AllocError>
-    ensures { OnOk result (string_bytes text.new ≡ string_bytes text.old
-        ++ sample (family_name Family.Info) (info_labels id view.now sensor.now) (codes "1")) }
-{
-    let labels = info_labels(alloc, id, view, sensor)?;
-    push_sample(text, Family::Info.name(), labels.as_str(), "1")
-}
-
-/// Appends the samples of a sensor in a family.
-fn push_samples_of_sensor(
-    alloc: Global,
-    text: &mut String,
-    family: Family,
-    id: u16,
-    view: &SdrView,
-    reading: KnownReading,
-    sensor: &Sensor,
-) -> Result<(), AllocError>
-    ensures { OnOk result (Appends (AreSamplesOfSensor family id view.now reading sensor.now)
+    ensures { OnOk result (Appends (AreTexts (IsThresholdSample labels.now view.now) all_thresholds)
         (string_bytes text.old) (string_bytes text.new)) }
 {
-    match family {
-        Family::Value(measure) => push_measured(alloc, text, measure, id, view, reading, sensor),
-        Family::State(measure) => push_state(alloc, text, measure, id, view, reading, sensor),
-        Family::Threshold => push_thresholds(alloc, text, id, view, &THRESHOLDS),
-        Family::Info => push_info(alloc, text, id, view, sensor),
+    match view {
+        SdrView::Full(full) => push_all_thresholds(text, labels, full),
+        _ => Ok(()),
     }
 }
 
-/// Appends the samples of a record's sensor in a family.
-pub(crate) fn push_samples_of_view(
-    alloc: Global,
-    text: &mut String,
-    family: Family,
-    id: u16,
-    view: &SdrView,
-    reading: KnownReading,
-) -> Result<(), AllocError>
-    ensures { OnOk result (Appends (AreSamplesOfView family id view.now reading) (string_bytes text.old) (string_bytes text.new)) }
+/// Appends the sample with what else a record says of its sensor.
+#[tactic(auto, using(crate::proofs::SampleLemmas::info_made))]
+pub(crate) fn push_info(text: &mut String, labels: &str, sensor: &Sensor) -> Result<(), AllocError>
+    ensures { OnOk result (string_bytes text.new ≡ string_bytes text.old
+        ++ sample (family_name Family.Info) (info_labels labels.now sensor.now) (codes "1")) }
 {
-    match view.sensor() {
-        Some(sensor) => { push_samples_of_sensor(alloc, text, family, id, view, reading, &sensor) }
-        None => Ok(()),
-    }
+    push_begun(text, Family::Info.name(), labels)?;
+    push_place(text, sensor)?;
+    text.push_str("} 1\n")
 }

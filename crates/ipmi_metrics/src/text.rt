@@ -2,19 +2,18 @@
 ghost use Rattle.std.specs.Prelude.{◌≡◌, ◌++◌, codes, count_by, IfOk, OnOk, option_map, string_bytes};
 ghost use Rattle.ipmi_text.specs.Appended.{Appends};
 ghost use Rattle.ipmi_text.specs.Texts.{AreTexts};
-ghost use Rattle.ipmi_metrics.specs.Metrics.{AreSamples, end_of, faults_part, gauge, is_faulty, IsFamily, IsMetricsText, log_gauges, log_part, up_part};
+ghost use Rattle.ipmi_metrics.specs.Families.{families};
+ghost use Rattle.ipmi_metrics.specs.Gathered.{IsFamilyOf};
+ghost use Rattle.ipmi_metrics.specs.Metrics.{end_of, faults_part, gauge, is_faulty, IsFamily, IsMetricsText, log_gauges, log_part, up_part};
 
 use crate::families::{FAMILIES, Family, push_head, push_with_head};
-use crate::samples::push_samples_of_view;
-use ipmi_records::{Info, KnownReading};
+use crate::gathered::Gathered;
+use ipmi_records::Info;
 use ipmi_sensors::{FoundSensor, FoundSensors};
 use std::alloc::{AllocError, Global};
 
-/// The capacity for the samples of most families.
-const FAMILY_CAPACITY: usize = 1024;
-
-/// The capacity for the text of most machines.
-const TEXT_CAPACITY: usize = 16384;
+/// The capacity for all but the samples of sensors.
+const OTHER_CAPACITY: usize = 4096;
 
 /// The text format.
 #[derive(Clone, Copy, Debug, PartialEq, Eq)]
@@ -25,66 +24,29 @@ pub enum Dialect {
     OpenMetrics,
 }
 
-/// Appends the samples of a record's sensor in a family. A record with a fault has none.
-fn push_samples(
-    alloc: Global,
-    text: &mut String,
-    family: Family,
-    found: &FoundSensor,
-) -> Result<(), AllocError>
-    ensures { OnOk result (Appends (AreSamples family found.now) (string_bytes text.old) (string_bytes text.new)) }
-{
-    match found.view() {
-        Ok(view) => {
-            let reading = KnownReading::from(found.reading());
-            push_samples_of_view(alloc, text, family, found.id(), &view, reading)
-        }
-        Err(_) => Ok(()),
-    }
-}
-
-/// Appends the samples of all sensors in a family.
-fn push_all_samples(
-    alloc: Global,
-    text: &mut String,
-    family: Family,
-    found: &[FoundSensor],
-) -> Result<(), AllocError>
-    ensures { OnOk result (Appends (AreTexts (AreSamples family) found.now) (string_bytes text.old) (string_bytes text.new)) }
-{
-    for sensor in found {
-        push_samples(alloc, text, family, sensor)?;
-    }
-    Ok(())
-}
-
-/// Appends a family. Appends nothing if it has no samples.
-fn push_family(
-    alloc: Global,
-    text: &mut String,
-    family: Family,
-    found: &[FoundSensor],
-) -> Result<(), AllocError>
-    ensures { OnOk result (Appends (IsFamily found.now family) (string_bytes text.old) (string_bytes text.new)) }
-{
-    let mut samples = String::with_capacity(alloc, FAMILY_CAPACITY)?;
-    push_all_samples(alloc, &mut samples, family, found)?;
-    push_with_head(text, family, samples.as_str())
-}
-
 /// Appends these families.
 fn push_families(
-    alloc: Global,
     text: &mut String,
     families: &[Family],
-    found: &[FoundSensor],
+    gathered: &Gathered,
 ) -> Result<(), AllocError>
-    ensures { OnOk result (Appends (AreTexts (IsFamily found.now) families.now) (string_bytes text.old) (string_bytes text.new)) }
+    ensures { OnOk result (Appends (AreTexts (IsFamilyOf gathered.now) families.now) (string_bytes text.old) (string_bytes text.new)) }
 {
     for family in families {
-        push_family(alloc, text, *family, found)?;
+        push_with_head(text, *family, gathered.samples(*family))?;
     }
     Ok(())
+}
+
+/// The families of all sensors.
+fn sensors_text(alloc: Global, found: &[FoundSensor]) -> Result<String, AllocError>
+    ensures { IfOk result (λ text. AreTexts (IsFamily found.now) families (string_bytes text)) }
+{
+    let mut gathered = Gathered::new(alloc);
+    gathered.add_all(alloc, found)?;
+    let mut text = String::with_capacity(alloc, gathered.room(OTHER_CAPACITY))?;
+    push_families(&mut text, &FAMILIES, &gathered)?;
+    Ok(text)
 }
 
 /// Appends a family with one sample, which has these labels in braces, or none.
@@ -182,8 +144,7 @@ pub fn metrics_text(
         (string_bytes text)) }
 {
     let found = found.as_slice();
-    let mut text = String::with_capacity(alloc, TEXT_CAPACITY)?;
-    push_families(alloc, &mut text, &FAMILIES, found)?;
+    let mut text = sensors_text(alloc, found)?;
     push_faults(&mut text, found)?;
     push_log(&mut text, info)?;
     push_up(&mut text, is_up)?;

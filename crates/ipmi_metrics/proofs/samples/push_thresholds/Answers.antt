@@ -1,8 +1,6 @@
-use Rattle.ipmi_metrics.specs.Samples.{IsThresholdSample}
-use Rattle.ipmi_text.proofs.TextsLemmas.{texts_more}
+use Rattle.std.proofs.Common.{string_bytes}
+use Rattle.ipmi_metrics.proofs.SampleLemmas.{no_thresholds}
 use Rattle.ipmi_metrics.proofs.samples.push_thresholds.Goals as goal
 
-pub loop-threshold-preserved : goal.loop-threshold-preserved
-loop-threshold-preserved c =
-    texts_more (IsThresholdSample c.args.id c.args.view.now) c.args.thresholds.now c.loop-threshold.threshold-index _ _ _ _ c.loop-threshold-test.true
-    c.loop-threshold.invariant c.in_ok-push_threshold.ensures
+pub returns-in_default : goal.returns-in_default
+returns-in_default c = no_thresholds c.args.labels.now c.args.view.now c.in_default.not-Full (string_bytes c.args.text.now)

@@ -1,9 +1,0 @@
-use Rattle.std.proofs.Common.{sym}
-use Rattle.ipmi_metrics.specs.Metrics.{AreSamples}
-use Rattle.ipmi_text.proofs.TextsLemmas.{texts_more}
-use Rattle.ipmi_metrics.proofs.text.push_all_samples.Goals as goal
-
-pub loop-sensor-preserved : goal.loop-sensor-preserved
-loop-sensor-preserved c =
-    texts_more (AreSamples c.args.family) c.args.found.now c.loop-sensor.sensor-index c.sensor-item.result _ _ _ c.loop-sensor-test.true
-    c.loop-sensor.invariant (rw (sym c.sensor-item.is) c.in_ok-push_samples.ensures)
