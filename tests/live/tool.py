@@ -229,4 +229,5 @@ def main():
             send(controller, is_ipmitool, freeipmi_text(command, answer))
 
 
-main()
+if __name__ == "__main__":
+    main()
