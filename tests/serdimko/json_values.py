@@ -222,8 +222,24 @@ def thresholds_differ(line, columns):
     return False
 
 
+THRESHOLD_NAMES = {
+    "unr": "Upper Non-recoverable", "ucr": "Upper Critical", "unc": "Upper Non-critical",
+    "lnr": "Lower Non-recoverable", "lcr": "Lower Critical", "lnc": "Lower Non-critical",
+}
+
+
+def reason_differs(line, words):
+    """Whether the reason of a severity is none of these words, or is there though nothing is worse than nominal."""
+    reason = line["severity_reason"]
+    if line["severity"] in (None, "nominal"):
+        return reason is not None
+    return reason not in words
+
+
 def severity_differs(line):
-    """Whether the severity is another one than the status and the words of the states allow."""
+    """Whether the severity is another one than the status and the words of the states allow, or its reason."""
+    if reason_differs(line, [THRESHOLD_NAMES.get(line["status_words"])] if line["event_type"] == 1 else line["state_words"] or []):
+        return True
     severity = line["severity"]
     if line["status"] in ("na", "ns"):
         return severity is not None
@@ -291,7 +307,7 @@ def entry_differs(line, shown):
         return True
     if line["kind"] != "event":
         return f"0x{line['record_type']:02x}" not in cells[-1 if line["kind"] != "oem_timestamped" else 2] and f"0x{line['record_type']:02x}" not in shown
-    if (line["severity"] is None) != (line["event_words"] is None):
+    if (line["severity"] is None) != (line["event_words"] is None) or reason_differs(line, [line["event_words"]]):
         return True
     if line["direction"] == "deasserted" and line["severity"] not in ("nominal", None):
         return True

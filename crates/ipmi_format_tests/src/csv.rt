@@ -29,10 +29,10 @@ const SEMICOLON: Csv<'static> = Csv {
 };
 
 const RECORDS: &str =
-    r#"record_id,record_type,kind,fault,name,owner_id,owner_lun,sensor_number,device_access_address,fru_device_id,device_slave_address,is_logical,access_lun,entity_id,entity_name,entity_instance,sensor_type,sensor_type_name,event_type,reading,unit,reading_raw,states,status,status_words,severity,upper_non_recoverable,upper_critical,upper_non_critical,lower_non_recoverable,lower_critical,lower_non_critical,raw"#;
+    r#"record_id,record_type,kind,fault,name,owner_id,owner_lun,sensor_number,device_access_address,fru_device_id,device_slave_address,is_logical,access_lun,entity_id,entity_name,entity_instance,sensor_type,sensor_type_name,event_type,reading,unit,reading_raw,states,status,status_words,severity,severity_reason,upper_non_recoverable,upper_critical,upper_non_critical,lower_non_recoverable,lower_critical,lower_non_critical,raw"#;
 
 const ENTRIES: &str =
-    r#"record_id,record_type,kind,timestamp,timestamp_raw,generator_id,event_revision,sensor_type,sensor_type_name,sensor_number,sensor_name,event_type,event,event_words,direction,severity,event_data,event_details,manufacturer_id,oem_data,raw"#;
+    r#"record_id,record_type,kind,timestamp,timestamp_raw,generator_id,event_revision,sensor_type,sensor_type_name,sensor_number,sensor_name,event_type,event,event_words,direction,severity,severity_reason,event_data,event_details,manufacturer_id,oem_data,raw"#;
 
 const DEVICES: &str =
     r#"fru_device_id,name,state,fault,chassis.type,chassis.type_name,chassis.part_number,chassis.serial_number,chassis_fault,board.language,board.manufactured,board.manufactured_raw,board.manufacturer,board.product_name,board.serial_number,board.part_number,board.fru_file_id,board_fault,product.language,product.manufacturer,product.name,product.part_number,product.version,product.serial_number,product.asset_tag,product.fru_file_id,product_fault,records_fault,size,raw"#;
@@ -42,52 +42,52 @@ const INFOS: &str =
 
 /// A full record with its reading, and a compact one.
 const READ: &str =
-    r#"1,1,full,,CPU Temp,32,0,1,,,,,,3,processor,1,1,Temperature,1,9.2,degrees C,92,24,cr,ucr,critical,9.5,9,8.5,,,,010051013320000103017f680101000000003838000100000100000000f00000000000005f5a550000000202000000c84350552054656d70"#;
+    r#"1,1,full,,CPU Temp,32,0,1,,,,,,3,processor,1,1,Temperature,1,9.2,degrees C,92,24,cr,ucr,critical,Upper Critical,9.5,9,8.5,,,,010051013320000103017f680101000000003838000100000100000000f00000000000005f5a550000000202000000c84350552054656d70"#;
 
 const DISCRETE: &str =
-    r#"163,2,compact,,Door,32,3,5,,,,,,7,system board,1,5,Physical Security,3,,,0,16394,ok,ok,warning,,,,,,,030051021f200305070100000503000000000000c000000000000000000000c4446f6f72"#;
+    r#"163,2,compact,,Door,32,3,5,,,,,,7,system board,1,5,Physical Security,3,,,0,16394,ok,ok,warning,State Asserted,,,,,,,030051021f200305070100000503000000000000c000000000000000000000c4446f6f72"#;
 
 /// `bytes|row` of records without a reading. The second has a name with a quote.
 const OTHERS: &str =
-    r#"05005103102000302281126f00000000c445565431|7,3,event_only,,EVT1,32,0,48,,,,,,34,system firmware,1,18,System Event,111,,,,,,,,,,,,,,05005103102000302281126f00000000c445565431
-060051101120a00000000000070200c6225ce901ff20|7,16,generic_locator,,"""\é.ÿ ",,,,32,,160,,,7,system board,2,,,,,,,,,,,,,,,,,060051101120a00000000000070200c6225ce901ff20
-060051100b21a50000000000070200c0|7,16,generic_locator,,,,,,32,,164,,,7,system board,2,,,,,,,,,,,,,,,,,060051100b21a50000000000070200c0
-020051110f200180000000000a0100c450535531|7,17,fru_locator,,PSU1,,,,32,1,,true,0,10,power supply,1,,,,,,,,,,,,,,,,,020051110f200180000000000a0100c450535531
-020051110f23a118000000000a0100c450535531|7,17,fru_locator,,PSU1,,,,34,,160,false,3,10,power supply,1,,,,,,,,,,,,,,,,,020051110f23a118000000000a0100c450535531
-070051120f25000000000000900100c4424d4331|7,18,mc_locator,,BMC1,,,,,,36,,,144,entity 0x90,1,,,,,,,,,,,,,,,,,070051120f25000000000000900100c4424d4331
-080051c003570100|7,192,other,,,,,,,,,,,,,,,,,,,,,,,,,,,,,,080051c003570100"#;
+    r#"05005103102000302281126f00000000c445565431|7,3,event_only,,EVT1,32,0,48,,,,,,34,system firmware,1,18,System Event,111,,,,,,,,,,,,,,,05005103102000302281126f00000000c445565431
+060051101120a00000000000070200c6225ce901ff20|7,16,generic_locator,,"""\é.ÿ ",,,,32,,160,,,7,system board,2,,,,,,,,,,,,,,,,,,060051101120a00000000000070200c6225ce901ff20
+060051100b21a50000000000070200c0|7,16,generic_locator,,,,,,32,,164,,,7,system board,2,,,,,,,,,,,,,,,,,,060051100b21a50000000000070200c0
+020051110f200180000000000a0100c450535531|7,17,fru_locator,,PSU1,,,,32,1,,true,0,10,power supply,1,,,,,,,,,,,,,,,,,,020051110f200180000000000a0100c450535531
+020051110f23a118000000000a0100c450535531|7,17,fru_locator,,PSU1,,,,34,,160,false,3,10,power supply,1,,,,,,,,,,,,,,,,,,020051110f23a118000000000a0100c450535531
+070051120f25000000000000900100c4424d4331|7,18,mc_locator,,BMC1,,,,,,36,,,144,entity 0x90,1,,,,,,,,,,,,,,,,,,070051120f25000000000000900100c4424d4331
+080051c003570100|7,192,other,,,,,,,,,,,,,,,,,,,,,,,,,,,,,,,080051c003570100"#;
 
-const FAULT: &str = r#"3,1,faulty,wrong_length,,,,,,,,,,,,,,,,,,,,,,,,,,,,,03005101ff"#;
+const FAULT: &str = r#"3,1,faulty,wrong_length,,,,,,,,,,,,,,,,,,,,,,,,,,,,,,03005101ff"#;
 
 /// A fault in the header: there is no record type.
-const SHORT: &str = r#"65535,,faulty,short,,,,,,,,,,,,,,,,,,,,,,,,,,,,,030051"#;
+const SHORT: &str = r#"65535,,faulty,short,,,,,,,,,,,,,,,,,,,,,,,,,,,,,,030051"#;
 
 /// An event of a sensor without a record.
 const NAMELESS: &str =
-    r#"1,2,event,2020-09-13T12:26:40Z,1600000000,32,4,1,Temperature,1,,1,Upper Non-critical going high,Upper Non-critical going high,asserted,warning,574746,Reading raw 0x47 > threshold raw 0x46,,,01000200105e5f200004010101574746"#;
+    r#"1,2,event,2020-09-13T12:26:40Z,1600000000,32,4,1,Temperature,1,,1,Upper Non-critical going high,Upper Non-critical going high,asserted,warning,Upper Non-critical going high,574746,Reading raw 0x47 > threshold raw 0x46,,,01000200105e5f200004010101574746"#;
 
 /// An event whose words have a slash.
 const NAMED: &str =
-    r#"2,2,event,,4294967295,32,4,12,Memory,17,DIMM 2,111,event 0x6f offset 0x1,Uncorrectable ECC / other uncorrectable memory error,deasserted,nominal,01ffff,,,,020002ffffffff2000040c11ef01ffff"#;
+    r#"2,2,event,,4294967295,32,4,12,Memory,17,DIMM 2,111,event 0x6f offset 0x1,Uncorrectable ECC / other uncorrectable memory error,deasserted,nominal,,01ffff,,,,020002ffffffff2000040c11ef01ffff"#;
 
 const HOT_ROW: &str =
-    r#"5,2,event,2020-09-13T12:26:40Z,1600000000,32,4,1,Temperature,1,CPU Temp,1,Upper Critical going high,Upper Critical going high,asserted,critical,595c5a,Reading 9.2 degrees C > threshold 9,,,05000200105e5f200004010101595c5a"#;
+    r#"5,2,event,2020-09-13T12:26:40Z,1600000000,32,4,1,Temperature,1,CPU Temp,1,Upper Critical going high,Upper Critical going high,asserted,critical,Upper Critical going high,595c5a,Reading 9.2 degrees C > threshold 9,,,05000200105e5f200004010101595c5a"#;
 
 /// An event whose details have a comma, in both forms.
 const COLD_ROW: &str =
-    r#"6,2,event,2020-09-13T12:26:40Z,1600000000,32,4,1,Temperature,1,CPU Temp,1,Upper Critical going high,Upper Critical going high,asserted,critical,592d5a,"Reading 4.5 degrees C, threshold 9",,,06000200105e5f200004010101592d5a"#;
+    r#"6,2,event,2020-09-13T12:26:40Z,1600000000,32,4,1,Temperature,1,CPU Temp,1,Upper Critical going high,Upper Critical going high,asserted,critical,Upper Critical going high,592d5a,"Reading 4.5 degrees C, threshold 9",,,06000200105e5f200004010101592d5a"#;
 
 const COLD_SEMICOLONS: &str =
-    r#"6;2;event;2020-09-13T12:26:40Z;1600000000;32;4;1;Temperature;1;CPU Temp;1;Upper Critical going high;Upper Critical going high;asserted;critical;592d5a;Reading 4.5 degrees C, threshold 9;;;06000200105e5f200004010101592d5a"#;
+    r#"6;2;event;2020-09-13T12:26:40Z;1600000000;32;4;1;Temperature;1;CPU Temp;1;Upper Critical going high;Upper Critical going high;asserted;critical;Upper Critical going high;592d5a;Reading 4.5 degrees C, threshold 9;;;06000200105e5f200004010101592d5a"#;
 
 const TIMED_ROW: &str =
-    r#"2,193,oem_timestamped,,4096,,,,,,,,,,,,,,343,010203040506,0200c100100000570100010203040506"#;
+    r#"2,193,oem_timestamped,,4096,,,,,,,,,,,,,,,343,010203040506,0200c100100000570100010203040506"#;
 
 const PLAIN_ROW: &str =
-    r#"3,224,oem,,,,,,,,,,,,,,,,,0102030405060708090a0b0c0d,0300e00102030405060708090a0b0c0d"#;
+    r#"3,224,oem,,,,,,,,,,,,,,,,,,0102030405060708090a0b0c0d,0300e00102030405060708090a0b0c0d"#;
 
 const OTHER_ROW: &str =
-    r#"4,3,unknown,,,,,,,,,,,,,,,,,0102030405060708090a0b0c0d,0400030102030405060708090a0b0c0d"#;
+    r#"4,3,unknown,,,,,,,,,,,,,,,,,,0102030405060708090a0b0c0d,0400030102030405060708090a0b0c0d"#;
 
 const SEL_INFO: &str = r#"81,12,15000,2020-09-13T12:26:40Z,1600000000,,0,true,130"#;
 

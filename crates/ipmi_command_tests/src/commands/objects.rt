@@ -65,19 +65,19 @@ fn assert_objects(rt: &impl Abort, alloc: Global, cases: &str) {
 const RECORDS: &str = r#"sdr list|all|
 0 6
 --
-{"object":"sdr_record","record_id":1,"record_type":1,"kind":"full","name":"CPU Temp","owner_id":32,"owner_lun":0,"sensor_number":1,"entity_id":3,"entity_name":"processor","entity_instance":1,"sensor_type":1,"sensor_type_name":"Temperature","event_type":1,"reading":45,"unit":"degrees C","reading_raw":45,"states":0,"state_words":null,"status":"ok","status_words":"ok","severity":"nominal","upper_non_recoverable":95,"upper_critical":90,"upper_non_critical":85,"lower_non_recoverable":null,"lower_critical":null,"lower_non_critical":null,"raw":"010051013320000103017f680101000000003838000100000100000000000000000000005f5a550000000202000000c84350552054656d70","host":"web 17"}
+{"object":"sdr_record","record_id":1,"record_type":1,"kind":"full","name":"CPU Temp","owner_id":32,"owner_lun":0,"sensor_number":1,"entity_id":3,"entity_name":"processor","entity_instance":1,"sensor_type":1,"sensor_type_name":"Temperature","event_type":1,"reading":45,"unit":"degrees C","reading_raw":45,"states":0,"state_words":null,"status":"ok","status_words":"ok","severity":"nominal","severity_reason":null,"upper_non_recoverable":95,"upper_critical":90,"upper_non_critical":85,"lower_non_recoverable":null,"lower_critical":null,"lower_non_critical":null,"raw":"010051013320000103017f680101000000003838000100000100000000000000000000005f5a550000000202000000c84350552054656d70","host":"web 17"}
 {"object":"sdr_record","record_id":2,"record_type":1,"kind":"faulty","fault":"body_too_short","raw":"0200510100","host":"web 17"}
 ====
 sdr elist all|all|
 0 6
 --
-{"object":"sdr_record","record_id":1,"record_type":1,"kind":"full","name":"CPU Temp","owner_id":32,"owner_lun":0,"sensor_number":1,"entity_id":3,"entity_name":"processor","entity_instance":1,"sensor_type":1,"sensor_type_name":"Temperature","event_type":1,"reading":45,"unit":"degrees C","reading_raw":45,"states":0,"state_words":null,"status":"ok","status_words":"ok","severity":"nominal","upper_non_recoverable":95,"upper_critical":90,"upper_non_critical":85,"lower_non_recoverable":null,"lower_critical":null,"lower_non_critical":null,"raw":"010051013320000103017f680101000000003838000100000100000000000000000000005f5a550000000202000000c84350552054656d70","host":"web 17"}
+{"object":"sdr_record","record_id":1,"record_type":1,"kind":"full","name":"CPU Temp","owner_id":32,"owner_lun":0,"sensor_number":1,"entity_id":3,"entity_name":"processor","entity_instance":1,"sensor_type":1,"sensor_type_name":"Temperature","event_type":1,"reading":45,"unit":"degrees C","reading_raw":45,"states":0,"state_words":null,"status":"ok","status_words":"ok","severity":"nominal","severity_reason":null,"upper_non_recoverable":95,"upper_critical":90,"upper_non_critical":85,"lower_non_recoverable":null,"lower_critical":null,"lower_non_critical":null,"raw":"010051013320000103017f680101000000003838000100000100000000000000000000005f5a550000000202000000c84350552054656d70","host":"web 17"}
 {"object":"sdr_record","record_id":2,"record_type":1,"kind":"faulty","fault":"body_too_short","raw":"0200510100","host":"web 17"}
 ====
 sdr,get,CPU Temp|all|
 0 6
 --
-{"object":"sdr_record","record_id":1,"record_type":1,"kind":"full","name":"CPU Temp","owner_id":32,"owner_lun":0,"sensor_number":1,"entity_id":3,"entity_name":"processor","entity_instance":1,"sensor_type":1,"sensor_type_name":"Temperature","event_type":1,"reading":45,"unit":"degrees C","reading_raw":45,"states":0,"state_words":null,"status":"ok","status_words":"ok","severity":"nominal","upper_non_recoverable":95,"upper_critical":90,"upper_non_critical":85,"lower_non_recoverable":null,"lower_critical":null,"lower_non_critical":null,"raw":"010051013320000103017f680101000000003838000100000100000000000000000000005f5a550000000202000000c84350552054656d70","host":"web 17"}
+{"object":"sdr_record","record_id":1,"record_type":1,"kind":"full","name":"CPU Temp","owner_id":32,"owner_lun":0,"sensor_number":1,"entity_id":3,"entity_name":"processor","entity_instance":1,"sensor_type":1,"sensor_type_name":"Temperature","event_type":1,"reading":45,"unit":"degrees C","reading_raw":45,"states":0,"state_words":null,"status":"ok","status_words":"ok","severity":"nominal","severity_reason":null,"upper_non_recoverable":95,"upper_critical":90,"upper_non_critical":85,"lower_non_recoverable":null,"lower_critical":null,"lower_non_critical":null,"raw":"010051013320000103017f680101000000003838000100000100000000000000000000005f5a550000000202000000c84350552054656d70","host":"web 17"}
 ====
 sdr,get,Foo|all|
 1 5
@@ -106,7 +106,7 @@ fn records_have_an_object(rt: HostRuntime) {
 const ENTRIES: &str = r#"sel list|all|
 0 8
 --
-{"object":"sel_entry","record_id":1,"record_type":2,"kind":"event","timestamp":"1987-01-05T18:48:33Z","timestamp_raw":536870913,"generator_id":32,"event_revision":4,"sensor_type":1,"sensor_type_name":"Temperature","sensor_number":1,"sensor_name":"CPU Temp","event_type":1,"event":"Upper Critical going high","event_words":"Upper Critical going high","direction":"asserted","severity":"critical","event_data":"595f5a","event_details":"Reading 95 degrees C > threshold 90","raw":"01000201000020200004010101595f5a","host":"web 17"}
+{"object":"sel_entry","record_id":1,"record_type":2,"kind":"event","timestamp":"1987-01-05T18:48:33Z","timestamp_raw":536870913,"generator_id":32,"event_revision":4,"sensor_type":1,"sensor_type_name":"Temperature","sensor_number":1,"sensor_name":"CPU Temp","event_type":1,"event":"Upper Critical going high","event_words":"Upper Critical going high","direction":"asserted","severity":"critical","severity_reason":"Upper Critical going high","event_data":"595f5a","event_details":"Reading 95 degrees C > threshold 90","raw":"01000201000020200004010101595f5a","host":"web 17"}
 {"object":"sel_entry","record_id":2,"record_type":192,"kind":"oem_timestamped","timestamp":null,"timestamp_raw":4294967295,"manufacturer_id":4951,"oem_data":"010203040506","raw":"0200c0ffffffff571300010203040506","host":"web 17"}
 ====
 sel list last 1|all|
@@ -117,7 +117,7 @@ sel list last 1|all|
 sel get 1|all|
 0 7
 --
-{"object":"sel_entry","record_id":1,"record_type":2,"kind":"event","timestamp":"1987-01-05T18:48:33Z","timestamp_raw":536870913,"generator_id":32,"event_revision":4,"sensor_type":1,"sensor_type_name":"Temperature","sensor_number":1,"sensor_name":"CPU Temp","event_type":1,"event":"Upper Critical going high","event_words":"Upper Critical going high","direction":"asserted","severity":"critical","event_data":"595f5a","event_details":"Reading 95 degrees C > threshold 90","raw":"01000201000020200004010101595f5a","host":"web 17"}
+{"object":"sel_entry","record_id":1,"record_type":2,"kind":"event","timestamp":"1987-01-05T18:48:33Z","timestamp_raw":536870913,"generator_id":32,"event_revision":4,"sensor_type":1,"sensor_type_name":"Temperature","sensor_number":1,"sensor_name":"CPU Temp","event_type":1,"event":"Upper Critical going high","event_words":"Upper Critical going high","direction":"asserted","severity":"critical","severity_reason":"Upper Critical going high","event_data":"595f5a","event_details":"Reading 95 degrees C > threshold 90","raw":"01000201000020200004010101595f5a","host":"web 17"}
 ====
 sel list|all|......R
 1 7
@@ -214,7 +214,7 @@ fn assert_objects_in_pages(rt: &impl Abort, alloc: Global, case: &str) {
 const IN_PAGES: &str = r#"sel list|all|1
 0 9
 --
-{"object":"sel_entry","record_id":1,"record_type":2,"kind":"event","timestamp":"1987-01-05T18:48:33Z","timestamp_raw":536870913,"generator_id":32,"event_revision":4,"sensor_type":1,"sensor_type_name":"Temperature","sensor_number":1,"sensor_name":"CPU Temp","event_type":1,"event":"Upper Critical going high","event_words":"Upper Critical going high","direction":"asserted","severity":"critical","event_data":"595f5a","event_details":"Reading 95 degrees C > threshold 90","raw":"01000201000020200004010101595f5a"}
+{"object":"sel_entry","record_id":1,"record_type":2,"kind":"event","timestamp":"1987-01-05T18:48:33Z","timestamp_raw":536870913,"generator_id":32,"event_revision":4,"sensor_type":1,"sensor_type_name":"Temperature","sensor_number":1,"sensor_name":"CPU Temp","event_type":1,"event":"Upper Critical going high","event_words":"Upper Critical going high","direction":"asserted","severity":"critical","severity_reason":"Upper Critical going high","event_data":"595f5a","event_details":"Reading 95 degrees C > threshold 90","raw":"01000201000020200004010101595f5a"}
 {"object":"sel_entry","record_id":2,"record_type":192,"kind":"oem_timestamped","timestamp":null,"timestamp_raw":4294967295,"manufacturer_id":4951,"oem_data":"010203040506","raw":"0200c0ffffffff571300010203040506"}
 ====
 sdr hex|all|1 0

@@ -11,7 +11,7 @@ pub(crate) const THRESHOLD: [u8; 16] = [
 ];
 
 const THRESHOLD_LINE: &str =
-    r#"{"object":"sel_entry","record_id":1,"record_type":2,"kind":"event","timestamp":"2020-09-13T12:26:40Z","timestamp_raw":1600000000,"generator_id":32,"event_revision":4,"sensor_type":1,"sensor_type_name":"Temperature","sensor_number":1,"sensor_name":null,"event_type":1,"event":"Upper Non-critical going high","event_words":"Upper Non-critical going high","direction":"asserted","severity":"warning","event_data":"574746","event_details":"Reading raw 0x47 > threshold raw 0x46","raw":"01000200105e5f200004010101574746"}"#;
+    r#"{"object":"sel_entry","record_id":1,"record_type":2,"kind":"event","timestamp":"2020-09-13T12:26:40Z","timestamp_raw":1600000000,"generator_id":32,"event_revision":4,"sensor_type":1,"sensor_type_name":"Temperature","sensor_number":1,"sensor_name":null,"event_type":1,"event":"Upper Non-critical going high","event_words":"Upper Non-critical going high","direction":"asserted","severity":"warning","severity_reason":"Upper Non-critical going high","event_data":"574746","event_details":"Reading raw 0x47 > threshold raw 0x46","raw":"01000200105e5f200004010101574746"}"#;
 
 /// A deassertion without a time, of the second of four memory sensors.
 pub(crate) const MEMORY: [u8; 16] = [
@@ -19,7 +19,7 @@ pub(crate) const MEMORY: [u8; 16] = [
 ];
 
 pub(crate) const MEMORY_LINE: &str =
-    r#"{"object":"sel_entry","record_id":2,"record_type":2,"kind":"event","timestamp":null,"timestamp_raw":4294967295,"generator_id":32,"event_revision":4,"sensor_type":12,"sensor_type_name":"Memory","sensor_number":17,"sensor_name":"DIMM 2","event_type":111,"event":"event 0x6f offset 0x1","event_words":"Uncorrectable ECC / other uncorrectable memory error","direction":"deasserted","severity":"nominal","event_data":"01ffff","event_details":null,"raw":"020002ffffffff2000040c11ef01ffff"}"#;
+    r#"{"object":"sel_entry","record_id":2,"record_type":2,"kind":"event","timestamp":null,"timestamp_raw":4294967295,"generator_id":32,"event_revision":4,"sensor_type":12,"sensor_type_name":"Memory","sensor_number":17,"sensor_name":"DIMM 2","event_type":111,"event":"event 0x6f offset 0x1","event_words":"Uncorrectable ECC / other uncorrectable memory error","direction":"deasserted","severity":"nominal","severity_reason":null,"event_data":"01ffff","event_details":null,"raw":"020002ffffffff2000040c11ef01ffff"}"#;
 
 /// The same event, with an offset that the standard does not name, and of a sensor without a record.
 const UNKNOWN: [u8; 16] = [
@@ -27,7 +27,7 @@ const UNKNOWN: [u8; 16] = [
 ];
 
 const UNKNOWN_LINE: &str =
-    r#"{"object":"sel_entry","record_id":3,"record_type":2,"kind":"event","timestamp":null,"timestamp_raw":536870912,"generator_id":32,"event_revision":4,"sensor_type":192,"sensor_type_name":"sensor type 0xc0","sensor_number":153,"sensor_name":null,"event_type":111,"event":"event 0x6f offset 0xf","event_words":null,"direction":"asserted","severity":null,"event_data":"0fffff","event_details":null,"raw":"03000200000020200004c0996f0fffff"}"#;
+    r#"{"object":"sel_entry","record_id":3,"record_type":2,"kind":"event","timestamp":null,"timestamp_raw":536870912,"generator_id":32,"event_revision":4,"sensor_type":192,"sensor_type_name":"sensor type 0xc0","sensor_number":153,"sensor_name":null,"event_type":111,"event":"event 0x6f offset 0xf","event_words":null,"direction":"asserted","severity":null,"severity_reason":null,"event_data":"0fffff","event_details":null,"raw":"03000200000020200004c0996f0fffff"}"#;
 
 /// A threshold event of the processor's temperature. The record has the name and the units.
 pub(crate) const HOT: [u8; 16] = [
@@ -35,7 +35,7 @@ pub(crate) const HOT: [u8; 16] = [
 ];
 
 const HOT_LINE: &str =
-    r#"{"object":"sel_entry","record_id":5,"record_type":2,"kind":"event","timestamp":"2020-09-13T12:26:40Z","timestamp_raw":1600000000,"generator_id":32,"event_revision":4,"sensor_type":1,"sensor_type_name":"Temperature","sensor_number":1,"sensor_name":"CPU Temp","event_type":1,"event":"Upper Critical going high","event_words":"Upper Critical going high","direction":"asserted","severity":"critical","event_data":"595c5a","event_details":"Reading 9.2 degrees C > threshold 9","raw":"05000200105e5f200004010101595c5a"}"#;
+    r#"{"object":"sel_entry","record_id":5,"record_type":2,"kind":"event","timestamp":"2020-09-13T12:26:40Z","timestamp_raw":1600000000,"generator_id":32,"event_revision":4,"sensor_type":1,"sensor_type_name":"Temperature","sensor_number":1,"sensor_name":"CPU Temp","event_type":1,"event":"Upper Critical going high","event_words":"Upper Critical going high","direction":"asserted","severity":"critical","severity_reason":"Upper Critical going high","event_data":"595c5a","event_details":"Reading 9.2 degrees C > threshold 9","raw":"05000200105e5f200004010101595c5a"}"#;
 
 /// The same event with a reading below the threshold, although the event says that it went high.
 pub(crate) const COLD: [u8; 16] = [
@@ -43,7 +43,7 @@ pub(crate) const COLD: [u8; 16] = [
 ];
 
 const COLD_LINE: &str =
-    r#"{"object":"sel_entry","record_id":6,"record_type":2,"kind":"event","timestamp":"2020-09-13T12:26:40Z","timestamp_raw":1600000000,"generator_id":32,"event_revision":4,"sensor_type":1,"sensor_type_name":"Temperature","sensor_number":1,"sensor_name":"CPU Temp","event_type":1,"event":"Upper Critical going high","event_words":"Upper Critical going high","direction":"asserted","severity":"critical","event_data":"592d5a","event_details":"Reading 4.5 degrees C, threshold 9","raw":"06000200105e5f200004010101592d5a"}"#;
+    r#"{"object":"sel_entry","record_id":6,"record_type":2,"kind":"event","timestamp":"2020-09-13T12:26:40Z","timestamp_raw":1600000000,"generator_id":32,"event_revision":4,"sensor_type":1,"sensor_type_name":"Temperature","sensor_number":1,"sensor_name":"CPU Temp","event_type":1,"event":"Upper Critical going high","event_words":"Upper Critical going high","direction":"asserted","severity":"critical","severity_reason":"Upper Critical going high","event_data":"592d5a","event_details":"Reading 4.5 degrees C, threshold 9","raw":"06000200105e5f200004010101592d5a"}"#;
 
 /// An OEM timestamped record, one without a time stamp, and an entry of another type.
 pub(crate) const TIMED: [u8; 16] = [
