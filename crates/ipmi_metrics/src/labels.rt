@@ -1,5 +1,5 @@
 //! The labels of a sensor, as the text format writes them.
-ghost use Rattle.std.specs.Prelude.{◌≡◌, ◌↔◌, ◌++◌, codes, decimal, encode_utf8, flat_map, IsTrue, OnOk, string_bytes};
+ghost use Rattle.std.specs.Prelude.{◌≡◌, ◌↔◌, ◌++◌, codes, decimal, EachIndex, encode_utf8, flat_map, IsTrue, OnOk, slice_index, string_bytes};
 ghost use Rattle.ipmi_metrics.specs.Labels.{escaped, escaped_byte, IsPlain, name_labels, place_labels, threshold_label, type_label, type_part};
 
 use crate::measure::Measure;
@@ -28,14 +28,14 @@ fn is_plain(byte: u8) -> bool
 }
 
 /// Whether all bytes of a label's value stand for themselves.
-#[tactic(auto, using(crate::proofs::EscapeLemmas::escaped_plain))]
 fn are_plain(value: &str) -> bool
-    ensures { IsTrue result → escaped value.now ≡ value.now }
+    ensures { IsTrue result ↔ EachIndex value.now (λ k. IsPlain (slice_index value.now k)) }
 {
     value.as_bytes().iter().all(|byte| is_plain(*byte))
 }
 
 /// Appends the value of a label.
+#[tactic(auto, using(crate::proofs::EscapeLemmas::escaped_plain))]
 fn push_escaped(text: &mut String, value: &str) -> Result<(), AllocError>
     ensures { OnOk result (string_bytes text.new ≡ string_bytes text.old ++ escaped value.now) }
 {

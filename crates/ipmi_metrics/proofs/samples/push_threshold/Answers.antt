@@ -1,4 +1,4 @@
-use Rattle.std.proofs.Common.{◌++◌, append_assoc, string_bytes, sym}
+use Rattle.std.proofs.Common.{◌++◌, append_assoc, sym}
 use Rattle.std.proofs.lemmas.Result.{on_ok_weaker}
 use Rattle.ipmi_metrics.specs.Labels.{threshold_label}
 use Rattle.ipmi_metrics.proofs.SampleLemmas.{threshold_made}
