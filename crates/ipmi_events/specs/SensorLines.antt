@@ -62,7 +62,7 @@ head_columns view sensor =
     ++ (codes " | " ++ (entity_in_words sensor.entity ++ codes " | "))))
 
 -- The name of the record, by which `sensor get` finds it, then number, entity, reading, status, severity, and the thresholds
--- from lowest to highest. For sensors that share a record, the number and the reading are those of the first.
+-- from lowest to highest. For sensors that share a record, the number, the reading and what follows from it are those of the first.
 pub record IsLineOfSensor (view : SdrView) (sensor : Sensor) (reading : KnownReading)
     (text : List ℕ) : Type 0 where
   pub column : List ℕ

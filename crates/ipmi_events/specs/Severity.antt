@@ -1,4 +1,5 @@
--- How bad a state or an event is. The standard gives severities to the offsets of type 07h only; the others are those of FreeIPMI, or decided.
+-- How bad a state or an event is. The standard gives severities to the offsets of types 01h and 07h only; the others are
+-- those of FreeIPMI, or decided.
 use Rattle.std.specs.Prelude.{ℕ, ◌-◌, ◌==◌, List, [], ◌∷◌, map, codes, Option, None, Some, option_map, slice_get, if◌then◌else◌}
 use Rattle.std.specs.Option.{option_and_then}
 use Rattle.ipmi_records.specs.Prelude.{event_type, is_deasserted, sensor_type}

@@ -1,6 +1,6 @@
 //! How bad a state or an event is.
 //!
-//! The standard gives severities to the offsets of type 07h only. Most of the others are FreeIPMI's defaults for asserted events;
+//! The standard gives severities to the offsets of types 01h and 07h only. Most of the others are FreeIPMI's defaults for asserted events;
 //! docs/DECISIONS.md says which are not.
 ghost use Rattle.std.specs.Prelude.{◌≡◌, map};
 ghost use Rattle.ipmi_events.specs.Severity.{event_severity, generic_types, sensor_types, severities, severity_at, severity_column, severity_of, severity_word};
