@@ -3,6 +3,7 @@ pub mod AskLemmas
 pub mod CallLemmas
 pub mod CountLemmas
 mod DeviceLemmas
+mod EachOnce
 mod ExistenceLemmas
 pub mod GrownListing
 pub mod ItemLemmas
@@ -10,9 +11,11 @@ mod KeptLemmas
 mod LimitLemmas
 mod LastLemmas
 pub mod ListingLemmas
+mod MarkLemmas
 pub mod MeanwhileLemmas
 pub mod NameLemmas
 pub mod NamedLemmas
+pub mod NewLemmas
 mod NamedPages
 pub mod OutputLemmas
 mod PageLemmas

@@ -1,5 +1,5 @@
 -- The last entries of a walk, kept in memory: for the contracts of private functions.
-use Rattle.std.specs.Prelude.{◌≡◌, ◌⊎◌, ℕ, ◌+◌, ◌-◌, ◌≤◌, IsTrue, None, IfOk, Result, Ok, Err, if◌then◌else◌, List, [], ◌∷◌, ◌++◌, drop, length, map}
+use Rattle.std.specs.Prelude.{◌≡◌, ◌⊎◌, ℕ, ◌+◌, ◌-◌, ◌≤◌, IsTrue, None, Option, IfOk, Result, Ok, Err, if◌then◌else◌, List, [], ◌∷◌, ◌++◌, drop, length, map, slice_get}
 use Rattle.std.specs.FinSet as set
 use Rattle.ipmi_commands.specs.Below.{CursorState, Done, Ending, Failure, handed_out, IsHonest, OnGrowing, Place, Row, Seen, Sel, Store, WalkEnd}
 use Rattle.ipmi_commands.specs.declared.limits.Tries.{Tries}
@@ -20,6 +20,10 @@ use Rattle.ipmi_commands.specs.Format.{Texts}
 -- the last n of some items, or all if there are fewer
 abbrev pub last_of : {T : Type 0} → ℕ → List T → List T
 last_of n items = drop (length items - n) items
+
+-- the last of some items, if there are any
+abbrev pub last_entry : {T : Type 0} → List T → Option T
+last_entry items = slice_get items (length items - 1)
 
 -- what is kept of an entry
 abbrev pub kept_row : Row → KeptEntry

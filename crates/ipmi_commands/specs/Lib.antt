@@ -2,11 +2,13 @@ pub mod Allowed
 pub mod Asking
 pub mod Below
 pub mod Calls
+pub mod EachOnce
 pub mod Format
 pub mod Job
 pub mod Kept
 pub mod Laws
 pub mod Listing
+pub mod Mark
 pub mod Meanwhile
 pub mod Named
 pub mod Output
@@ -16,6 +18,7 @@ pub mod Plan
 pub mod Prelude
 pub mod Printed
 pub mod Run
+pub mod Since
 pub mod Tail
 pub mod Texts
 pub mod Traced

@@ -1,10 +1,11 @@
 //! Lists the last entries of the event log along one walk: they are kept in memory, and printed when the walk is over.
-ghost use Rattle.std.specs.Prelude.{◌≡◌, [], ◌∷◌, ◌+◌, ◌-◌, ◌++◌, ◌≤◌, drop, length, OnOk};
+ghost use Rattle.std.specs.Prelude.{◌≡◌, ◌≢◌, [], ◌∷◌, ◌+◌, ◌-◌, ◌++◌, ◌≤◌, drop, length, List, MatchOption, OnOk};
 ghost use Rattle.std.specs.FinSet as set;
 ghost use Rattle.ipmi_commands.specs.Below.{AsksAtMost, IsHonest, row_of_record, Sel, start_of, write_faults};
 ghost use Rattle.ipmi_commands.specs.declared.job.Form.{Form};
 ghost use Rattle.ipmi_commands.specs.declared.job.Job.{Job};
-ghost use Rattle.ipmi_commands.specs.Kept.{kept_row, kept_with, KeepsByCursor, KeepsEntries, last_of, PrintsKept};
+ghost use Rattle.ipmi_commands.specs.declared.kept.KeptEntry.{KeptEntry};
+ghost use Rattle.ipmi_commands.specs.Kept.{kept_row, kept_with, last_entry, KeepsByCursor, KeepsEntries, last_of, PrintsKept};
 ghost use Rattle.ipmi_commands.specs.Output.{Output};
 ghost use Rattle.ipmi_commands.specs.Prelude.{change, EndsListing, EndsPrinting, IsFrom, most_on_walk, printed, Runs, Tries};
 
@@ -23,10 +24,10 @@ use std::alloc::{AllocError, Global};
 use std::collections::VecDeque;
 
 /// An entry of the event log.
-#[derive(Clone, Copy)]
+#[derive(Clone, Copy, Debug, PartialEq, Eq)]
 pub(crate) struct KeptEntry {
-    id: u16,
-    bytes: [u8; SEL_ENTRY_LEN],
+    pub(crate) id: u16,
+    pub(crate) bytes: [u8; SEL_ENTRY_LEN],
 }
 
 /// The last entries of a walk so far, at most `most` of them.
@@ -53,6 +54,25 @@ impl LastEntries {
         ensures { result ≡ length self.now.entries.items }
     {
         self.entries.len()
+    }
+
+    /// The last of them.
+    pub(crate) fn last(&self) -> Option<KeptEntry>
+        ensures { result ≡ last_entry self.now.entries.items }
+    {
+        self.entries.back().copied()
+    }
+
+    /// Those after this entry, if it is the first of them.
+    pub(crate) fn after(mut self, entry: KeptEntry) -> Option<LastEntries>
+        ensures { MatchOption result ((rest : List KeptEntry) → self.entries.items ≢ entry ∷ rest)
+            (λ rest. self.entries.items ≡ entry ∷ rest.entries.items) }
+    {
+        if self.entries.pop_front() == Some(entry) {
+            Some(self)
+        } else {
+            None
+        }
     }
 
     /// Forgets the first entry if there is no room for another one.

@@ -1,4 +1,6 @@
 //! Laws of plans. They follow from the definitions of plans. Each law is the contract of a function that does nothing.
+ghost use Rattle.ipmi_commands.specs.Mark.{MarksAreReadBack};
+ghost use Rattle.ipmi_commands.specs.EachOnce.{FirstFindsEach, NextFindsEach};
 ghost use Rattle.ipmi_commands.specs.Prelude.{FinishedRunsAreOne, ItemsHaveAText, ItemsHaveOneText, TailsAreOfTheLog};
 
 use crate::format::{Format, Total};
@@ -33,3 +35,17 @@ pub fn tails_are_of_the_log()
     ipmi_bus::laws::one_walk_has_an_end();
     ipmi_bus::laws::the_rest_is_a_walk();
 }
+
+/// Runs over a log that only grows find each entry once, together.
+pub fn each_entry_is_found_once()
+    ensures first { FirstFindsEach }
+    ensures next { NextFindsEach }
+{
+    ipmi_bus::laws::one_walk_has_an_end();
+    ipmi_bus::laws::the_rest_is_a_walk();
+}
+
+/// The text of a mark is read as the same mark.
+pub fn marks_are_read_back()
+    ensures { MarksAreReadBack }
+{}

@@ -32,7 +32,7 @@ pub(crate) enum RecordsEnd {
 
 impl RecordsEnd {
     /// The end of a finished listing after this walk: names may be missing if it was not whole.
-    fn end<'a>(self) -> Result<(), Failure<'a>>
+    pub(crate) fn end<'a>(self) -> Result<(), Failure<'a>>
         ensures { result ≡ end_after self }
     {
         match self {
@@ -96,7 +96,7 @@ fn list_events<'a, F: Format, C: Controller, O: Sink>(
 }
 
 /// Writes the bytes of all sensor data records to `records`. Returns how their walk ended.
-fn read_records<'a, F: Format, C: Controller, O: Sink>(
+pub(crate) fn read_records<'a, F: Format, C: Controller, O: Sink>(
     alloc: Global,
     ctl: &mut C,
     limits: RequestLimits,
