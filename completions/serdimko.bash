@@ -3,7 +3,7 @@
 # It calls no function of the package bash-completion, so that a shell may also read it by itself.
 
 _serdimko() {
-  local options='--image --live --records --from --part --tries --id --type --entity --exclude --since --until --now --worse --strict --json --csv --separator --label --output --partial --quiet --perfdata --openmetrics --help --version -h -V'
+  local options='--image --live --records --from --part --tries --id --type --entity --exclude --since --until --now --worse --cursor-file --strict --json --csv --separator --label --output --partial --quiet --perfdata --openmetrics --help --version -h -V'
   local cur=${COMP_WORDS[COMP_CWORD]} word value= plain= line= next=
 
   # What comes before the word: the option whose value it is, whether -- came, and the words without options.
@@ -17,14 +17,14 @@ _serdimko() {
       # An option comes at most once, but --image, --label and --exclude.
       options=" $options "
       [[ $word == --image* || $word == --label* || $word == --exclude* ]] || options=${options/ "${word%%=*}" / }
-      case $word in --image | --live | --records | --output | --from | --part | --tries | --id | --type | --entity | --exclude | --since | --until | --now | --worse | --separator | --label) value=$word ;; esac
+      case $word in --image | --live | --records | --output | --cursor-file | --from | --part | --tries | --id | --type | --entity | --exclude | --since | --until | --now | --worse | --separator | --label) value=$word ;; esac
     else
       line+="${line:+ }$word"
     fi
   done
 
   COMPREPLY=()
-  if [[ $value == --image || $value == --records || $value == --output ]]; then
+  if [[ $value == --image || $value == --records || $value == --output || $value == --cursor-file ]]; then
     # With no reply of its own bash completes file names, with their quotes.
     compopt -o default
     return

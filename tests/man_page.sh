@@ -174,7 +174,7 @@ expect 'critical warning' --worse ''
 expect critical sel list --worse c
 expect '--label' --json --label a=b --la
 expect '--exclude' --exclude Fan1 --ex
-expect '--csv --entity --exclude --help --id --image --json --label --live --now --openmetrics --output --partial --perfdata --quiet --records --separator --since --tries --type --until --version --worse' --strict --from=0001 --part 4 --image = x --
+expect '--csv --cursor-file --entity --exclude --help --id --image --json --label --live --now --openmetrics --output --partial --perfdata --quiet --records --separator --since --tries --type --until --version --worse' --strict --from=0001 --part 4 --image = x --
 expect 'list' --strict -h sdr li
 expect '' -- --
 expect 'sdr sel sensor' -- s

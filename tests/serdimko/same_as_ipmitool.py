@@ -101,7 +101,7 @@ def generated_line(rng, images):
 
 OWN = {
     "-h", "--help", "-V", "--version", "--strict", "--json", "--csv", "--label", "--id", "--type", "--entity", "--exclude", "--since",
-    "--until", "--now", "--worse", "help", "sensor", "check", "metrics",
+    "--until", "--now", "--worse", "--cursor-file", "help", "sensor", "check", "metrics",
 }
 USAGE = b"usage: ipmitool [--image FILE] [--from HEX4] [--part N] [--tries N] fru|sdr|sel WORDS\n"
 WHY_NOT_READ = b": (no such file|is a directory|part of its path is not a directory|too many symbolic links|file name too long|permission denied|longer than 64 MiB|input/output error)"

@@ -27,7 +27,7 @@ use Rattle.ipmi_command_line.specs.declared.request.Source.{Source}
 use Rattle.ipmi_command_line.specs.Command.{CommandState, command_of_task, meaning_of, number_or, start_of_text, with_options}
 use Rattle.ipmi_command_line.specs.Commands.{RowState, commands, row_of}
 use Rattle.ipmi_command_line.specs.Number.{digits_of, number_of, within}
-use Rattle.ipmi_command_line.specs.Request.{action_of, format_of, goes_with, has_option, limits_of, misplaced, numbered_of, part_of_text, printed_of, records_named, records_of, request_of, request_of_found, request_of_row, request_of_words, rewrite_of, source_of, task_of_row, text_format, with_parts}
+use Rattle.ipmi_command_line.specs.Request.{action_of, format_of, goes_with, has_option, limits_of, listed_of, misplaced, numbered_of, part_of_text, printed_of, records_named, records_of, request_of, request_of_found, request_of_row, request_of_words, rewrite_of, source_of, task_of_row, text_format, with_parts}
 use Rattle.ipmi_command_line.specs.Table.{are, entries_of, newest, oldest, task_of, task_of_four, task_of_one, task_of_three, task_of_two}
 use Rattle.ipmi_command_line.specs.declared.commands.Verb.{Verb}
 use Rattle.ipmi_command_line.specs.declared.task.Task.{Task}
@@ -164,6 +164,7 @@ record Alone (rows : List Row) : Type 0 where
   until : has_value (codes "until") rows ≡ false
   now : has_value (codes "now") rows ≡ false
   worse : has_value (codes "worse") rows ≡ false
+  cursor_file : has_value (codes "cursor-file") rows ≡ false
   strict : is_given (codes "strict") rows ≡ false
   version : is_given (codes "version") rows ≡ false
   help : is_given (codes "help") rows ≡ false
@@ -189,7 +190,8 @@ alone rows is =
     let until = none_or (has_value (codes "until") rows) _ since.1 in
     let now = none_or (has_value (codes "now") rows) _ until.1 in
     let worse = none_or (has_value (codes "worse") rows) _ now.1 in
-    let output = none_or (has_value (codes "output") rows) _ worse.1 in
+    let cursor_file = none_or (has_value (codes "cursor-file") rows) _ worse.1 in
+    let output = none_or (has_value (codes "output") rows) _ cursor_file.1 in
     let strict = none_or (is_given (codes "strict") rows) _ output.1 in
     record {
       table = both.0;
@@ -205,6 +207,7 @@ alone rows is =
       until = until.0;
       now = now.0;
       worse = worse.0;
+      cursor_file = cursor_file.0;
       strict = strict.0;
       version = version.0;
       help = version.1;
@@ -407,6 +410,10 @@ numbered : (kind : Numbered) (row : RowState) (words : List Text) (rows : List R
     → numbered_of kind row words rows ≡ printed_of (start_of_text (first_of (codes "from") rows)) (task_of_row row words)
 numbered kind row words rows h few = rw (h.id, few) refl
 
+unlisted : (row : RowState) (words : List Text) (rows : List Row) → Alone rows
+    → listed_of row words rows ≡ printed_of (start_of_text (first_of (codes "from") rows)) (task_of_row row words)
+unlisted row words rows h = rw (no_value (first_of (codes "cursor-file") rows) h.cursor_file) refl
+
 -- the row's command does what the task is, with no other option
 carried : (clock : ℕ) (row : RowState) (words : List Text) (rows : List Row) (task : Task) (command : CommandState) → Alone rows
     → AsksAll row.verb → text_format row.verb ≡ Format.Plain → has_option row.options (codes "image") ≡ true
@@ -426,7 +433,7 @@ same : (clock : ℕ) (w : List Text) (v : Verb) (o words : List Text) (rows : Li
     → IsSame clock (record { words = w; verb = v; options = o }) words rows command
 same clock w Verb.Task o words rows task command h reads takes is parts =
     carried clock (record { words = w; verb = Verb.Task; options = o }) words rows task command h tt refl takes parts
-    (printed _ _ task parts.from parts.start_is is parts.taken ∙ ap (λ a. Some a) (plain_action task parts.from reads))
+    (unlisted (record { words = w; verb = Verb.Task; options = o }) words rows h ∙ printed _ _ task parts.from parts.start_is is parts.taken ∙ ap (λ a. Some a) (plain_action task parts.from reads))
 same clock w Verb.GetEntries o words rows task command h reads takes is parts =
     let row : RowState = record { words = w; verb = Verb.GetEntries; options = o } in
     carried clock row words rows task command h tt refl takes parts (numbered Numbered.Entry row words rows h reads.1

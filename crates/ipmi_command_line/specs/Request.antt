@@ -204,6 +204,20 @@ metrics_of whole rows = if whole && has_one_image rows
 abbrev pub rewrite_of : Bool → List Row → Option Action
 rewrite_of whole rows = if whole && has_one_image rows then Some Action.Rewrite else None
 
+-- only new entries, if all entries of one log were to be printed
+abbrev pub new_of : Text → Bool → Option Action → Option Action
+new_of file has_one_log (Some (Action.Print (Task.SelList Count.All) None)) = if has_one_log then Some (Action.PrintNew file) else None
+new_of file has_one_log action = None
+
+abbrev pub new_if_given : Option Text → Bool → Option Action → Option Action
+new_if_given None has_one_log action = action
+new_if_given (Some file) has_one_log action = new_of file has_one_log action
+
+-- what the task says, or only new entries
+abbrev pub listed_of : RowState → List Text → List Row → Option Action
+listed_of row words rows = new_if_given (first_of (codes "cursor-file") rows) (nat_le (length (values_of (codes "image") rows)) 1)
+    (printed_of (start_of rows) (task_of_row row words))
+
 abbrev pub action_of_verb : Verb → RowState → List Text → List Row → Option Action
 action_of_verb Verb.GetEntries row words rows = numbered_of Numbered.Entry row words rows
 action_of_verb Verb.PrintInventories row words rows = numbered_of Numbered.Inventory row words rows
@@ -213,7 +227,7 @@ action_of_verb Verb.Check row words rows = check_of (length words == 1) rows
 action_of_verb Verb.Metrics row words rows = metrics_of (length words == 1) rows
 action_of_verb Verb.Capture row words rows = capture_of (length words == 1) rows
 action_of_verb Verb.Rewrite row words rows = rewrite_of (length words == 2) rows
-action_of_verb _ row words rows = printed_of (start_of rows) (task_of_row row words)
+action_of_verb _ row words rows = listed_of row words rows
 
 abbrev pub action_of : RowState → List Text → List Row → Option Action
 action_of row words rows = action_of_verb row.verb row words rows

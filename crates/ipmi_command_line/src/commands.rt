@@ -132,6 +132,7 @@ const LISTING_ENTRIES: &[&str] = &[
     "until",
     "now",
     "worse",
+    "cursor-file",
 ];
 
 /// The options of commands that print entries or inventories by their ids.

@@ -80,6 +80,8 @@ pub enum UsageError<'a> {
     SeparatorWithoutCsv,
     /// The time of `--since` is after that of `--until`.
     SinceAfterUntil,
+    /// There is `--cursor-file` beside a number of entries, an id to start from, or several images.
+    CursorOfPart,
 }
 
 impl From<AllocError> for UsageError<'_> {
@@ -339,6 +341,9 @@ impl UsageError<'_> {
             UsageError::LabelInText => "--label goes only with --json or --csv",
             UsageError::TwoForms => "--json does not go with --csv",
             UsageError::SinceAfterUntil => "--since is later than --until",
+            UsageError::CursorOfPart => {
+                "--cursor-file goes with one whole log: not with a number of entries, --from or several images"
+            }
             UsageError::SeparatorWithoutCsv => "--separator goes only with --csv",
             _ => "the command line can't be read: see serdimko --help",
         }

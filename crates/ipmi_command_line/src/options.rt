@@ -19,7 +19,7 @@ pub enum Form {
 
 /// The options that go with some commands only. The rows of the table of commands say which; a form of output goes with those that take
 /// labels.
-pub(crate) const OPTIONS: [OptionRow; 20] = [
+pub(crate) const OPTIONS: [OptionRow; 21] = [
     ("json", None, Given::Form(Form::Json)),
     ("csv", None, Given::Form(Form::Csv)),
     ("label", None, Given::Values),
@@ -34,6 +34,7 @@ pub(crate) const OPTIONS: [OptionRow; 20] = [
     ("until", None, Given::Value),
     ("now", None, Given::Value),
     ("worse", None, Given::Value),
+    ("cursor-file", None, Given::Value),
     ("output", Some('o'), Given::Value),
     ("strict", None, Given::Flag),
     ("quiet", None, Given::Flag),

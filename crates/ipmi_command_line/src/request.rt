@@ -6,7 +6,7 @@ ghost use Rattle.ipmi_command_line.specs.Options.{form_in, forms_of, option_stat
 ghost use Rattle.ipmi_command_line.specs.Values.{values_of};
 ghost use Rattle.ipmi_command_line.specs.Command.{IsTask, number_or, start_of_text};
 ghost use Rattle.ipmi_command_line.specs.Commands.{row_of, row_state, texts};
-ghost use Rattle.ipmi_command_line.specs.Request.{action_of, capture_of, events_of, format_in_form, format_in_text, format_of, goes_with, help_of, IsRequest, IsAction, has_option, limits_of, live_at, live_of, misplaced, misplaced_in, metrics_of, named_of, numbered_of, part_of_text, printed_of, records_named, records_of, request_of, request_of_command, request_of_help, request_of_row, request_of_rows, request_of_words, rewrite_of, separator_of, short_request, asks_for_types, types_request, check_of, has_one_image, source_of, standard_inputs, start_of, tail_of, task_of_row, tasks_of, text_format, tool_of, topic_named, topic_of};
+ghost use Rattle.ipmi_command_line.specs.Request.{action_of, capture_of, events_of, format_in_form, format_in_text, format_of, goes_with, help_of, IsRequest, IsAction, has_option, limits_of, listed_of, live_at, live_of, misplaced, misplaced_in, metrics_of, named_of, new_of, numbered_of, part_of_text, printed_of, records_named, records_of, request_of, request_of_command, request_of_help, request_of_row, request_of_rows, request_of_words, rewrite_of, separator_of, short_request, asks_for_types, types_request, check_of, has_one_image, source_of, standard_inputs, start_of, tail_of, task_of_row, tasks_of, text_format, tool_of, topic_named, topic_of};
 ghost use Rattle.ipmi_command_line.specs.declared.error.UsageError.{UsageError};
 
 use crate::arguments::{arguments, has_value, is_given, value, value_count};
@@ -61,6 +61,8 @@ pub enum Action {
     PrintEach(Tasks),
     /// Print the block of each sensor with one of these names, from this id on.
     GetSensors(Words, Option<u16>),
+    /// Print the entries of the event log after those that earlier runs printed, as this file says.
+    PrintNew(Word),
     /// Check the sensors that pass the filters.
     Check {
         /// Performance data follow the verdict.
@@ -626,6 +628,43 @@ fn rewrite_of<'a>(
     Ok(Action::Rewrite)
 }
 
+/// Prints entries after those of earlier runs, in place of an action that prints all entries of one log.
+fn new_of<'a>(
+    alloc: Global,
+    file: &str,
+    has_one_log: bool,
+    action: Action,
+) -> Result<Action, UsageError<'a>>
+    ensures value { let meant = new_of file.now has_one_log (Some action) in
+        MatchResult result (λ action. meant ≡ Some action) (λ e. (e ≡ UsageError.Memory) ⊎ (meant ≡ None)) }
+    ensures range { IfOk result IsAction }
+{
+    match action {
+        Action::Print(Task::SelList(Count::All), None) if has_one_log => {
+            Ok(Action::PrintNew(Word::new(alloc, file)?))
+        }
+        _ => Err(UsageError::CursorOfPart),
+    }
+}
+
+/// Prints what the task of a command says, or only new entries.
+fn listed_of<'a>(
+    alloc: Global,
+    row: &CommandRow,
+    words: &[&'a str],
+    matches: &ArgMatches<'a>,
+) -> Result<Action, UsageError<'a>>
+    ensures value { let meant = listed_of (row_state row.now) (texts words.now) (rows_of (found_of matches.now)) in
+        MatchResult result (λ action. meant ≡ Some action) (λ e. (e ≡ UsageError.Memory) ⊎ (meant ≡ None)) }
+    ensures range { IfOk result IsAction }
+{
+    let Some(file) = value(matches, "cursor-file") else {
+        return printed_of(alloc, row, words, matches);
+    };
+    let action = printed_of(alloc, row, words, matches)?;
+    new_of(alloc, file, value_count(matches, "image") <= 1, action)
+}
+
 /// What a command does.
 fn action_of<'a>(
     alloc: Global,
@@ -646,7 +685,7 @@ fn action_of<'a>(
         Verb::Metrics => metrics_of(alloc, row, words, matches),
         Verb::Capture => capture_of(alloc, row, words, matches),
         Verb::Rewrite => rewrite_of(alloc, row, words, matches),
-        _ => printed_of(alloc, row, words, matches),
+        _ => listed_of(alloc, row, words, matches),
     }
 }
 

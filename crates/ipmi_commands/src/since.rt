@@ -98,6 +98,7 @@ fn entries_from<'a, F: Format, C: Controller>(
     from: Option<u16>,
 ) -> Result<LastEntries, Failure<'a>>
     requires { IsFrom from }
+    ensures faults { write_faults (ending_of result) ≡ 0 }
     ensures calls { (C.seen ctl.new).calls ≤ (C.seen ctl.old).calls + most_on_walk Form.Skipped limits.tries }
     ensures asked { AsksAtMost limits.part (C.seen ctl.old) (C.seen ctl.new) }
     ensures ends { EndsListing Form.Skipped (C.seen ctl.new) (ending_of result) }
@@ -120,6 +121,7 @@ fn entries_after<'a, F: Format, C: Controller>(
     format: &F,
     entry: KeptEntry,
 ) -> Result<Option<LastEntries>, Failure<'a>>
+    ensures faults { write_faults (ending_of result) ≡ 0 }
     ensures calls { (C.seen ctl.new).calls ≤ (C.seen ctl.old).calls + most_on_walk Form.Skipped limits.tries }
     ensures asked { AsksAtMost limits.part (C.seen ctl.old) (C.seen ctl.new) }
     ensures ends { EndsListing Form.Skipped (C.seen ctl.new) (ending_of result) }
@@ -144,6 +146,7 @@ fn all_entries<'a, F: Format, C: Controller>(
     format: &F,
     continuity: Continuity,
 ) -> Result<Found, Failure<'a>>
+    ensures faults { write_faults (ending_of result) ≡ 0 }
     ensures calls { (C.seen ctl.new).calls ≤ (C.seen ctl.old).calls + most_on_walk Form.Skipped limits.tries }
     ensures asked { AsksAtMost limits.part (C.seen ctl.old) (C.seen ctl.new) }
     ensures ends { EndsListing Form.Skipped (C.seen ctl.new) (ending_of result) }
@@ -166,6 +169,7 @@ fn entries_since<'a, F: Format, C: Controller>(
     mark: Option<Mark>,
     info: Option<[u8; INFO_LEN]>,
 ) -> Result<Found, Failure<'a>>
+    ensures faults { write_faults (ending_of result) ≡ 0 }
     ensures calls { (C.seen ctl.new).calls ≤ (C.seen ctl.old).calls
         + (most_on_walk Form.Skipped limits.tries + most_on_walk Form.Skipped limits.tries) }
     ensures asked { AsksAtMost limits.part (C.seen ctl.old) (C.seen ctl.new) }
@@ -204,6 +208,7 @@ pub fn new_entries<'a, F: Format, C: Controller>(
     format: &F,
     mark: Option<Mark>,
 ) -> Result<NewEntries, Failure<'a>>
+    ensures faults { write_faults (ending_of result) ≡ 0 }
     ensures calls { (C.seen ctl.new).calls ≤ (C.seen ctl.old).calls + most_on_tail limits.tries }
     ensures asked { AsksAtMost limits.part (C.seen ctl.old) (C.seen ctl.new) }
     ensures ends { EndsListing Form.Skipped (C.seen ctl.new) (ending_of result) }

@@ -26,6 +26,7 @@ table_of_query (Query.Each tasks) = table_of_tasks tasks
 table_of_query (Query.Sensors names from) = Table.Records
 table_of_query (Query.Check filters detail) = Table.Records
 table_of_query (Query.Metrics filters dialect) = Table.Records
+table_of_query (Query.New filters mark) = Table.Entries
 
 -- the text that names what is printed, with these labels
 pub record IsHeader (format : Format) (texts : List (List ℕ)) (image : Option (List ℕ)) (table : Table) (line : List ℕ) : Type 0 where

@@ -8,5 +8,6 @@ pub mod Query
 pub mod Reason
 pub mod RunError
 pub mod Settings
+pub mod Since
 pub mod Closed
 pub mod Columns

@@ -26,7 +26,6 @@ use Rattle.ipmi_check.specs.Text.{IsCheckText, short_text}
 use Rattle.ipmi_check.specs.Verdict.{status_of, verdict_of}
 use Rattle.ipmi_check.specs.declared.performance.Detail.{Detail}
 use Rattle.ipmi_check.specs.declared.verdict.Verdict.{Verdict}
-use Rattle.serdimko.specs.declared.driver.Query.{Query}
 use Rattle.serdimko.specs.declared.outcome.Outcome.{Outcome}
 use Rattle.serdimko.specs.declared.report.Report.{Report}
 use Rattle.serdimko.specs.declared.run_error.RunError.{RunError}

@@ -5,6 +5,7 @@ use Rattle.ipmi_output.specs.Received.{Received}
 use Rattle.serdimko.specs.Metrics.{Measures}
 use Rattle.serdimko.specs.Out.{State}
 use Rattle.serdimko.specs.Printing.{Checks, Each, PrintsSensors, PrintsTask, Reports, RunsTask}
+use Rattle.serdimko.specs.Since.{PrintsSince}
 use Rattle.serdimko.specs.declared.driver.Query.{Query}
 use Rattle.serdimko.specs.declared.outcome.Outcome.{Outcome}
 use Rattle.serdimko.specs.declared.report.Report.{Report}
@@ -21,3 +22,5 @@ PrintsQuery limits (Query.Check filters detail) report old new said said' result
     Checks limits filters detail report old new result × (said' ≡ said)
 PrintsQuery limits (Query.Metrics filters dialect) report old new said said' result =
     Measures limits filters dialect report old new said said' result
+PrintsQuery limits (Query.New filters mark) report old new said said' result =
+    PrintsSince limits filters mark report old new said said' result

@@ -1,9 +1,11 @@
 -- Why a run over an image or a controller did not finish: when, with which message, and with which status.
 use Rattle.std.specs.Prelude.{◌≡◌, ◌==◌, ◌&&◌, ◌||◌, max, ℕ, Bool, true, false, List, [], ◌++◌, codes, decimal, Option, Some, None, Result, Ok, Err, String, string_bytes}
+use Rattle.std.specs.Option.{option_or}
 use Rattle.std.specs.declared.alloc.Global.{Global}
 use Rattle.std.specs.declared.alloc.AllocError.{AllocError}
 use Rattle.ipmi_bus.specs.declared.inventory_reader.FruEnded.{FruEnded}
 use Rattle.ipmi_bus.specs.declared.step.Ended.{Ended}
+use Rattle.ipmi_commands.specs.declared.mark.Mark.{Mark}
 use Rattle.ipmi_image.specs.declared.image.ImageFault.{ImageFault}
 use Rattle.ipmi_output.specs.Failure.{Ending, escaped_name, failure_text, fault_line, fault_words, line_text, status_of_failure, write_faults}
 use Rattle.ipmi_output.specs.Received.{Received, ReceivesText}
@@ -137,6 +139,7 @@ outcome_of error = record {
   is_output_open = is_output_open error;
   lacks_name = lacks_name error;
   has_verdict = false;
+  mark = None;
 }
 
 -- that of a check with this status, whose verdict was printed
@@ -146,7 +149,12 @@ outcome_of_verdict status = record {
   is_output_open = true;
   lacks_name = false;
   has_verdict = true;
+  mark = None;
 }
+
+-- that of a run that left this mark, or none
+abbrev pub marked : Option Mark → Outcome → Outcome
+marked mark outcome = record outcome { mark = mark }
 
 -- that of runs one after another
 abbrev pub and : Outcome → Outcome → Outcome
@@ -155,6 +163,7 @@ and first next = record {
   is_output_open = first.is_output_open && next.is_output_open;
   lacks_name = first.lacks_name || next.lacks_name;
   has_verdict = first.has_verdict || next.has_verdict;
+  mark = option_or first.mark next.mark;
 }
 
 -- the message of the error is written, or nothing if there is no error

@@ -16,6 +16,7 @@ IsQuery (Query.Each tasks) = All IsTask tasks
 IsQuery (Query.Sensors names from) = IsFrom from
 IsQuery (Query.Check filters detail) = ⊤
 IsQuery (Query.Metrics filters dialect) = ⊤
+IsQuery (Query.New filters mark) = ⊤
 
 -- texts of one of several images follow its name
 abbrev pub is_headed : Format → Bool → Bool

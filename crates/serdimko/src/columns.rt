@@ -26,6 +26,7 @@ fn table_of_query(query: &Query) -> Table
             [] => Table::Records,
         },
         Query::Sensors(..) | Query::Check(..) | Query::Metrics(..) => Table::Records,
+        Query::New(..) => Table::Entries,
     }
 }
 

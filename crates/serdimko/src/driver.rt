@@ -17,10 +17,11 @@ use crate::metrics::print_metrics;
 use crate::outcome::Outcome;
 use crate::report::Report;
 use crate::run_error::RunError;
+use crate::since::print_since;
 use ipmi_bus::Controller;
 use ipmi_check::Detail;
 use ipmi_command_line::{Filters, Task, Tasks, Word, Words};
-use ipmi_commands::{Format, Job, RequestLimits, Summary, execute};
+use ipmi_commands::{Format, Job, Mark, RequestLimits, Summary, execute};
 use ipmi_image::SnapshotController;
 use ipmi_metrics::Dialect;
 use ipmi_output::{Failure, MessageSink, RecordName};
@@ -70,6 +71,9 @@ pub(crate) enum Query {
     Check(Filters, Detail),
     /// The metrics of the sensors that pass the filters, and of the event log.
     Metrics(Filters, Dialect),
+    /// The entries of the event log that earlier runs did not print, the last of which left this mark; of these, those that pass the
+    /// filters.
+    New(Filters, Option<Mark>),
 }
 
 /// The job of the task, for the records that pass the filters, if any are given.
@@ -313,6 +317,9 @@ pub(crate) fn print_query<C: Connection, W: Write + Drop, E: MessageSink>(
         }
         Query::Metrics(filters, dialect) => {
             print_metrics(alloc, ctl, limits, filters, *dialect, report, out, err)
+        }
+        Query::New(filters, mark) => {
+            print_since(alloc, ctl, limits, filters, *mark, report, out, err)
         }
     }
 }

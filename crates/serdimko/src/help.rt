@@ -47,6 +47,8 @@ Options, anywhere, also after the command:
                   or 2h or 3d, which is so long before --now
   --now TIME      this time in place of this computer's clock
   --worse warning|critical  list only events that are at least this bad
+  --cursor-file FILE  sel list or elist prints the events after those of earlier
+                  runs, which FILE remembers
   --strict        status 1 if a fault or a missing device was printed
   --json          an object in a line for each thing, and one at the end
   --csv           a line with the names of columns, and one for each thing
@@ -135,6 +137,9 @@ or 3d ago (before --now TIME). An event without a known time is left out by
 --since and --until. SEVERITY is warning or critical: only events whose state is
 at least this bad are listed, none that was deasserted, and neither OEM entries
 nor events for which the standard has no words.
+--cursor-file FILE prints the events after those that earlier runs with this
+file printed, and then notes in it where this run stopped; of a log that was
+cleared since, all. It goes with neither N, --from nor several images.
 ";
 
 const FRU: &str = "Prints inventories of field replaceable units.

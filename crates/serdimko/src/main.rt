@@ -21,6 +21,7 @@ mod outcome;
 mod reason;
 mod report;
 mod run_error;
+mod since;
 
 use capture::{Counter, Target, UNWRITTEN, capture_live, write_file};
 use check::unknown_text;
@@ -31,15 +32,15 @@ use images::{ImageQuery, fail, image_of, print_images};
 use ipmi_bus::Shelf;
 use ipmi_check::{Detail, Verdict, text_without_memory};
 use ipmi_command_line::{
-    Action, Format, Limits, LiveTool, Request, Source, UsageError, UsageFault, Word, Words,
-    request_of, takes_value,
+    Action, Filters, Format, Limits, LiveTool, Request, Source, UsageError, UsageFault, Word,
+    Words, request_of, takes_value,
 };
-use ipmi_commands::{LIVE_PART, RequestLimits, report};
+use ipmi_commands::{LIVE_PART, Mark, RequestLimits, report};
 use ipmi_image::WithRecords;
 use ipmi_metrics::Dialect;
 use ipmi_output::Part::{self, Escaped, Number, Text};
 use ipmi_output::{Failure, MessageSink, Written, write_message};
-use ipmi_program::{labels_of, read_input, read_words, wrong_label};
+use ipmi_program::{labels_of, read_image, read_input, read_words, wrong_label};
 use live::{Live, controller_of, name_of, print_live};
 use mistake::maybe_unquoted;
 use outcome::Outcome;
@@ -47,6 +48,7 @@ use report::Settings;
 use run_error::CLOSED;
 use std::alloc::{AllocError, Global};
 use std::env::{Env, FillError};
+use std::fs::File;
 use std::io::{self, BufWriter, ErrorKind, IsTerminal, Write};
 use std::process::ExitCode;
 use std::rt::Clock;
@@ -211,6 +213,9 @@ fn run<E: MessageSink>(rt: &HostRuntime, request: Request, err: &mut E) -> Resul
             let file = output.as_ref();
             return run_metrics(rt, &query, &source, records, &settings, file, err);
         }
+        Action::PrintNew(file) => {
+            return run_since(rt, filters, &file, &source, records, &settings, err);
+        }
         Action::Print(task, from) => Query::Print(task, from, filters),
         Action::PrintEach(tasks) => Query::Each(tasks),
         Action::GetSensors(names, from) => Query::Sensors(names, from),
@@ -257,20 +262,83 @@ fn run_query<E: MessageSink>(
 ) -> Result<u8, AllocError>
     requires { IsQuery query.now }
 {
-    if let Some(line) = wrong_label(rt.alloc(), settings.is_csv(), settings.labels())? {
-        return Ok(refuse(&line, err));
-    }
-    tell_waiting(rt, source, err);
-    let mut out = buffered_output(rt)?;
-    let outcome = print_inputs(rt, query, source, records, settings, &mut out, err);
-    discard(out);
-    let Some(outcome) = outcome? else {
+    let Some(outcome) = outcome_of(rt, query, source, records, settings, err)? else {
         return Ok(USAGE);
     };
     if let Query::Sensors(names, _) = query {
         advise(rt, outcome, names.as_slice(), err);
     }
     Ok(outcome.status)
+}
+
+/// Prints what a query asks for, from each input. None if the labels or the input are refused, which is reported.
+fn outcome_of<E: MessageSink>(
+    rt: &HostRuntime,
+    query: &Query,
+    source: &Source,
+    records: Option<&Word>,
+    settings: &Settings,
+    err: &mut E,
+) -> Result<Option<Outcome>, AllocError>
+    requires { IsQuery query.now }
+{
+    if let Some(line) = wrong_label(rt.alloc(), settings.is_csv(), settings.labels())? {
+        refuse(&line, err);
+        return Ok(None);
+    }
+    tell_waiting(rt, source, err);
+    let mut out = buffered_output(rt)?;
+    let outcome = print_inputs(rt, query, source, records, settings, &mut out, err);
+    discard(out);
+    outcome
+}
+
+/// The mark in a cursor file; None: there is no file yet. Err is what is wrong with it.
+fn mark_in(rt: &HostRuntime, name: &str) -> Result<Option<Mark>, &'static str> {
+    let file = match File::open(rt, name) {
+        Ok(file) => file,
+        Err(error) => {
+            return match error.kind() {
+                ErrorKind::NotFound => Ok(None),
+                _ => Err(" can't be read"),
+            };
+        }
+    };
+    let Ok(text) = read_image(rt.alloc(), file) else {
+        return Err(" can't be read");
+    };
+    match Mark::read(text.as_slice()) {
+        Some(mark) => Ok(Some(mark)),
+        None => Err(" is no cursor file of serdimko: without it all entries are printed"),
+    }
+}
+
+/// Prints the entries that earlier runs did not print, and then notes in the file where this run stopped. If not all could be printed,
+/// or there was no change, the file stays as it is.
+fn run_since<E: MessageSink>(
+    rt: &HostRuntime,
+    filters: Filters,
+    file: &Word,
+    source: &Source,
+    records: Option<&Word>,
+    settings: &Settings,
+    err: &mut E,
+) -> Result<u8, AllocError> {
+    let mark = match mark_in(rt, file.as_str()) {
+        Ok(mark) => mark,
+        Err(what) => return Ok(refuse(&[Escaped(file.as_str()), Text(what)], err)),
+    };
+    let query = Query::New(filters, mark);
+    let Some(outcome) = outcome_of(rt, &query, source, records, settings, err)? else {
+        return Ok(USAGE);
+    };
+    match outcome.mark {
+        Some(next) if mark != Some(next) => {
+            let text = next.text(rt.alloc())?;
+            Ok(save(rt, text.as_slice(), file, outcome.status, err))
+        }
+        _ => Ok(outcome.status),
+    }
 }
 
 /// Checks the sensors, and always prints a verdict: what another command would report is the reason of UNKNOWN. Returns the exit status.

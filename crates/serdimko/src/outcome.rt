@@ -1,8 +1,9 @@
 //! How runs ended: what the exit status is, and what may follow.
 ghost use Rattle.std.specs.Prelude.{◌≡◌};
-ghost use Rattle.serdimko.specs.RunError.{and, outcome_of, outcome_of_verdict};
+ghost use Rattle.serdimko.specs.RunError.{and, marked, outcome_of, outcome_of_verdict};
 
 use crate::run_error::RunError;
+use ipmi_commands::Mark;
 use ipmi_output::Failure;
 
 /// How one or several runs ended.
@@ -16,6 +17,8 @@ pub(crate) struct Outcome {
     pub(crate) lacks_name: bool,
     /// Whether the verdict of a check was printed.
     pub(crate) has_verdict: bool,
+    /// Where the next run goes on in the event log, if all new entries were printed.
+    pub(crate) mark: Option<Mark>,
 }
 
 impl Outcome {
@@ -31,6 +34,7 @@ impl Outcome {
             is_output_open: RunError::is_output_open(error),
             lacks_name: matches!(error, Some(RunError::Failed(Failure::NoName(_)))),
             has_verdict: false,
+            mark: None,
         }
     }
 
@@ -43,6 +47,20 @@ impl Outcome {
             is_output_open: true,
             lacks_name: false,
             has_verdict: true,
+            mark: None,
+        }
+    }
+
+    /// The same of a run that left this mark, or none.
+    pub(crate) fn marked(self, mark: Option<Mark>) -> Outcome
+        ensures { result ≡ marked mark self }
+    {
+        Outcome {
+            status: self.status,
+            is_output_open: self.is_output_open,
+            lacks_name: self.lacks_name,
+            has_verdict: self.has_verdict,
+            mark,
         }
     }
 
@@ -55,6 +73,7 @@ impl Outcome {
             is_output_open: self.is_output_open && next.is_output_open,
             lacks_name: self.lacks_name || next.lacks_name,
             has_verdict: self.has_verdict || next.has_verdict,
+            mark: self.mark.or(next.mark),
         }
     }
 }

@@ -1,4 +1,4 @@
-use Rattle.std.proofs.Common.{◌∙◌, refl, sym, ap}
+use Rattle.std.proofs.Common.{refl}
 use Rattle.serdimko.specs.Out.{out_of}
 use Rattle.serdimko.proofs.CheckLemmas.{zero_is_fine}
 use Rattle.serdimko.proofs.check.check.Goals as goal

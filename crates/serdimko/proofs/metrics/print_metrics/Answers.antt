@@ -1,4 +1,4 @@
-use Rattle.std.proofs.Common.{◌∙◌, refl}
+use Rattle.std.proofs.Common.{refl}
 use Rattle.serdimko.proofs.metrics.print_metrics.Goals as goal
 
 pub returns : goal.returns
