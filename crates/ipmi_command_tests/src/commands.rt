@@ -25,6 +25,7 @@ mod kept_entries;
 mod long_inventory;
 mod long_listings;
 mod moods;
+mod new_entries;
 mod newest;
 mod objects;
 pub(crate) mod outcome;

@@ -80,6 +80,10 @@ fn action_text(rt: &impl Abort, alloc: Global, action: &Action) -> String {
             let file = file_text(output.as_ref());
             format!(in alloc; "capture {file} {quiet} {partial}").expect(rt, "memory")
         }
+        Action::PrintNew(file) => {
+            let file = file.as_str();
+            format!(in alloc; "new {file}").expect(rt, "memory")
+        }
         Action::Check { has_data: false } => String::from_str(alloc, "check").expect(rt, "memory"),
         Action::Check { has_data: true } => {
             String::from_str(alloc, "check and data").expect(rt, "memory")
@@ -256,6 +260,8 @@ check|check; images; None 5; plain; false
 check,--image,a,--exclude,Fan 1,--type,fan|check type 4 not Fan 1; images a; None 5; plain; false
 --live,ipmitool:x,--records,a,check,--tries,1|check; Ipmitool x a; None 1; plain; false
 help,check|help Check; images; None 5; plain; false
+sel,list,--cursor-file,f|new f; images; None 5; plain; false
+sel,elist,--cursor-file,f,--image,a|new f; images a; None 5; words; false
 check,--perfdata|check and data; images; None 5; plain; false
 metrics|metrics false -; images; None 5; plain; false
 --live,ipmitool:x,metrics,-o,a.prom,--openmetrics,--type,fan|metrics true a.prom type 4; Ipmitool x ; None 5; plain; false
@@ -289,6 +295,12 @@ sdr,list,--type,256|'256' is not a sensor type, which is a name or a number from
 sdr,type,Power,Supply|unexpected word 'Supply' with 'sdr type': quote a name that has spaces
 sdr,type,--json|--json does not go with 'sdr type'
 sel,list,--since,2026-12-01,--until,2026-11-01|--since is later than --until
+sel,list,3,--cursor-file,f|--cursor-file goes with one whole log: not with a number of entries, --from or several images
+sel,elist,last,3,--cursor-file,f|--cursor-file goes with one whole log: not with a number of entries, --from or several images
+sel,list,--from,0002,--cursor-file,f|--cursor-file goes with one whole log: not with a number of entries, --from or several images
+sel,list,--cursor-file,f,--image,a,--image,b|--cursor-file goes with one whole log: not with a number of entries, --from or several images
+sel,tail,3,--cursor-file,f|--cursor-file does not go with 'sel tail'
+check,--cursor-file,f|--cursor-file does not go with 'check'
 sdr,type,Fan,--type,Fan|--type does not go with 'sdr type'
 sdr,entity|'sdr entity' needs an entity: ID or ID.INSTANCE, 0 to 255 and 0 to 127
 sdr,entity,3.128|'3.128' is not an entity: ID or ID.INSTANCE, 0 to 255 and 0 to 127
