@@ -130,13 +130,13 @@ while IFS= read -r words; do
   fi
 done <<< "$printed"
 
-names=$(grep -oE -- '(^|, )--?[A-Za-z]+' <<< "$options" | sed 's/^, //')
+names=$(grep -oE -- '(^|, )--?[A-Za-z]+(-[a-z]+)*' <<< "$options" | sed 's/^, //')
 long_names=$(grep '^--' <<< "$names")
 for completion in completions/serdimko.bash completions/_serdimko; do
   same "the words of $completion" "$follows" "$(table_of_words "$completion")"
-  same "the options of $completion" "$long_names" "$(grep -v '^ *#' "$completion" | grep -oE -- '--[a-z]+')"
+  same "the options of $completion" "$long_names" "$(grep -v '^ *#' "$completion" | grep -oE -- '--[a-z]+(-[a-z]+)*')"
 done
-same 'the options for zsh' "$names" "$(sed -nE "s/^ *'(--?[A-Za-z]+):.*/\1/p" completions/_serdimko)"
+same 'the options for zsh' "$names" "$(sed -nE "s/^ *'(--?[A-Za-z-]+):.*/\1/p" completions/_serdimko)"
 if command -v zsh > /dev/null && ! zsh -n completions/_serdimko; then failed=1; fi
 
 # Prints the offers of the completion for bash at the last of the words, or `files` if it leaves the word to bash's file names.
