@@ -1,5 +1,6 @@
 -- The entries of the event log that a run finds after those of the runs before it.
 use Rattle.std.specs.Prelude.{◌≡◌, ◌≢◌, ℕ, ◌==◌, ◌&&◌, not, Bool, true, false, bytes_eq, IsTrue, None, Option, Some, IsSome, IfOk, MatchBool, MatchOption, Result, Ok, Err, List, [], ◌∷◌, length}
+use Rattle.ipmi_records.specs.Info.{info_in}
 use Rattle.ipmi_commands.specs.Below.{Done, Ending, Failure, First, Id, info_of, Missing, OnGrowing, Place, records_in, Row, Seen, Sel, StaysHonest}
 use Rattle.ipmi_commands.specs.declared.kept.KeptEntry.{KeptEntry}
 use Rattle.ipmi_commands.specs.declared.kept.LastEntries.{LastEntries}
@@ -75,12 +76,17 @@ entry_before _ mark = None
 
 -- ---- a run
 
--- both are there, and they are the same
+-- the info says when an entry was last added; FFFFFFFFh is no time
+abbrev pub has_addition : List ℕ → Bool
+has_addition info = not ((info_in info).last_addition == 0xffff_ffff)
+
+-- Both are there, they are the same, and they say when an entry was last added. Without a time, an entry that overwrites another might
+-- leave the info as it is.
 abbrev pub are_same : Option (List ℕ) → Option (List ℕ) → Bool
-are_same (Some old) (Some info) = bytes_eq old info
+are_same (Some old) (Some info) = bytes_eq old info && has_addition info
 are_same old info = false
 
--- whether nothing but the info needs to be read: it is there, and it is that of the mark
+-- whether nothing but the info needs to be read: it is there, has a time, and is that of the mark
 abbrev pub is_unchanged : Option Mark → Option (List ℕ) → Bool
 is_unchanged (Some mark) info = are_same mark.info info
 is_unchanged None info = false

@@ -4,7 +4,7 @@ ghost use Rattle.std.specs.Option.{option_or};
 ghost use Rattle.ipmi_commands.specs.Below.{AsksAtMost, info_of, IsHonest, records_in, Sel, start_of, write_faults};
 ghost use Rattle.ipmi_commands.specs.declared.job.Form.{Form};
 ghost use Rattle.ipmi_commands.specs.Kept.{last_entry, PrintsKept};
-ghost use Rattle.ipmi_commands.specs.Since.{are_same, entry_before, FindsAfter, FindsAll, FindsNew, FindsSince, FindsWhole, is_unchanged, PrintsNew, reads_names, ReadsThenPrints};
+ghost use Rattle.ipmi_commands.specs.Since.{are_same, entry_before, FindsAfter, FindsAll, FindsNew, FindsSince, FindsWhole, has_addition, is_unchanged, PrintsNew, reads_names, ReadsThenPrints};
 ghost use Rattle.ipmi_commands.specs.Prelude.{AtRecord, change, ending_of, EndsListing, EndsPrinting, Finds, IsFrom, LacksValue, most_on_tail, most_on_walk, named_entries, printed};
 
 use crate::format::Format;
@@ -18,6 +18,7 @@ use crate::summary::Summary;
 use ipmi_bus::{Controller, Ended, FIRST_RECORD_ID, INFO_LEN, NO_NEXT_ID, Shelf, read_info};
 use ipmi_events::Sensors;
 use ipmi_output::{Failure, Sink, Written};
+use ipmi_records::Info;
 use ipmi_selection::{Detail, EntrySelection};
 use std::alloc::Global;
 
@@ -59,17 +60,24 @@ fn log_info<C: Controller>(ctl: &mut C, tries: Tries) -> Result<Option<[u8; INFO
     Ok(read_info(ctl, Shelf::Sel, tries.count)?)
 }
 
-/// Whether both are there, and are the same.
+/// Whether an info says when an entry was last added.
+fn has_addition(info: &[u8; INFO_LEN]) -> bool
+    ensures { result ≡ has_addition info.now }
+{
+    Info::read(info).last_addition != u32::MAX
+}
+
+/// Whether both are there, are the same, and say when an entry was last added.
 fn are_same(old: Option<[u8; INFO_LEN]>, info: Option<[u8; INFO_LEN]>) -> bool
     ensures { result ≡ are_same old info }
 {
     match (old, info) {
-        (Some(old), Some(info)) => old == info,
+        (Some(old), Some(info)) => old == info && has_addition(&info),
         _ => false,
     }
 }
 
-/// Whether nothing but the info needs to be read: it is there, and it is that of the mark.
+/// Whether nothing but the info needs to be read: it is there, has a time, and is that of the mark.
 fn is_unchanged(mark: Option<Mark>, info: Option<[u8; INFO_LEN]>) -> bool
     ensures { result ≡ is_unchanged mark info }
 {

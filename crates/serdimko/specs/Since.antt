@@ -1,10 +1,11 @@
 -- What a run prints of the entries that earlier runs did not print, and which mark it leaves.
-use Rattle.std.specs.Prelude.{◌≡◌, ℕ, Bool, true, false, codes, if◌then◌else◌, List, [], Option, Some, None, Result, Ok, Err, String}
+use Rattle.std.specs.Prelude.{◌≡◌, ℕ, Bool, true, false, codes, if◌then◌else◌, IfOk, List, [], Option, Some, None, Result, Ok, Err, String}
 use Rattle.std.specs.declared.alloc.AllocError.{AllocError}
 use Rattle.std.specs.declared.alloc.Global.{Global}
 use Rattle.ipmi_bus.specs.Seen.{AsksAtMost, IsHonest}
 use Rattle.ipmi_command_line.specs.declared.filters.Filters.{Filters}
 use Rattle.ipmi_commands.specs.Prelude.{change}
+use Rattle.ipmi_commands.specs.EachOnce.{LeavesMark}
 use Rattle.ipmi_commands.specs.Since.{FindsNew, PrintsNew}
 use Rattle.ipmi_commands.specs.declared.limits.RequestLimits.{RequestLimits}
 use Rattle.ipmi_commands.specs.declared.mark.Mark.{Mark}
@@ -76,5 +77,6 @@ pub record PrintsSince (limits : RequestLimits) (filters : Filters) (mark : Opti
   pub middle : State
   pub asked : AsksAtMost limits.part old.seen middle.seen
   pub finds : IsHonest old.seen → FindsNew mark limits.tries old.seen middle.seen found
+  pub leaves : IfOk found (λ new. LeavesMark mark new)
   pub out_is : middle.out ≡ old.out
   pub prints : PrintsFound limits filters report middle now said said' result found

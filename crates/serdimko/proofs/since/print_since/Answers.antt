@@ -7,6 +7,7 @@ returns-in-Ok g c = record {
   middle = _;
   asked = c.in-Ok.ensures.asked;
   finds = c.in-Ok.ensures.honest;
+  leaves = c.in-Ok.ensures.mark;
   out_is = refl;
   prints = (
     c.run_entries-last.result,
