@@ -13,7 +13,7 @@ built_of = $(shell scripts/rests_on $1 | sed 's/[: ].*//' | while read -r crate;
     find "crates/$$crate" \( -name out -o -name must-fail \) -prune -o \( -name '*.rt' -o -name '*.antt' \) -print; done) \
   $(shell cd crates/$1/out 2> /dev/null && ! [ $1 -nt $1.crates ] && ../../../scripts/rests_on $1 | cmp -s - $1.crates || echo crates.txt)
 
-.PHONY: demo try test memory turns bench live-test monitor-test database-test build install uninstall package package-test
+.PHONY: demo try test memory turns bench live-test monitor-test shipping-test database-test build install uninstall package package-test
 
 # Runs the program on the image of a server (its sensors, one sensor in full, events and inventories), and on three records in
 # hex.
@@ -57,6 +57,11 @@ live-test: $(PROGRAM)
 # freeipmi-tools, ipmitool and openipmi.
 monitor-test: $(PROGRAM)
 	@scripts/monitor_test $(PROGRAM)
+
+# Runs the commands of docs/shipping.md and of its unit, with a journald and an rsyslogd of its own. Takes half a minute, and skips what is
+# not installed: Debian's jq, systemd, bsdutils and rsyslog.
+shipping-test: $(PROGRAM)
+	@scripts/shipping_test $(PROGRAM)
 
 # Runs the blocks of docs/databases.md, with SQLite and PostgreSQL. Needs Debian's jq, sqlite3 and postgresql.
 database-test: $(PROGRAM)
