@@ -1,6 +1,7 @@
 #!/usr/bin/env bash
-# Tests that a check is never OK and never a WARNING over a machine with a critical sensor, whatever goes wrong: tests/live/checks.py plays
-# the machine, in each dialect, and refuses, cancels, leaves without an answer or cuts each request in turn, every second one, and those
+# Tests that a check is not OK and no WARNING over a machine with a critical sensor when requests fail. One failure is left out: a
+# reading refused with CBh, CCh, CDh or D5h, by which a controller says that there is none. Then the line must count the sensor, and the
+# check may be OK. The seeds draw none of these codes for that reading. tests/live/checks.py plays the machine, in each dialect, and refuses, cancels, leaves without an answer or cuts each request in turn, every second one, and those
 # of 1,000 seeds. The check is CRITICAL if the whole reading of that sensor was sent, and otherwise UNKNOWN. Takes half a minute.
 # `tests/check.sh PROGRAM` tests that program. Without an argument, the one of this repository is built first.
 set -uo pipefail
